@@ -1,0 +1,33 @@
+-- How large a value can be: the largest final value, and the largest cash for each decision to come. Assumes nothing.
+use mathlib.Core.Path.{_≡_, sym}
+use Prim.Native.Nat.{ℕ, zero, suc, _+_, _-_, _*_, _≤_, _<_}
+use native.Mathlib.Nat.{le-trans, le-of-eq, add-le-add, le-refl}
+use native.Mathlib.Omega.{arith}
+use lib.Dec.{T}
+use Rattle.decision.specs.Choice.{smallestBest, best-is}
+use Rattle.decision.specs.Process.{Process, Rule, worth, valueOver, left, value, startValue, Open, Closed}
+
+module _ {S H : Type 0} (P : Process S H) (r : Rule S) (o : Open P r) (InRange : S → Type 0) (c : Closed P r InRange) (B C : ℕ)
+    (ends : (s : S) → InRange s → P .final s ≤ B)
+    (pays : (i : ℕ) (s : S) (t : ℕ) → InRange s → T (r s t) → P .cash i s t ≤ C)
+    (averages : (i : ℕ) (h : H) (v : ℕ → ℕ) (x : ℕ) → ((k : ℕ) → k < P .returns → v k ≤ x) → P .expect i h v ≤ x)
+  where
+    over-bounded : (n i : ℕ) (s : S) → InRange s → valueOver P r n i s ≤ B + n * C
+    unfolding valueOver worth
+    over-bounded zero i s g = le-trans (ends s g) (omega arith)
+    over-bounded (suc n) i s g =
+        let v : S → ℕ = λ x. valueOver P r n (suc i) x in
+        let x = best-is (r s) (worth P v i s) (P .limit s) (o .some s) (o .within s _ (o .admissible s)) (o .admissible s) in
+        let t = smallestBest (r s) (worth P v i s) (P .limit s) in
+        le-trans (le-of-eq (sym (x .worth)))
+        (le-trans
+        (add-le-add (pays i s t g (x .passes)) (averages i _ _ (B + n * C) (λ k l. over-bounded n (suc i) _ (c .stays i s t k g (x .passes) l))))
+        (omega arith))
+
+    pub value-bounded : (i : ℕ) (s : S) → InRange s → value P r i s ≤ B + (P .dates - i) * C
+    unfolding value
+    value-bounded i s g = over-bounded (left P i) i s g
+
+    pub start-bounded : startValue P r ≤ B + (P .dates - 1) * C
+    unfolding startValue
+    start-bounded = averages 0 _ _ _ (λ k l. value-bounded 1 _ (c .starts k l))

@@ -1,0 +1,116 @@
+-- Functions of an index: their sum, their list, and the first index that passes a test. Assumes nothing.
+use mathlib.Core.Bool.{Bool, true, false}
+use mathlib.Core.List.{List, [], _∷_, _++_}
+use mathlib.Core.Path.{_≡_, refl, ap, subst}
+use Prim.Native.Nat.{ℕ, zero, suc, _+_, _*_, _≤_, _<_}
+use native.Mathlib.Nat.{le-refl, add-le-add}
+use native.Mathlib.Decide.{decLe}
+use native.Mathlib.Omega.{arith}
+use lib.Dec.{T}
+use lib.ListN.{getD, length}
+
+-- f 0 + f 1 + .. + f (n - 1)
+unfoldable pub sum : (ℕ → ℕ) → ℕ → ℕ
+sum f zero = 0
+sum f (suc n) = sum f n + f n
+
+-- f 0, f 1, .. f (n - 1)
+unfoldable pub tabulate : ℕ → (ℕ → ℕ) → List ℕ
+tabulate zero f = []
+tabulate (suc n) f = f 0 ∷ tabulate n (λ k. f (suc k))
+
+-- the first of the n indexes from i on that passes the test; i + n where none does
+unfoldable pub firstFrom : (ℕ → Bool) → ℕ → ℕ → ℕ
+firstFrom test zero i = i
+firstFrom test (suc n) i = elim (test i) [ true ↦ i | false ↦ firstFrom test n (suc i) ]
+
+-- the first index below n that passes the test; n where none does
+unfoldable pub first : (ℕ → Bool) → ℕ → ℕ
+first test n = firstFrom test n 0
+
+-- ---- sums
+pub sum-le : (f g : ℕ → ℕ) (n : ℕ) → ((k : ℕ) → k < n → f k ≤ g k) → sum f n ≤ sum g n
+unfolding sum
+sum-le f g zero h = le-refl 0
+sum-le f g (suc n) h = add-le-add (sum-le f g n (λ k l. h k (omega arith))) (h n (le-refl (suc n)))
+
+pub sum-eq : (f g : ℕ → ℕ) (n : ℕ) → ((k : ℕ) → k < n → f k ≡ g k) → sum f n ≡ sum g n
+unfolding sum
+sum-eq f g zero h = refl
+sum-eq f g (suc n) h =
+    let e = sum-eq f g n (λ k l. h k (omega arith)) in
+    let x = h n (le-refl (suc n)) in
+    omega arith
+
+pub sum-times : (f : ℕ → ℕ) (c n : ℕ) → sum (λ k. f k * c) n ≡ sum f n * c
+unfolding sum
+sum-times f c zero = omega arith
+sum-times f c (suc n) = let e = sum-times f c n in omega arith
+
+-- ---- lists
+pub length-tabulate : (n : ℕ) (f : ℕ → ℕ) → length (tabulate n f) ≡ n
+unfolding tabulate
+length-tabulate zero f = refl
+length-tabulate (suc n) f = ap suc (length-tabulate n (λ k. f (suc k)))
+
+-- with anything behind
+pub getD-tabulate : (n e : ℕ) (f : ℕ → ℕ) (rest : List ℕ) → e < n → getD (tabulate n f ++ rest) e 0 ≡ f e
+unfolding tabulate
+getD-tabulate zero e f rest l = absurd (omega arith)
+getD-tabulate (suc n) zero f rest l = refl
+getD-tabulate (suc n) (suc e) f rest l = getD-tabulate n e (λ k. f (suc k)) rest (omega arith)
+
+-- ---- the first index
+-- what makes r the first of the indexes from i to j that passes, or j
+pub record FirstFrom (test : ℕ → Bool) (i j r : ℕ) : Type 0 where
+  pub from : i ≤ r
+  pub within : r ≤ j
+  pub passes : r < j → T (test r)
+  pub none : (k : ℕ) → i ≤ k → k < r → T (test k) → ⊥
+
+abbrev pub First : (ℕ → Bool) → ℕ → ℕ → Type 0
+First test n r = FirstFrom test 0 n r
+
+firstFrom-is : (test : ℕ → Bool) (n i : ℕ) → FirstFrom test i (i + n) (firstFrom test n i)
+unfolding firstFrom
+firstFrom-is test zero i = record {
+  from = le-refl i;
+  within = omega arith;
+  passes = λ l. absurd (omega arith);
+  none = λ k l m t. omega arith;
+}
+firstFrom-is test (suc n) i = go (test i) (λ t. t) (λ t. t) (firstFrom-is test n (suc i))
+  where
+    go : (b : Bool) → (T b → T (test i)) → (T (test i) → T b) → FirstFrom test (suc i) (suc i + n) (firstFrom test n (suc i))
+        → FirstFrom test i (i + suc n) (elim b [ true ↦ i | false ↦ firstFrom test n (suc i) ])
+    go true p q h = record { from = le-refl i; within = omega arith; passes = λ l. p tt; none = λ k l m t. omega arith }
+    go false p q h = record {
+      from = omega (arith, h .from);
+      within = omega (arith, h .within);
+      passes = λ l. h .passes (omega arith);
+      none = λ k l m t. after k l m t (decLe (suc i) k);
+    }
+      where
+        after : (k : ℕ) → i ≤ k → k < firstFrom test n (suc i) → T (test k) → Dec (suc i ≤ k) → ⊥
+        after k l m t (yes x) = h .none k x m t
+        after k l m t (no x) = let e : k ≡ i = omega arith in q (subst (λ (j : ℕ). T (test j)) e t)
+
+pub first-is : (test : ℕ → Bool) (n : ℕ) → First test n (first test n)
+unfolding first
+first-is test n = subst (λ (j : ℕ). FirstFrom test 0 j (firstFrom test n 0)) (omega arith) (firstFrom-is test n 0)
+
+pub first-unique : {test : ℕ → Bool} {n r s : ℕ} → First test n r → First test n s → r ≡ s
+first-unique {test} {n} {r} {s} x y = go (decLe r s) (decLe s r)
+  where
+    go : Dec (r ≤ s) → Dec (s ≤ r) → r ≡ s
+    go (yes l) (yes m) = omega arith
+    go (yes l) (no m) = let k : r < s = omega arith in absurd (y .none r (omega arith) k (x .passes (omega (arith, y .within))))
+    go (no l) m = let k : s < r = omega arith in absurd (x .none s (omega arith) k (y .passes (omega (arith, x .within))))
+
+-- an index that is first by what is known of it
+pub is-first : {test : ℕ → Bool} {n r : ℕ} → First test n r → first test n ≡ r
+is-first {test} {n} x = first-unique (first-is test n) x
+
+-- nothing that passes comes before it
+pub first-least : {test : ℕ → Bool} {n r : ℕ} → First test n r → (u : ℕ) → T (test u) → r ≤ u
+first-least {test} {n} {r} x u t = elim (decLe r u) [ yes l ↦ l | no l ↦ absurd (x .none u (omega arith) (omega arith) t) ]

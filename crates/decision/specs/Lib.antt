@@ -1,0 +1,7 @@
+-- Decisions over a finite number of dates, with no word of annuities.
+pub mod Index
+pub mod Choice
+pub mod Process
+pub mod Optimal
+pub mod Layers
+pub mod Bounds

@@ -1,0 +1,1 @@
+// Theory only: the definitions and theorems are in specs/.

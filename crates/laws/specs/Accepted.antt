@@ -1,0 +1,155 @@
+-- What holds of terms and returns that no condition turns away. Assumes nothing.
+use mathlib.Core.Bool.{Bool, true, false, cond, not, _||_}
+use mathlib.Core.List.{List, [], _∷_, _++_, map}
+use mathlib.Core.Path.{_≡_, refl, sym}
+use Prim.Native.Nat.{ℕ, zero, suc, _+_, _*_, _/_, _%_, _≤_, _<_}
+use native.Mathlib.Nat.{le-refl}
+use native.Mathlib.Omega.{arith}
+use lib.Dec.{T, leb, ltb, eqb, eqb→eq, nltb→le, not-T}
+use lib.ListN.{length}
+use Rattle.decision.specs.Index.{sum, first, first-is}
+use Rattle.rules.specs.Contract.{Terms, Returns, recordBytes, termsOf, topMost, datesMost, rateMost, discountMost, returnBytes, returnsOf, returnsMost, factorMost, weightMost, weightTotal}
+use Rattle.rules.specs.Refusals.{Check, check, checkEach, Verdict, accepted, refused, verdict, numbers, numberOf, outside, recordChecks, badReturn, listChecks}
+
+-- the column of ranges, and refusals 2 to 6, for accepted terms
+pub record Valid (c : Terms) : Type 0 where
+  pub top : c .top ≤ topMost
+  pub premium-least : 1 ≤ c .premium
+  pub premium : c .premium ≤ c .top
+  pub level-least : 1 ≤ c .level
+  pub level : c .level ≤ c .premium
+  pub dates-least : 1 ≤ c .dates
+  pub dates : c .dates ≤ datesMost
+  pub fee : c .fee ≤ rateMost
+  pub penalty : c .penalty ≤ rateMost
+  pub discount-least : 1 ≤ c .discount
+  pub discount : c .discount ≤ discountMost
+
+-- refusals 7 to 9, for accepted returns
+pub record ValidReturns (rs : Returns) : Type 0 where
+  pub count-least : 1 ≤ rs .count
+  pub count : rs .count ≤ returnsMost
+  pub factor : (k : ℕ) → k < rs .count → rs .factor k ≤ factorMost
+  pub weight-least : (k : ℕ) → k < rs .count → 1 ≤ rs .weight k
+  pub weight : (k : ℕ) → k < rs .count → rs .weight k ≤ weightMost
+  pub total : sum (rs .weight) (rs .count) ≡ weightTotal
+
+-- every check passes
+unfoldable pub AllPass : List Check → Type 0
+AllPass [] = Unit {0}
+AllPass (k ∷ ks) = T (not (k .failed)) × AllPass ks
+
+pub all-pass : (ks : List Check) → verdict ks ≡ accepted → AllPass ks
+unfolding verdict AllPass
+all-pass [] e = tt
+all-pass (k ∷ ks) e = go (k .failed) e (all-pass ks)
+  where
+    go : (b : Bool) → cond b (refused (k .number) (k .place)) (verdict ks) ≡ accepted → (verdict ks ≡ accepted → AllPass ks)
+        → T (not b) × AllPass ks
+    go true e f = let z : _≡_ {A = ℕ} 0 1 = cc in absurd (omega arith)
+    go false e f = (tt, f e)
+
+-- no refusal has number 0, so number 0 is success
+unfoldable pub Positive : List ℕ → Type 0
+Positive [] = Unit {0}
+Positive (n ∷ ns) = (1 ≤ n) × Positive ns
+
+pub zero-accepts : (ks : List Check) → Positive (numbers ks) → numberOf (verdict ks) ≡ 0 → verdict ks ≡ accepted
+unfolding numbers Positive verdict numberOf
+zero-accepts [] p e = refl
+zero-accepts (k ∷ ks) (l, p) e = go (k .failed) (zero-accepts ks p) e
+  where
+    go : (b : Bool) → (numberOf (verdict ks) ≡ 0 → verdict ks ≡ accepted)
+        → numberOf (cond b (refused (k .number) (k .place)) (verdict ks)) ≡ 0
+        → cond b (refused (k .number) (k .place)) (verdict ks) ≡ accepted
+    go true later x = absurd (omega arith)
+    go false later x = later x
+
+pub pass-left : (ks ls : List Check) → AllPass (ks ++ ls) → AllPass ks
+unfolding AllPass
+pass-left [] ls p = tt
+pass-left (k ∷ ks) ls (t, p) = (t, pass-left ks ls p)
+
+pub pass-right : (ks ls : List Check) → AllPass (ks ++ ls) → AllPass ls
+unfolding AllPass
+pass-right [] ls p = p
+pass-right (k ∷ ks) ls (t, p) = pass-right ks ls p
+
+-- neither of two conditions holds
+nor-left : (a b : Bool) → T (not (a || b)) → T (not a)
+nor-left true b t = t
+nor-left false b t = tt
+
+nor-right : (a b : Bool) → T (not (a || b)) → T (not b)
+nor-right true b t = absurd t
+nor-right false b t = t
+
+not-not : (b : Bool) → T (not (not b)) → T b
+not-not true t = tt
+not-not false t = t
+
+at-least : (least most x : ℕ) → T (not (outside least most x)) → least ≤ x
+unfolding outside
+at-least least most x t = nltb→le x least (nor-left (ltb x least) (ltb most x) t)
+
+at-most : (least most x : ℕ) → T (not (outside least most x)) → x ≤ most
+unfolding outside
+at-most least most x t = nltb→le most x (nor-right (ltb x least) (ltb most x) t)
+
+-- where no thing is bad, each is good
+each-passes : (number from n : ℕ) (bad : ℕ → Bool) → T (not (checkEach number from bad n .failed)) → (k : ℕ) → k < n → T (not (bad k))
+unfolding checkEach
+each-passes number from n bad t k l =
+    let x = first-is bad n in
+    let m = nltb→le (first bad n) n t in
+    not-T (bad k) (λ q. x .none k (omega arith) (omega arith) q)
+
+pub valid-terms : (bytes : List ℕ) → AllPass (recordChecks bytes) → Valid (termsOf bytes)
+unfolding recordChecks AllPass
+valid-terms bytes (sixteen, (top-premium, (level, (dates, (rates, (discount, done)))))) =
+    let c = termsOf bytes in
+    record {
+      top = nltb→le topMost (c .top) (nor-left (ltb topMost (c .top)) (outside 1 (c .top) (c .premium)) top-premium);
+      premium-least = at-least 1 (c .top) (c .premium) (nor-right (ltb topMost (c .top)) (outside 1 (c .top) (c .premium)) top-premium);
+      premium = at-most 1 (c .top) (c .premium) (nor-right (ltb topMost (c .top)) (outside 1 (c .top) (c .premium)) top-premium);
+      level-least = at-least 1 (c .premium) (c .level) level;
+      level = at-most 1 (c .premium) (c .level) level;
+      dates-least = at-least 1 datesMost (c .dates) dates;
+      dates = at-most 1 datesMost (c .dates) dates;
+      fee = nltb→le rateMost (c .fee) (nor-left (ltb rateMost (c .fee)) (ltb rateMost (c .penalty)) rates);
+      penalty = nltb→le rateMost (c .penalty) (nor-right (ltb rateMost (c .fee)) (ltb rateMost (c .penalty)) rates);
+      discount-least = at-least 1 discountMost (c .discount) discount;
+      discount = at-most 1 discountMost (c .discount) discount;
+    }
+
+-- a list of 4 to 256 bytes in fours holds 1 to 64 records
+count-least : (n : ℕ) → 1 ≤ n → n % 4 ≡ 0 → 1 ≤ n / 4
+count-least n l e = omega arith
+
+count-most : (n : ℕ) → n ≤ 256 → n / 4 ≤ 64
+count-most n l = omega arith
+
+good-factor : (rs : Returns) (k : ℕ) → T (not (badReturn rs k)) → rs .factor k ≤ factorMost
+unfolding badReturn
+good-factor rs k t = nltb→le factorMost (rs .factor k) (nor-left (ltb factorMost (rs .factor k)) (outside 1 weightMost (rs .weight k)) t)
+
+good-weight : (rs : Returns) (k : ℕ) → T (not (badReturn rs k)) → T (not (outside 1 weightMost (rs .weight k)))
+unfolding badReturn
+good-weight rs k t = nor-right (ltb factorMost (rs .factor k)) (outside 1 weightMost (rs .weight k)) t
+
+pub valid-returns : (bytes : List ℕ) → AllPass (listChecks bytes) → ValidReturns (returnsOf bytes)
+unfolding listChecks AllPass returnsOf
+valid-returns bytes (size, (each, (total, done))) =
+    let n = length bytes in
+    let rs = returnsOf bytes in
+    let long = nor-left (outside 1 (returnBytes * returnsMost) n) (not (eqb (n % returnBytes) 0)) size in
+    let fours = not-not (eqb (n % returnBytes) 0) (nor-right (outside 1 (returnBytes * returnsMost) n) (not (eqb (n % returnBytes) 0)) size) in
+    let good = each-passes 8 0 (rs .count) (badReturn rs) each in
+    record {
+      count-least = count-least n (at-least 1 (returnBytes * returnsMost) n long) (eqb→eq (n % returnBytes) 0 fours);
+      count = count-most n (at-most 1 (returnBytes * returnsMost) n long);
+      factor = λ k l. good-factor rs k (good k l);
+      weight-least = λ k l. at-least 1 weightMost (rs .weight k) (good-weight rs k (good k l));
+      weight = λ k l. at-most 1 weightMost (rs .weight k) (good-weight rs k (good k l));
+      total = eqb→eq (sum (rs .weight) (rs .count)) weightTotal (not-not (eqb (sum (rs .weight) (rs .count)) weightTotal) total);
+    }

@@ -1,0 +1,91 @@
+-- Values, cash, amounts and accounts of an accepted contract fit the widths of the slices. Assumes nothing.
+use mathlib.Core.Path.{_≡_, ap, _∙_}
+use Prim.Native.Nat.{ℕ, suc, _+_, _-_, _*_, _/_, _^_, _≤_, _<_, min, max}
+use native.Mathlib.Nat.{le-trans, le-refl, le-of-eq, mul-le-mul, mul-le-mul-left, div-le-of-le-mul, sub-le, max-le, min-le-left, min-le-right}
+use native.Mathlib.Omega.{arith}
+use lib.Dec.{T}
+use Rattle.decision.specs.Index.{sum, sum-le, sum-times}
+use Rattle.decision.specs.Process.{Process, Open, Closed}
+use Rattle.decision.specs.Optimal.{recorded-best}
+use Rattle.decision.specs.Bounds.{value-bounded, start-bounded}
+use Rattle.rules.specs.Contract.{Terms, Returns, topMost, datesMost, discountMost, weightTotal}
+use Rattle.rules.specs.Date.{Behaviour, freeAmount, largestAmount, penalty, cash, nextAccount, maturityValue, discounted}
+use Rattle.rules.specs.Product.{stateValue, recordedAmount, contractValue}
+use Rattle.rules.specs.FixedTerm.{State, Held, InRange, freeIn, admissibleIn, limitIn, cashIn, reachBy, expectOver, processOf, fixedTerm}
+use Rattle.laws.specs.Accepted.{Valid, ValidReturns}
+use Rattle.laws.specs.Date.{admits-within}
+use Rattle.laws.specs.FixedTerm.{opened, closed}
+
+-- a discounted average is at most the largest value reached
+pub discounted-average : (d s x : ℕ) → d ≤ discountMost → s ≤ weightTotal * x → discounted d s ≤ x
+unfolding discounted
+discounted-average d s x h l = div-le-of-le-mul 10000000000 (le-trans (mul-le-mul h l) (omega arith))
+
+-- a withdrawal pays at most 10,000 × the amount
+pub cash-le : (rate m t : ℕ) → cash rate m t ≤ 10000 * t
+unfolding cash
+cash-le rate m t = sub-le _ _
+
+module _ (c : Terms) (rs : Returns) (v : Valid c) (u : ValidReturns rs) where
+  -- admissible amounts are at most top
+  pub amount-le : (b : Behaviour) (s : State) (t : ℕ) → InRange c s → T (admissibleIn c b s t) → t ≤ c .top
+  unfolding admissibleIn freeIn freeAmount
+  amount-le b s t g p =
+      le-trans (admits-within b _ _ t p) (max-le (g .account) (le-trans (min-le-right _ _) (le-trans (g .guarantee) (v .premium))))
+
+  ends : (s : State) → InRange c s → processOf c rs .final s ≤ 10000 * c .top
+  unfolding processOf maturityValue
+  ends s g = mul-le-mul-left 10000 (max-le (g .account) (le-trans (g .guarantee) (v .premium)))
+
+  pays : (b : Behaviour) (i : ℕ) (s : State) (t : ℕ) → InRange c s → T (admissibleIn c b s t) → processOf c rs .cash i s t ≤ 10000 * c .top
+  unfolding processOf cashIn
+  pays b i s t g p = le-trans (cash-le _ _ t) (mul-le-mul-left 10000 (amount-le b s t g p))
+
+  pub averages : (i : ℕ) (h : Held) (x : ℕ → ℕ) (y : ℕ) → ((k : ℕ) → k < rs .count → x k ≤ y) → expectOver c rs i h x ≤ y
+  unfolding expectOver
+  averages i h x y g =
+      discounted-average (c .discount) _ y (v .discount)
+      (le-trans (sum-le (λ k. rs .weight k * x k) (λ k. rs .weight k * y) (rs .count) (λ k l. mul-le-mul-left (rs .weight k) (g k l)))
+      (le-of-eq (sum-times (rs .weight) y (rs .count) ∙ ap (λ (z : ℕ). z * y) (u .total))))
+
+  -- each decision to come, and maturity, is worth at most 10,000 × top
+  pub state-value-le : (b : Behaviour) (i : ℕ) (s : State) → InRange c s
+      → stateValue (fixedTerm c rs) b i s ≤ 10000 * c .top + (c .dates - i) * (10000 * c .top)
+  unfolding stateValue fixedTerm processOf
+  state-value-le b =
+      value-bounded (processOf c rs) (admissibleIn c b) (opened c rs b) (InRange c) (closed c rs b) (10000 * c .top) (10000 * c .top) ends (pays b) averages
+
+  pub contract-value-le : (b : Behaviour) → contractValue (fixedTerm c rs) b ≤ 10000 * c .top + (c .dates - 1) * (10000 * c .top)
+  unfolding contractValue fixedTerm processOf
+  contract-value-le b =
+      start-bounded (processOf c rs) (admissibleIn c b) (opened c rs b) (InRange c) (closed c rs b) (10000 * c .top) (10000 * c .top) ends (pays b) averages
+
+  -- .. so every value fits 32 bits (and the largest is 1,600,000,000)
+  fits : (n x : ℕ) → n ≤ 39 → x ≤ 10000 * c .top + n * (10000 * c .top) → x < 2 ^ 32
+  fits n x l h =
+      let t : 10000 * c .top ≤ 40000000 = omega (arith, v .top) in
+      let p = mul-le-mul l t in
+      omega arith
+
+  pub state-value-fits : (b : Behaviour) (i : ℕ) (s : State) → 1 ≤ i → InRange c s → stateValue (fixedTerm c rs) b i s < 2 ^ 32
+  state-value-fits b i s l g = fits (c .dates - i) _ (omega (arith, v .dates)) (state-value-le b i s g)
+
+  pub contract-value-fits : (b : Behaviour) → contractValue (fixedTerm c rs) b < 2 ^ 32
+  contract-value-fits b = fits (c .dates - 1) _ (omega (arith, v .dates)) (contract-value-le b)
+
+  -- .. as do cash and penalty; amounts and accounts fit 16
+  pub cash-fits : (b : Behaviour) (i : ℕ) (s : State) (t : ℕ) → InRange c s → T (admissibleIn c b s t) → cashIn c i s t < 2 ^ 32
+  unfolding cashIn
+  cash-fits b i s t g p = let l = cash-le (c .penalty) (freeIn c s) t in let m = amount-le b s t g p in omega (arith, v .top)
+
+  pub amount-fits : (b : Behaviour) (s : State) (t : ℕ) → InRange c s → T (admissibleIn c b s t) → t < 2 ^ 16
+  amount-fits b s t g p = let l = amount-le b s t g p in omega (arith, v .top)
+
+  pub recorded-fits : (b : Behaviour) (i : ℕ) (s : State) → i < c .dates → InRange c s → recordedAmount (fixedTerm c rs) b i s < 2 ^ 16
+  unfolding recordedAmount fixedTerm processOf
+  recorded-fits b i s l g =
+      amount-fits b s _ g (recorded-best (processOf c rs) (admissibleIn c b) (opened c rs b) i s l .passes)
+
+  pub account-fits : (h : Held) (k : ℕ) → reachBy c rs h k .account < 2 ^ 16
+  unfolding reachBy nextAccount
+  account-fits h k = let l = min-le-left (c .top) (h .balance * rs .factor k * (10000 - c .fee) / 100000000) in omega (arith, v .top)

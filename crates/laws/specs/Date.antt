@@ -1,0 +1,83 @@
+-- Laws of one date: the admissible sets, and how the guarantee falls. Assumes nothing.
+use mathlib.Core.Bool.{Bool, true, false, cond, _&&_, _||_}
+use mathlib.Core.Logic.{_⊎_, inl, inr}
+use mathlib.Core.Path.{_≡_, refl}
+use Prim.Native.Nat.{ℕ, _-_, _*_, _/_, _≤_, _<_, min, max}
+use native.Mathlib.Nat.{le-refl, min-le-left}
+use native.Mathlib.Omega.{arith}
+use lib.Dec.{T, leb, ltb, eqb, eqb→eq, eqb-refl, leb→le, le→leb, ltb→lt}
+use Rattle.decision.specs.Choice.{and-left, and-right}
+use Rattle.rules.specs.Date.{Behaviour, static, mixed, dynamic, largestAmount, surrenders, admits, guaranteeAfter}
+
+-- ---- admissible amounts
+or-left : (a b : Bool) → T a → T (a || b)
+or-left true b p = tt
+or-left false b p = absurd p
+
+or-right : (a b : Bool) → T b → T (a || b)
+or-right true b p = tt
+or-right false b p = p
+
+or-elim : (a b : Bool) → T (a || b) → T a ⊎ T b
+or-elim true b p = inl tt
+or-elim false b p = inr p
+
+-- what the mixed set holds
+pub mixed-is : (m w t : ℕ) → T (admits mixed m w t) → (t ≡ m) ⊎ ((m < w) × (t ≡ w))
+unfolding admits surrenders
+mixed-is m w t p = go (or-elim (eqb t m) (ltb m w && eqb t w) p)
+  where
+    go : T (eqb t m) ⊎ T (ltb m w && eqb t w) → (t ≡ m) ⊎ ((m < w) × (t ≡ w))
+    go (inl e) = inl (eqb→eq t m e)
+    go (inr q) = inr (ltb→lt m w (and-left (ltb m w) (eqb t w) q), eqb→eq t w (and-right (ltb m w) (eqb t w) q))
+
+-- what the dynamic set holds
+pub dynamic-is : (m w t : ℕ) → T (admits dynamic m w t) → t ≤ max w m
+unfolding admits largestAmount
+dynamic-is m w t p = leb→le t (max w m) p
+
+pub is-dynamic : (m w t : ℕ) → t ≤ max w m → T (admits dynamic m w t)
+unfolding admits largestAmount
+is-dynamic m w t l = le→leb t (max w m) l
+
+pub static-mixed : (m w t : ℕ) → T (admits static m w t) → T (admits mixed m w t)
+unfolding admits
+static-mixed m w t p = or-left (eqb t m) (surrenders m w t) p
+
+pub mixed-dynamic : (m w t : ℕ) → T (admits mixed m w t) → T (admits dynamic m w t)
+mixed-dynamic m w t p = go (mixed-is m w t p)
+  where
+    go : (t ≡ m) ⊎ ((m < w) × (t ≡ w)) → T (admits dynamic m w t)
+    go (inl e) = is-dynamic m w t (omega arith)
+    go (inr (l, e)) = is-dynamic m w t (omega arith)
+
+-- m is always admissible, and nothing above the larger of W and m
+pub admits-free : (b : Behaviour) (m w : ℕ) → T (admits b m w m)
+unfolding admits
+admits-free static m w = eqb-refl m
+admits-free mixed m w = or-left (eqb m m) (surrenders m w m) (eqb-refl m)
+admits-free dynamic m w = is-dynamic m w m (omega arith)
+
+pub admits-within : (b : Behaviour) (m w t : ℕ) → T (admits b m w t) → t ≤ max w m
+admits-within static m w t p = dynamic-is m w t (mixed-dynamic m w t (static-mixed m w t p))
+admits-within mixed m w t p = dynamic-is m w t (mixed-dynamic m w t p)
+admits-within dynamic m w t p = dynamic-is m w t p
+
+-- ---- movements
+-- up to m the guarantee falls by the amount
+pub guarantee-free : (m w a t : ℕ) → t ≤ m → guaranteeAfter m w a t ≡ a - t
+unfolding guaranteeAfter
+guarantee-free m w a t l = go (leb t m) (le→leb t m l)
+  where
+    go : (b : Bool) → T b → cond b (a - t) (min (a - t) (a * (w - t) / w)) ≡ a - t
+    go true p = refl
+    go false p = absurd p
+
+-- no amount raises it, and an amount lowers it at least by itself
+pub guarantee-le : (m w a t : ℕ) → guaranteeAfter m w a t ≤ a - t
+unfolding guaranteeAfter
+guarantee-le m w a t = go (leb t m)
+  where
+    go : (b : Bool) → cond b (a - t) (min (a - t) (a * (w - t) / w)) ≤ a - t
+    go true = le-refl (a - t)
+    go false = min-le-left (a - t) (a * (w - t) / w)

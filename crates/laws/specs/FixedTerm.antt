@@ -1,0 +1,65 @@
+-- The fixed-term contract is sound: it owes the third demand nothing more. Assumes nothing.
+use mathlib.Core.Path.{_≡_}
+use Prim.Native.Nat.{ℕ, _+_, _*_, _≤_, _<_}
+use native.Mathlib.Nat.{le-refl, le-trans, min-le-left, mul-le-mul-left}
+use native.Mathlib.Omega.{arith}
+use Rattle.decision.specs.Index.{sum-le}
+use Rattle.decision.specs.Process.{Monotone, Open, Closed}
+use Rattle.decision.specs.Layers.{Placed, low-digit, high-digit, two-digits}
+use Rattle.rules.specs.Contract.{Terms, Returns}
+use Rattle.rules.specs.Date.{Behaviour, largestAmount, nextAccount, discounted}
+use Rattle.rules.specs.FixedTerm.{State, InRange, freeIn, admissibleIn, limitIn, afterIn, reachBy, expectOver, startOf, processOf, layerSize, layoutOf, fixedTerm}
+use Rattle.laws.specs.Accepted.{Valid}
+use Rattle.laws.specs.Date.{static-mixed, mixed-dynamic, admits-free, admits-within, guarantee-le}
+use Rattle.laws.specs.Demand.{Sound}
+
+discounted-le : (d x y : ℕ) → x ≤ y → discounted d x ≤ discounted d y
+unfolding discounted
+discounted-le d x y l = let m = mul-le-mul-left d l in omega arith
+
+pub monotone : (c : Terms) (rs : Returns) → Monotone (processOf c rs)
+unfolding processOf expectOver
+monotone c rs i h v w g =
+    discounted-le (c .discount) _ _ (sum-le (λ k. rs .weight k * v k) (λ k. rs .weight k * w k) (rs .count) (λ k l. mul-le-mul-left (rs .weight k) (g k l)))
+
+pub opened : (c : Terms) (rs : Returns) (b : Behaviour) → Open (processOf c rs) (admissibleIn c b)
+unfolding processOf admissibleIn limitIn largestAmount
+opened c rs b = record {
+  some = freeIn c;
+  admissible = λ s. admits-free b (freeIn c s) (s .account);
+  within = λ s t p. admits-within b (freeIn c s) (s .account) t p;
+}
+
+-- whatever is withdrawn, the next state has an entry
+pub closed : (c : Terms) (rs : Returns) (b : Behaviour) → Closed (processOf c rs) (admissibleIn c b) (InRange c)
+unfolding processOf reachBy afterIn startOf nextAccount
+closed c rs b = record {
+  starts = λ k l. record { account = min-le-left _ _; guarantee = le-refl _ };
+  stays = λ i s t k g p l. record {
+    account = min-le-left _ _;
+    guarantee = le-trans (guarantee-le (freeIn c s) (s .account) (s .guarantee) t) (omega (arith, g .guarantee));
+  };
+}
+
+placed : (c : Terms) → Placed (layoutOf c)
+unfolding layoutOf layerSize
+placed c = record {
+  placed = λ s g. two-digits (s .account) (s .guarantee) (c .top + 1) (c .premium + 1) (omega (arith, g .account)) (omega (arith, g .guarantee));
+  state-place = λ s g.
+      let l : s .guarantee < c .premium + 1 = omega (arith, g .guarantee) in
+      let p = high-digit (s .account) (s .guarantee) (c .premium + 1) l in
+      let q = low-digit (s .account) (s .guarantee) (c .premium + 1) l in
+      λ i. record { account = p i; guarantee = q i };
+}
+
+pub sound : (c : Terms) (rs : Returns) → Valid c → Sound (fixedTerm c rs)
+unfolding fixedTerm processOf admissibleIn layoutOf
+sound c rs v = record {
+  dates = v .dates-least;
+  monotone = monotone c rs;
+  opened = opened c rs;
+  closed = closed c rs;
+  static-mixed = λ s t p. static-mixed (freeIn c s) (s .account) t p;
+  mixed-dynamic = λ s t p. mixed-dynamic (freeIn c s) (s .account) t p;
+  placed = placed c;
+}

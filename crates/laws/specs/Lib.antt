@@ -1,0 +1,8 @@
+-- What is proved of the rules.
+pub mod Accepted
+pub mod Date
+pub mod Demand
+pub mod FixedTerm
+pub mod ThirdDemand
+pub mod Bounds
+pub mod Walk

@@ -1,0 +1,71 @@
+-- The third demand of what the valuing calls report and leave. Assumes nothing.
+use mathlib.Core.List.{List, [], _∷_, _++_}
+use mathlib.Core.Path.{_≡_, refl, ap, sym, _∙_, subst, fun-ext}
+use Prim.Native.Nat.{ℕ, zero, suc, _≤_}
+use native.Mathlib.Omega.{arith}
+use lib.ListN.{drop}
+use Rattle.decision.specs.Process.{Attained}
+use Rattle.decision.specs.Layers.{lookup}
+use Rattle.rules.specs.Contract.{termsOf, returnsOf}
+use Rattle.rules.specs.Date.{Behaviour, static, mixed, dynamic}
+use Rattle.rules.specs.Product.{Product, contractValue, amountLayers, ThirdDemand}
+use Rattle.rules.specs.FixedTerm.{State, Held, fixedTerm}
+use Rattle.rules.specs.Refusals.{Check, Verdict, accepted, verdict, numbers, numberOf, onSuccess, recordChecks, listChecks}
+use Rattle.rules.specs.Operations.{productOf, answer, behaviourNumber, behaviourOf, tableSize, valuingChecks, valuingVerdict, valuingAnswer, valuingTable}
+use Rattle.laws.specs.Accepted.{Valid, ValidReturns, Positive, zero-accepts, AllPass, all-pass, pass-left, pass-right, valid-terms, valid-returns}
+use Rattle.laws.specs.Demand.{Sound, table-attains, demand}
+use Rattle.laws.specs.FixedTerm.{sound}
+use Rattle.rules.specs.Facts.{valuing-order}
+
+-- the number of a behaviour is its own
+pub behaviour-number : (b : Behaviour) → behaviourOf (behaviourNumber b) ≡ b
+unfolding behaviourOf behaviourNumber
+behaviour-number static = refl
+behaviour-number mixed = refl
+behaviour-number dynamic = refl
+
+module _ (bytes list : List ℕ) (behaviour : ℕ) (work table : List ℕ) where
+  -- a valuing call that answers number 0 has accepted its input
+  pub valuing-accepts : valuingAnswer bytes list behaviour work table .number ≡ 0 → valuingVerdict bytes list behaviour work table ≡ accepted
+  unfolding valuingAnswer answer valuingVerdict Positive
+  valuing-accepts e = zero-accepts (valuingChecks bytes list behaviour work table) (rw valuing-order (omega arith)) e
+
+  -- .. and the terms and returns are in range
+  pub valuing-terms : valuingVerdict bytes list behaviour work table ≡ accepted → Valid (termsOf bytes)
+  unfolding valuingVerdict valuingChecks
+  valuing-terms a = valid-terms bytes (pass-left (recordChecks bytes) _ (pass-left (recordChecks bytes ++ listChecks list) _ (all-pass _ a)))
+
+  pub valuing-returns : valuingVerdict bytes list behaviour work table ≡ accepted → ValidReturns (returnsOf list)
+  unfolding valuingVerdict valuingChecks
+  valuing-returns a = valid-returns list (pass-right (recordChecks bytes) _ (pass-left (recordChecks bytes ++ listChecks list) _ (all-pass _ a)))
+
+  -- what it then reports and leaves
+  pub valuing-reports : valuingVerdict bytes list behaviour work table ≡ accepted
+      → valuingAnswer bytes list behaviour work table .value ≡ contractValue (productOf bytes list) (behaviourOf behaviour)
+  unfolding valuingAnswer answer onSuccess
+  valuing-reports a = rw a
+
+  pub valuing-leaves : valuingVerdict bytes list behaviour work table ≡ accepted
+      → valuingTable bytes list behaviour work table ≡ amountLayers (productOf bytes list) (behaviourOf behaviour) ++ drop (tableSize (termsOf bytes)) table
+  unfolding valuingTable onSuccess
+  valuing-leaves a = rw a
+
+-- THE THIRD DEMAND. Where the valuing calls of the three behaviours answer number 0, whatever slices each was lent: the
+-- value each reports is its behaviour's, and of the tables that they leave the whole claim holds.
+pub third-demand : (bytes list : List ℕ) (work table : Behaviour → List ℕ)
+    → ((b : Behaviour) → valuingAnswer bytes list (behaviourNumber b) (work b) (table b) .number ≡ 0)
+    → ((b : Behaviour) → valuingAnswer bytes list (behaviourNumber b) (work b) (table b) .value ≡ contractValue (productOf bytes list) b)
+    × ThirdDemand (productOf bytes list) (λ b. valuingTable bytes list (behaviourNumber b) (work b) (table b))
+unfolding productOf
+third-demand bytes list work table zero-number =
+    let X = productOf bytes list in
+    let yes-to : (b : Behaviour) → valuingVerdict bytes list (behaviourNumber b) (work b) (table b) ≡ accepted = λ b.
+    valuing-accepts bytes list (behaviourNumber b) (work b) (table b) (zero-number b) in
+    let valid = valuing-terms bytes list (behaviourNumber static) (work static) (table static) (yes-to static) in
+    let leaves : (b : Behaviour) → amountLayers X b ++ drop (tableSize (termsOf bytes)) (table b) ≡ valuingTable bytes list (behaviourNumber b) (work b) (table b) = λ b.
+    ap (λ (x : Behaviour). amountLayers X x ++ drop (tableSize (termsOf bytes)) (table b)) (sym (behaviour-number b))
+    ∙ sym (valuing-leaves bytes list (behaviourNumber b) (work b) (table b) (yes-to b)) in (
+      λ b. valuing-reports bytes list (behaviourNumber b) (work b) (table b) (yes-to b) ∙ ap (contractValue X) (behaviour-number b),
+      subst (λ (f : Behaviour → List ℕ). ThirdDemand X f) (fun-ext leaves)
+          (demand X (sound (termsOf bytes) (returnsOf list) valid) (λ b. drop (tableSize (termsOf bytes)) (table b))),
+    )

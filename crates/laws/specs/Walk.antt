@@ -1,0 +1,51 @@
+-- A walk, date by date, and what it conserves. Assumes nothing.
+use mathlib.Core.List.{List, [], _∷_, _++_}
+use mathlib.Core.Path.{_≡_, refl, ap, _∙_}
+use Prim.Native.Nat.{ℕ, zero, suc, _+_, _-_, _≤_, _<_, min}
+use native.Mathlib.Nat.{min-le-right}
+use native.Mathlib.Omega.{arith}
+use lib.ListN.{getD, length, take}
+use lib.Seq.{take-suc, length-take-le}
+use Rattle.decision.specs.Index.{sum}
+use Rattle.decision.specs.Process.{Process, met, startMet}
+use Rattle.decision.specs.Layers.{lookup}
+use Rattle.decision.specs.Optimal.{Steps, startMet-steps}
+use Rattle.rules.specs.Contract.{Terms, Returns}
+use Rattle.rules.specs.Date.{freeAmount}
+use Rattle.rules.specs.Product.{Product, walkState, walkAmount}
+use Rattle.rules.specs.FixedTerm.{State, Held, freeIn, afterIn, reachBy, startOf, processOf, fixedTerm}
+use Rattle.laws.specs.Date.{guarantee-free}
+
+module _ {S H : Type 0} (X : Product S H) (table path : List ℕ) where
+  -- the first return leads to date 1
+  pub walk-first : 0 < length path → walkState X table path 1 ≡ X .process .reach (X .process .start) (getD path 0 0)
+  unfolding walkState startMet met
+  walk-first l = rw (take-suc path 0 0 l)
+
+  -- the amount of date i and the next return lead to date i + 1
+  pub walk-next : (i : ℕ) → 1 ≤ i → i < length path
+      → walkState X table path (suc i)
+      ≡ X .process .reach (X .process .after i (walkState X table path i) (walkAmount X table path i)) (getD path i 0)
+  unfolding walkState walkAmount Steps
+  walk-next i l m =
+      ap (startMet (X .process) (lookup (X .layout) table)) (take-suc path i 0 m)
+      ∙ startMet-steps (X .process) (lookup (X .layout) table) i (getD path i 0) (take i path) l (rw (length-take-le i path (omega arith)) (omega arith))
+
+-- "While no amount on a walk passes m, amounts withdrawn so far plus the guarantee equal the premium": on date n + 1, after
+-- the amounts of dates 1 to n
+pub walk-conserves : (c : Terms) (rs : Returns) (table path : List ℕ) (n : ℕ) → n < length path
+    → ((j : ℕ) → j < n → walkAmount (fixedTerm c rs) table path (suc j) ≤ freeIn c (walkState (fixedTerm c rs) table path (suc j)))
+    → sum (λ j. walkAmount (fixedTerm c rs) table path (suc j)) n + walkState (fixedTerm c rs) table path (suc n) .guarantee
+    ≡ c .premium
+unfolding sum fixedTerm processOf reachBy startOf afterIn freeIn freeAmount
+walk-conserves c rs table path zero l free =
+    ap (λ (s : State). 0 + s .guarantee) (walk-first (fixedTerm c rs) table path l) ∙ omega arith
+walk-conserves c rs table path (suc n) l free =
+    let s = walkState (fixedTerm c rs) table path (suc n) in
+    let t = walkAmount (fixedTerm c rs) table path (suc n) in
+    let before = walk-conserves c rs table path n (omega arith) (λ j m. free j (omega arith)) in
+    let small = free n (omega arith) in
+    let next = ap (λ (x : State). x .guarantee) (walk-next (fixedTerm c rs) table path (suc n) (omega arith) l) in
+    let falls = guarantee-free (freeIn c s) (s .account) (s .guarantee) t small in
+    let most = min-le-right (c .level) (s .guarantee) in
+    omega arith

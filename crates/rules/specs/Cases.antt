@@ -1,0 +1,129 @@
+-- Document 01, 'Contracts worked by hand': the ten marked cases in one table, with one proof that computes every row from
+-- the definitions. Assumes nothing.
+use mathlib.Core.Bool.{Bool, true, false, cond, not, _&&_, _||_}
+use mathlib.Core.List.{List, [], _∷_, _++_, map}
+use mathlib.Core.Path.{_≡_, refl}
+use Prim.Native.Nat.{ℕ, zero, suc, _+_, _-_, _*_}
+use lib.IntN.{ℤ, pos, negsuc, subℕ}
+use lib.ListN.{getD, length, replicate}
+use Rattle.decision.specs.Index.{sum, first, firstFrom}
+use Rattle.decision.specs.Choice.{largest, smallestBest}
+use Rattle.decision.specs.Process.{worth, valueOver, value, recorded, startValue}
+use Rattle.rules.specs.Contract.{word, long, bytesOf, Terms, termsOf, Returns, returnsOf}
+use Rattle.rules.specs.Date.{Behaviour, static, mixed, dynamic, freeAmount, largestAmount, surrenders, admits, penalty, cash, guaranteeAfter, balanceAfter, nextAccount, maturityValue, discounted, margin}
+use Rattle.rules.specs.Product.{Product, stateValue, recordedAmount, contractValue}
+use Rattle.rules.specs.FixedTerm.{State, freeIn, admissibleIn, limitIn, cashIn, afterIn, reachBy, expectOver, startOf, processOf, layerSize, layoutOf, fixedTerm}
+use Rattle.rules.specs.Refusals.{check, checkEach, Verdict, accepted, refused, verdict, numberOf, placeOf, onSuccess, outside, short, recordChecks, badReturn, listChecks}
+use Rattle.rules.specs.Operations.{productOf, Answer, answer, behaviourNumber, behaviourOf, tableSize, valuingChecks, valuingVerdict, valuingAnswer, bookingChecks, bookingVerdict, bookingBytes, bookingBuffer}
+
+-- ---- contracts P and Q
+-- a record's bytes
+packed : Terms → List ℕ
+packed c =
+    bytesOf 2 (c .premium)
+    ++ bytesOf 2 (c .level)
+    ++ bytesOf 2 (c .top)
+    ++ bytesOf 2 (c .dates)
+    ++ bytesOf 2 (c .fee)
+    ++ bytesOf 2 (c .penalty)
+    ++ bytesOf 4 (c .discount)
+
+-- "U 10, G 5, top 20, N 2, fee 0, penalty 1,000, discount 1,000,000"
+P : Terms
+P = record { premium = 10; level = 5; top = 20; dates = 2; fee = 0; penalty = 1000; discount = 1000000 }
+
+-- "P with N 1"
+P-one : Terms
+P-one = record { premium = 10; level = 5; top = 20; dates = 1; fee = 0; penalty = 1000; discount = 1000000 }
+
+-- "P with discount 950,000"
+P-discounted : Terms
+P-discounted = record { premium = 10; level = 5; top = 20; dates = 2; fee = 0; penalty = 1000; discount = 950000 }
+
+-- "Q = P with fee 2,000, penalty 0"
+Q : Terms
+Q = record { premium = 10; level = 5; top = 20; dates = 2; fee = 2000; penalty = 0; discount = 1000000 }
+
+-- "returns (5,000, weight 5,000) and (15,000, weight 5,000)"
+returnsP : List ℕ
+returnsP = bytesOf 2 5000 ++ bytesOf 2 5000 ++ bytesOf 2 15000 ++ bytesOf 2 5000
+
+-- ---- what is asked and told
+pub data Question : Type 0 where
+  -- the contract's value and margin
+  contractOf : Terms → Behaviour → Question
+  -- the value and the recorded amount at (w, a) on date 1
+  stateOf : Terms → Behaviour → ℕ → ℕ → Question
+  -- whether the account may be surrendered at (w, a)
+  surrenderAt : Terms → ℕ → ℕ → Question
+  -- booking an amount at (w, a) on date 1
+  bookingOf : Terms → ℕ → ℕ → ℕ → Question
+
+pub data Told : Type 0 where
+  value-margin : ℕ → ℤ → Told
+  value-amount : ℕ → ℕ → Told
+  allowed : Bool → Told
+  cash-penalty-balance-guarantee : ℕ → ℕ → ℕ → ℕ → Told
+  number-place : ℕ → ℕ → Told
+
+at : ℕ → ℕ → State
+at w a = record { account = w; guarantee = a }
+
+-- a refusal, or what success tells
+unless-refused : Verdict → Told → Told
+unless-refused accepted told = told
+unless-refused (refused n p) told = number-place n p
+
+booked : List ℕ → Told
+booked buffer = cash-penalty-balance-guarantee (long buffer 0) (long buffer 4) (word buffer 8) (word buffer 10)
+
+valued : Verdict → Answer → Told
+valued v a = unless-refused v (value-margin (a .value) (a .margin))
+
+pub tell : Question → Told
+tell (contractOf c b) =
+    let n = layerSize c in
+    valued
+    (valuingVerdict (packed c) returnsP (behaviourNumber b) (replicate (2 * n) 0) (replicate n 0))
+    (valuingAnswer (packed c) returnsP (behaviourNumber b) (replicate (2 * n) 0) (replicate n 0))
+tell (stateOf c b w a) =
+    let X = fixedTerm c (returnsOf returnsP) in
+    value-amount (stateValue X b 1 (at w a)) (recordedAmount X b 1 (at w a))
+tell (surrenderAt c w a) = allowed (surrenders (freeIn c (at w a)) w w)
+tell (bookingOf c w a t) =
+    unless-refused (bookingVerdict (packed c) 1 w a t (replicate 16 0)) (booked (bookingBuffer (packed c) 1 w a t (replicate 16 0)))
+
+-- ---- the marked cases
+pub record Row : Type 0 where
+  pub number : ℕ
+  pub asked : Question
+  pub told : Told
+
+row : ℕ → Question → Told → Row
+row n q t = record { number = n; asked = q; told = t }
+
+pub marked : List Row
+marked =
+    row 1 (contractOf P static) (value-margin 125000 (pos 25000))
+    ∷ row 1 (contractOf P mixed) (value-margin 125000 (pos 25000))
+    ∷ row 1 (contractOf P dynamic) (value-margin 127500 (pos 27500))
+    ∷ row 2 (stateOf P dynamic 15 10) (value-amount 155000 1)
+    ∷ row 3 (surrenderAt P 5 10) (allowed false)
+    ∷ row 3 (stateOf P dynamic 5 10) (value-amount 100000 0)
+    ∷ row 4 (contractOf P-one static) (value-margin 125000 (pos 25000))
+    ∷ row 4 (contractOf P-one mixed) (value-margin 125000 (pos 25000))
+    ∷ row 4 (contractOf P-one dynamic) (value-margin 125000 (pos 25000))
+    ∷ row 5 (contractOf P-discounted static) (value-margin 115187 (pos 15187))
+    ∷ row 6 (contractOf Q static) (value-margin 107500 (pos 7500))
+    ∷ row 6 (contractOf Q mixed) (value-margin 110000 (pos 10000))
+    ∷ row 6 (contractOf Q dynamic) (value-margin 110000 (pos 10000))
+    ∷ row 7 (stateOf Q mixed 12 10) (value-amount 120000 12)
+    ∷ row 7 (stateOf Q dynamic 12 10) (value-amount 120000 0)
+    ∷ row 8 (bookingOf P 15 10 6) (cash-penalty-balance-guarantee 59000 1000 9 4)
+    ∷ row 9 (bookingOf P 15 10 15) (cash-penalty-balance-guarantee 140000 10000 0 0)
+    ∷ row 10 (bookingOf P 5 10 6) (number-place 14 0)
+    ∷ []
+
+pub marked-cases : map (λ r. tell (r .asked)) marked ≡ map (λ r. r .told) marked
+unfolding sum first firstFrom largest smallestBest worth valueOver value recorded startValue word long bytesOf termsOf returnsOf freeAmount largestAmount surrenders admits penalty cash guaranteeAfter balanceAfter nextAccount maturityValue discounted margin stateValue recordedAmount contractValue freeIn admissibleIn limitIn cashIn afterIn reachBy expectOver startOf processOf layerSize layoutOf fixedTerm checkEach verdict numberOf placeOf onSuccess outside short recordChecks badReturn listChecks productOf answer behaviourNumber behaviourOf tableSize valuingChecks valuingVerdict valuingAnswer bookingChecks bookingVerdict bookingBytes bookingBuffer packed P P-one P-discounted Q returnsP at unless-refused booked valued tell row marked
+marked-cases = refl

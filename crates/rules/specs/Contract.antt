@@ -1,0 +1,90 @@
+-- Document 01, 'Units and records': the contract record and the return list, their layout and their ranges.
+-- Assumes nothing.
+use mathlib.Core.List.{List, [], _∷_}
+use Prim.Native.Nat.{ℕ, zero, suc, _+_, _*_, _/_, _%_}
+use lib.ListN.{getD, length}
+
+-- ---- numbers in bytes
+-- "fields are unsigned, low byte first": the two bytes and the four bytes from i on
+unfoldable pub word : List ℕ → ℕ → ℕ
+word bytes i = getD bytes i 0 + 256 * getD bytes (i + 1) 0
+
+unfoldable pub long : List ℕ → ℕ → ℕ
+long bytes i = word bytes i + 65536 * word bytes (i + 2)
+
+-- the n bytes of a number
+unfoldable pub bytesOf : ℕ → ℕ → List ℕ
+bytesOf zero x = []
+bytesOf (suc n) x = x % 256 ∷ bytesOf n (x / 256)
+
+-- ---- the contract
+pub record Terms : Type 0 where
+  pub premium : ℕ
+  pub level : ℕ
+  pub top : ℕ
+  pub dates : ℕ
+  pub fee : ℕ
+  pub penalty : ℕ
+  pub discount : ℕ
+
+-- "A contract record has 16 bytes."
+abbrev pub recordBytes : ℕ
+recordBytes = 16
+
+-- the table of offsets
+unfoldable pub termsOf : List ℕ → Terms
+termsOf bytes = record {
+  premium = word bytes 0;
+  level = word bytes 2;
+  top = word bytes 4;
+  dates = word bytes 6;
+  fee = word bytes 8;
+  penalty = word bytes 10;
+  discount = long bytes 12;
+}
+
+-- the column of ranges
+abbrev pub topMost : ℕ
+topMost = 4000
+
+abbrev pub datesMost : ℕ
+datesMost = 40
+
+-- of the fee and of the penalty rate, in ten-thousandths
+abbrev pub rateMost : ℕ
+rateMost = 10000
+
+-- in millionths
+abbrev pub discountMost : ℕ
+discountMost = 1000000
+
+-- ---- the returns
+-- by their number, from 0: "Equal factors may stand twice."
+pub record Returns : Type 0 where
+  pub count : ℕ
+  pub factor : ℕ → ℕ
+  pub weight : ℕ → ℕ
+
+-- "A return record has 4 bytes: factor (2 bytes ..) and weight (2 bytes ..)."
+abbrev pub returnBytes : ℕ
+returnBytes = 4
+
+unfoldable pub returnsOf : List ℕ → Returns
+returnsOf bytes = record {
+  count = length bytes / returnBytes;
+  factor = λ k. word bytes (returnBytes * k);
+  weight = λ k. word bytes (returnBytes * k + 2);
+}
+
+abbrev pub factorMost : ℕ
+factorMost = 30000
+
+abbrev pub weightMost : ℕ
+weightMost = 10000
+
+-- "A list has 1 to 64 records and its weights add to 10,000."
+abbrev pub returnsMost : ℕ
+returnsMost = 64
+
+abbrev pub weightTotal : ℕ
+weightTotal = 10000

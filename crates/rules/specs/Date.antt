@@ -1,0 +1,61 @@
+-- Document 01, 'One date' and 'Values', on plain numbers: w is the account, a the guarantee, t the amount, m the smaller of
+-- level and guarantee. A difference stops at 0. Assumes nothing.
+use mathlib.Core.Bool.{Bool, cond, _&&_, _||_}
+use Prim.Native.Nat.{ℕ, _-_, _*_, _/_, min, max}
+use lib.Dec.{leb, ltb, eqb}
+use lib.IntN.{ℤ, subℕ}
+
+pub data Behaviour : Type 0 where
+  static mixed dynamic : Behaviour
+
+-- "Let m be the smaller of G and A": what may be withdrawn without penalty
+unfoldable pub freeAmount : ℕ → ℕ → ℕ
+freeAmount level a = min level a
+
+-- "0 to the larger of W and m"
+unfoldable pub largestAmount : ℕ → ℕ → ℕ
+largestAmount m w = max w m
+
+-- "when W is above m, also W (surrender)"
+unfoldable pub surrenders : ℕ → ℕ → ℕ → Bool
+surrenders m w t = ltb m w && eqb t w
+
+-- "Admissible amounts t. Static: m only. Mixed: m and, when W is above m, also W (surrender). Dynamic: 0 to the larger of W
+-- and m."
+unfoldable pub admits : Behaviour → ℕ → ℕ → ℕ → Bool
+admits static m w t = eqb t m
+admits mixed m w t = eqb t m || surrenders m w t
+admits dynamic m w t = leb t (largestAmount m w)
+
+-- "Penalty: rate × (t − m) where t is above m, else 0."
+unfoldable pub penalty : ℕ → ℕ → ℕ → ℕ
+penalty rate m t = rate * (t - m)
+
+-- "Cash: 10,000 × t less penalty."
+unfoldable pub cash : ℕ → ℕ → ℕ → ℕ
+cash rate m t = 10000 * t - penalty rate m t
+
+-- "Guarantee after: A − t if t is at most m; else the smaller of A − t and A × (W − t) / W rounded down, and never below 0."
+unfoldable pub guaranteeAfter : ℕ → ℕ → ℕ → ℕ → ℕ
+guaranteeAfter m w a t = cond (leb t m) (a - t) (min (a - t) (a * (w - t) / w))
+
+-- "Balance after: W − t, never below 0."
+unfoldable pub balanceAfter : ℕ → ℕ → ℕ
+balanceAfter w t = w - t
+
+-- "next account = balance × factor × (10,000 − fee) / 100,000,000, rounded down a single time. A result above top is held
+-- at top."
+unfoldable pub nextAccount : ℕ → ℕ → ℕ → ℕ → ℕ
+nextAccount fee top balance factor = min top (balance * factor * (10000 - fee) / 100000000)
+
+-- "At maturity the value is 10,000 × the larger of W and A."
+unfoldable pub maturityValue : ℕ → ℕ → ℕ
+maturityValue w a = 10000 * max w a
+
+-- "discount × (sum of weight × value reached) / 10,000,000,000, rounded down once"
+unfoldable pub discounted : ℕ → ℕ → ℕ
+discounted discount sum = discount * sum / 10000000000
+
+-- "the margin (64-bit, signed): value less 10,000 × premium"
+unfoldable pub margin : ℕ → ℕ → ℤ
+margin value premium = subℕ value (10000 * premium)

@@ -1,0 +1,64 @@
+-- Facts that pin the definitions down: which checks each operation makes and in which order, what is rounded and when, the
+-- sign of the margin. Assumes nothing.
+use mathlib.Core.List.{List, [], _∷_, _++_, map}
+use mathlib.Core.Logic.{_↔_}
+use mathlib.Core.Path.{_≡_, refl}
+use Prim.Native.Nat.{ℕ, suc, _-_, _*_, _/_, _≤_, _<_, min}
+use native.Mathlib.Nat.{le-trans, le-min, min-le-left, min-le-right, le-div-iff-mul-le}
+use native.Mathlib.Omega.{arith}
+use lib.Dec.{lit<}
+use borrow.Author.Tests.{lt-ltb, le-ltb}
+use lib.IntN.{ℤ, pos, negℤ}
+use Rattle.rules.specs.Date.{nextAccount, discounted, margin}
+use Rattle.rules.specs.Refusals.{Check, check, checkEach, numbers, recordChecks, listChecks}
+use Rattle.rules.specs.Operations.{valuingChecks, suppliedChecks, bookingChecks, walkChecks}
+
+-- ---- "Checks run in the order of the table; an operation makes those for which it has the input."
+pub record-order : (bytes : List ℕ) → numbers (recordChecks bytes) ≡ 1 ∷ 2 ∷ 3 ∷ 4 ∷ 5 ∷ 6 ∷ []
+unfolding numbers recordChecks
+record-order bytes = refl
+
+pub valuing-order : (bytes list : List ℕ) (behaviour : ℕ) (work table : List ℕ)
+    → numbers (valuingChecks bytes list behaviour work table) ≡ 1 ∷ 2 ∷ 3 ∷ 4 ∷ 5 ∷ 6 ∷ 7 ∷ 8 ∷ 9 ∷ 10 ∷ 11 ∷ []
+unfolding numbers recordChecks listChecks checkEach valuingChecks
+valuing-order bytes list behaviour work table = refl
+
+pub supplied-order : (bytes list work table : List ℕ)
+    → numbers (suppliedChecks bytes list work table) ≡ 1 ∷ 2 ∷ 3 ∷ 4 ∷ 5 ∷ 6 ∷ 7 ∷ 8 ∷ 9 ∷ 11 ∷ 14 ∷ []
+unfolding numbers recordChecks listChecks checkEach suppliedChecks
+supplied-order bytes list work table = refl
+
+pub booking-order : (bytes : List ℕ) (date w a t : ℕ) (buffer : List ℕ)
+    → numbers (bookingChecks bytes date w a t buffer) ≡ 1 ∷ 2 ∷ 3 ∷ 4 ∷ 5 ∷ 6 ∷ 11 ∷ 12 ∷ 14 ∷ []
+unfolding numbers recordChecks bookingChecks
+booking-order bytes date w a t buffer = refl
+
+pub walk-order : (bytes list table path cashes : List ℕ)
+    → numbers (walkChecks bytes list table path cashes) ≡ 1 ∷ 2 ∷ 3 ∷ 4 ∷ 5 ∷ 6 ∷ 7 ∷ 8 ∷ 9 ∷ 11 ∷ 13 ∷ 13 ∷ 14 ∷ []
+unfolding numbers recordChecks listChecks checkEach walkChecks
+walk-order bytes list table path cashes = refl
+
+-- ---- "rounded down a single time": the next account is the largest that top and the exact product allow
+pub account-rounds : (fee top balance factor x : ℕ)
+    → (x ≤ nextAccount fee top balance factor) ↔ ((x ≤ top) × (x * 100000000 ≤ balance * factor * (10000 - fee)))
+unfolding nextAccount
+account-rounds fee top balance factor x = (
+  λ l. (le-trans l (min-le-left _ _), le-div-iff-mul-le (lit< tt) .0 (le-trans l (min-le-right _ _))),
+  λ p. le-min (p .0) (le-div-iff-mul-le (lit< tt) .1 (p .1)),
+)
+
+-- "rounded down once": the discounted sum is the largest that the exact product allows
+pub discount-rounds : (discount sum x : ℕ) → (x ≤ discounted discount sum) ↔ (x * 10000000000 ≤ discount * sum)
+unfolding discounted
+discount-rounds discount sum x = le-div-iff-mul-le (lit< tt)
+
+-- ---- "negative when the contract is worth less than its premium": exact on both sides of zero
+pub margin-above : (value premium : ℕ) → 10000 * premium ≤ value → margin value premium ≡ pos (value - 10000 * premium)
+unfolding margin
+margin-above value premium l = rw (le-ltb value (10000 * premium) l)
+
+pub margin-below : (value premium : ℕ) → value < 10000 * premium → margin value premium ≡ negℤ (pos (10000 * premium - value))
+unfolding margin
+margin-below value premium l =
+    let e : 10000 * premium - value ≡ suc (10000 * premium - suc value) = omega arith in
+    rw (lt-ltb value (10000 * premium) l, e)

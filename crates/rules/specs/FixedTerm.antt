@@ -1,0 +1,85 @@
+-- The fixed-term contract of document 01 as a product: its states, its one date, its values, its layers. Assumes nothing.
+use mathlib.Core.Bool.{Bool}
+use Prim.Native.Nat.{ℕ, _+_, _*_, _/_, _%_, _≤_}
+use Rattle.decision.specs.Index.{sum}
+use Rattle.decision.specs.Process.{Process}
+use Rattle.decision.specs.Layers.{Layout}
+use Rattle.rules.specs.Contract.{Terms, Returns}
+use Rattle.rules.specs.Date.{Behaviour, freeAmount, largestAmount, admits, cash, guaranteeAfter, balanceAfter, nextAccount, maturityValue, discounted}
+use Rattle.rules.specs.Product.{Product}
+
+-- "State: account W from 0 to top, guarantee A from 0 to U."
+pub record State : Type 0 where
+  pub account : ℕ
+  pub guarantee : ℕ
+
+-- what is held between a decision and the return
+pub record Held : Type 0 where
+  pub balance : ℕ
+  pub guarantee : ℕ
+
+pub record InRange (c : Terms) (s : State) : Type 0 where
+  pub account : s .account ≤ c .top
+  pub guarantee : s .guarantee ≤ c .premium
+
+-- m of a state
+unfoldable pub freeIn : Terms → State → ℕ
+freeIn c s = freeAmount (c .level) (s .guarantee)
+
+unfoldable pub admissibleIn : Terms → Behaviour → State → ℕ → Bool
+admissibleIn c b s t = admits b (freeIn c s) (s .account) t
+
+unfoldable pub limitIn : Terms → State → ℕ
+limitIn c s = largestAmount (freeIn c s) (s .account)
+
+unfoldable pub cashIn : Terms → ℕ → State → ℕ → ℕ
+cashIn c i s t = cash (c .penalty) (freeIn c s) t
+
+unfoldable pub afterIn : Terms → ℕ → State → ℕ → Held
+afterIn c i s t = record {
+  balance = balanceAfter (s .account) t;
+  guarantee = guaranteeAfter (freeIn c s) (s .account) (s .guarantee) t;
+}
+
+-- return number k
+unfoldable pub reachBy : Terms → Returns → Held → ℕ → State
+reachBy c rs h k = record {
+  account = nextAccount (c .fee) (c .top) (h .balance) (rs .factor k);
+  guarantee = h .guarantee;
+}
+
+-- "discount × (sum of weight × value reached) / 10,000,000,000"
+unfoldable pub expectOver : Terms → Returns → ℕ → Held → (ℕ → ℕ) → ℕ
+expectOver c rs i h reached = discounted (c .discount) (sum (λ k. rs .weight k * reached k) (rs .count))
+
+-- "Start: balance U and guarantee U, then the first return."
+unfoldable pub startOf : Terms → Held
+startOf c = record { balance = c .premium; guarantee = c .premium }
+
+unfoldable pub processOf : Terms → Returns → Process State Held
+processOf c rs = record {
+  dates = c .dates;
+  start = startOf c;
+  returns = rs .count;
+  limit = limitIn c;
+  cash = cashIn c;
+  after = afterIn c;
+  reach = reachBy c rs;
+  expect = expectOver c rs;
+  final = λ s. maturityValue (s .account) (s .guarantee);
+}
+
+-- "One layer has (top + 1) × (U + 1) entries; the entry of (W, A) is W × (U + 1) + A."
+unfoldable pub layerSize : Terms → ℕ
+layerSize c = (c .top + 1) * (c .premium + 1)
+
+unfoldable pub layoutOf : Terms → Layout State
+layoutOf c = record {
+  InRange = InRange c;
+  size = layerSize c;
+  place = λ s. s .account * (c .premium + 1) + s .guarantee;
+  stateAt = λ e. record { account = e / (c .premium + 1); guarantee = e % (c .premium + 1) };
+}
+
+unfoldable pub fixedTerm : Terms → Returns → Product State Held
+fixedTerm c rs = record { process = processOf c rs; admissible = admissibleIn c; layout = layoutOf c }

@@ -1,0 +1,9 @@
+-- The rules of document 01, in the order of reading: the definitions, the cases worked by hand, and the order of the checks.
+pub mod Contract
+pub mod Date
+pub mod Product
+pub mod FixedTerm
+pub mod Refusals
+pub mod Operations
+pub mod Cases
+pub mod Facts

@@ -1,0 +1,162 @@
+-- Document 01, 'Lent slices' and 'What an office is told': the whole answer of each operation, and what it leaves in each
+-- slice, on every input. `bytes` is the contract record, `list` the return list. Assumes nothing.
+use mathlib.Core.Bool.{not, _||_}
+use mathlib.Core.List.{List, [], _∷_, _++_}
+use Prim.Native.Nat.{ℕ, zero, suc, _-_, _*_, _%_}
+use lib.Dec.{leb, ltb, eqb}
+use lib.IntN.{ℤ, pos}
+use lib.ListN.{getD, length, drop, replicate}
+use Rattle.rules.specs.Contract.{Terms, Returns, bytesOf, termsOf, returnsOf}
+use Rattle.rules.specs.Date.{Behaviour, static, mixed, dynamic, freeAmount, admits, penalty, cash, guaranteeAfter, balanceAfter, margin}
+use Rattle.rules.specs.Product.{Product, decisions, contractValue, valueLayer, amountLayers, suppliedValue, suppliedLayer, walkState, walkAmount, walkCash}
+use Rattle.rules.specs.FixedTerm.{State, Held, admissibleIn, layerSize, layoutOf, fixedTerm}
+use Rattle.rules.specs.Refusals.{Check, check, checkEach, Verdict, verdict, numberOf, placeOf, onSuccess, outside, short, recordChecks, listChecks}
+
+-- the contract that a record and a list stand for
+unfoldable pub productOf : List ℕ → List ℕ → Product State Held
+productOf bytes list = fixedTerm (termsOf bytes) (returnsOf list)
+
+-- "value (32-bit)", "margin (64-bit, signed)"
+pub record Answer : Type 0 where
+  pub number : ℕ
+  pub place : ℕ
+  pub value : ℕ
+  pub margin : ℤ
+
+-- "A refusal gives its number and place, value 0 and margin 0"
+unfoldable pub answer : Verdict → ℕ → ℕ → Answer
+answer v value premium = record {
+  number = numberOf v;
+  place = placeOf v;
+  value = onSuccess v value 0;
+  margin = onSuccess v (margin value premium) (pos 0);
+}
+
+-- "After success the first layer holds the values of date 1 and the second zeros. .. Entries of either slice beyond these are
+-- untouched."; a refusal "changes no lent slice"
+unfoldable pub workAfter : Verdict → ℕ → List ℕ → List ℕ → List ℕ
+workAfter v size values work = onSuccess v (values ++ replicate size 0 ++ drop (2 * size) work) work
+
+-- ---- checking a record
+unfoldable pub recordVerdict : List ℕ → Verdict
+recordVerdict bytes = verdict (recordChecks bytes)
+
+-- ---- valuing a contract
+-- "behaviour not 0 static, 1 mixed, 2 dynamic"
+unfoldable pub behaviourNumber : Behaviour → ℕ
+behaviourNumber static = 0
+behaviourNumber mixed = 1
+behaviourNumber dynamic = 2
+
+-- a number above 2 is refused, so what it stands for is never asked
+unfoldable pub behaviourOf : ℕ → Behaviour
+behaviourOf zero = static
+behaviourOf (suc zero) = mixed
+behaviourOf (suc (suc n)) = dynamic
+
+-- the table "for i from 1 to N−1"
+unfoldable pub tableSize : Terms → ℕ
+tableSize c = (c .dates - 1) * layerSize c
+
+unfoldable pub valuingChecks : List ℕ → List ℕ → ℕ → List ℕ → List ℕ → List Check
+valuingChecks bytes list behaviour work table =
+    let c = termsOf bytes in
+    recordChecks bytes
+    ++ listChecks list
+    ++ (check 10 0 (ltb 2 behaviour) ∷ check 11 0 (short (2 * layerSize c) work || short (tableSize c) table) ∷ [])
+
+unfoldable pub valuingVerdict : List ℕ → List ℕ → ℕ → List ℕ → List ℕ → Verdict
+valuingVerdict bytes list behaviour work table = verdict (valuingChecks bytes list behaviour work table)
+
+unfoldable pub valuingAnswer : List ℕ → List ℕ → ℕ → List ℕ → List ℕ → Answer
+valuingAnswer bytes list behaviour work table =
+    answer (valuingVerdict bytes list behaviour work table) (contractValue (productOf bytes list) (behaviourOf behaviour)) (termsOf bytes .premium)
+
+unfoldable pub valuingWork : List ℕ → List ℕ → ℕ → List ℕ → List ℕ → List ℕ
+valuingWork bytes list behaviour work table =
+    workAfter (valuingVerdict bytes list behaviour work table) (layerSize (termsOf bytes)) (valueLayer (productOf bytes list) (behaviourOf behaviour)) work
+
+unfoldable pub valuingTable : List ℕ → List ℕ → ℕ → List ℕ → List ℕ → List ℕ
+valuingTable bytes list behaviour work table =
+    onSuccess (valuingVerdict bytes list behaviour work table)
+    (amountLayers (productOf bytes list) (behaviourOf behaviour) ++ drop (tableSize (termsOf bytes)) table)
+    table
+
+-- ---- valuing a supplied table
+-- "checked in every entry, reachable or not, against the dynamic set"
+unfoldable pub suppliedChecks : List ℕ → List ℕ → List ℕ → List ℕ → List Check
+suppliedChecks bytes list work table =
+    let c = termsOf bytes in
+    recordChecks bytes
+    ++ listChecks list
+    ++ (
+    check 11 0 (short (2 * layerSize c) work || short (tableSize c) table)
+    ∷ checkEach 14 0 (λ e. not (admissibleIn c dynamic (layoutOf c .stateAt (e % layerSize c)) (getD table e 0))) (tableSize c)
+    ∷ []
+    )
+
+unfoldable pub suppliedVerdict : List ℕ → List ℕ → List ℕ → List ℕ → Verdict
+suppliedVerdict bytes list work table = verdict (suppliedChecks bytes list work table)
+
+unfoldable pub suppliedAnswer : List ℕ → List ℕ → List ℕ → List ℕ → Answer
+suppliedAnswer bytes list work table =
+    answer (suppliedVerdict bytes list work table) (suppliedValue (productOf bytes list) table) (termsOf bytes .premium)
+
+unfoldable pub suppliedWork : List ℕ → List ℕ → List ℕ → List ℕ → List ℕ
+suppliedWork bytes list work table =
+    workAfter (suppliedVerdict bytes list work table) (layerSize (termsOf bytes)) (suppliedLayer (productOf bytes list) table) work
+
+-- ---- booking one withdrawal
+-- 12: "date not 1 to N−1, W above top or A above U"
+unfoldable pub bookingChecks : List ℕ → ℕ → ℕ → ℕ → ℕ → List ℕ → List Check
+bookingChecks bytes date w a t buffer =
+    let c = termsOf bytes in
+    recordChecks bytes
+    ++ (
+    check 11 0 (not (eqb (length buffer) 16))
+    ∷ check 12 0 (outside 1 (c .dates - 1) date || ltb (c .top) w || ltb (c .premium) a)
+    ∷ check 14 0 (not (admits dynamic (freeAmount (c .level) a) w t))
+    ∷ []
+    )
+
+unfoldable pub bookingVerdict : List ℕ → ℕ → ℕ → ℕ → ℕ → List ℕ → Verdict
+bookingVerdict bytes date w a t buffer = verdict (bookingChecks bytes date w a t buffer)
+
+-- "A booking fills 16 bytes: cash (4), penalty (4), balance (2), guarantee (2), four zeros."
+unfoldable pub bookingBytes : Terms → ℕ → ℕ → ℕ → ℕ → List ℕ
+bookingBytes c date w a t =
+    let m = freeAmount (c .level) a in
+    bytesOf 4 (cash (c .penalty) m t)
+    ++ bytesOf 4 (penalty (c .penalty) m t)
+    ++ bytesOf 2 (balanceAfter w t)
+    ++ bytesOf 2 (guaranteeAfter m w a t)
+    ++ bytesOf 4 0
+
+unfoldable pub bookingBuffer : List ℕ → ℕ → ℕ → ℕ → ℕ → List ℕ → List ℕ
+bookingBuffer bytes date w a t buffer =
+    onSuccess (bookingVerdict bytes date w a t buffer) (bookingBytes (termsOf bytes) date w a t) buffer
+
+-- ---- walking a contract along a path
+-- 13: "count not N (looked at first), or no such return"
+-- 14 with the date as its place: "It checks only the table entries it meets."
+unfoldable pub walkChecks : List ℕ → List ℕ → List ℕ → List ℕ → List ℕ → List Check
+walkChecks bytes list table path cashes =
+    let c = termsOf bytes in
+    let X = productOf bytes list in
+    recordChecks bytes
+    ++ listChecks list
+    ++ (
+    check 11 0 (short (tableSize c) table || short (c .dates) cashes)
+    ∷ check 13 (c .dates) (not (eqb (length path) (c .dates)))
+    ∷ checkEach 13 0 (λ j. leb (returnsOf list .count) (getD path j 0)) (c .dates)
+    ∷ checkEach 14 1 (λ j. not (admissibleIn c dynamic (walkState X table path (suc j)) (walkAmount X table path (suc j)))) (c .dates - 1)
+    ∷ []
+    )
+
+unfoldable pub walkVerdict : List ℕ → List ℕ → List ℕ → List ℕ → List ℕ → Verdict
+walkVerdict bytes list table path cashes = verdict (walkChecks bytes list table path cashes)
+
+-- "fills N cash amounts (32-bit) in order ..; cash entries beyond N are untouched"
+unfoldable pub walkCashes : List ℕ → List ℕ → List ℕ → List ℕ → List ℕ → List ℕ
+walkCashes bytes list table path cashes =
+    onSuccess (walkVerdict bytes list table path cashes) (walkCash (productOf bytes list) table path ++ drop (termsOf bytes .dates) cashes) cashes

@@ -1,0 +1,551 @@
+//! GMWB valuation: the rules of document 01 (01-scope.md), written plainly.
+//!
+//! The parts follow the document: units and records, one date, values, lent
+//! slices, the operations, the program. Each function names the sentence it
+//! stands for. Every sum over the returns is made anew for each amount.
+//!
+//! The rules of the parts "One date" and "Values" are called only with what the
+//! checks have let through: account up to top, guarantee up to premium, amount in
+//! the dynamic set. Under those limits no product below passes 64 bits; the
+//! largest is named at `discounted`.
+
+// A program that takes this file in as a module may use only a part of it.
+#![allow(dead_code)]
+
+// ---------------------------------------------------------------- Answers
+
+/// "Returned: number, place". Success gives number 0, place 0.
+#[derive(Clone, Copy, Debug, PartialEq, Eq)]
+pub struct Answer {
+    pub number: u64,
+    pub place: u64,
+}
+
+/// The answer of the two valuing operations.
+/// "A refusal gives its number and place, value 0 and margin 0".
+#[derive(Clone, Copy, Debug, PartialEq, Eq)]
+pub struct Valued {
+    pub number: u64,
+    pub place: u64,
+    pub value: u32,
+    pub margin: i64,
+}
+
+const SUCCESS: Answer = Answer {
+    number: 0,
+    place: 0,
+};
+
+/// Gives a refusal when its condition, in the words of the table, holds.
+fn refuse_if(condition: bool, number: u64, place: u64) -> Result<(), Answer> {
+    if condition {
+        Err(Answer { number, place })
+    } else {
+        Ok(())
+    }
+}
+
+fn answer(result: Result<(), Answer>) -> Answer {
+    result.err().unwrap_or(SUCCESS)
+}
+
+// ------------------------------------------------------ Units and records
+
+/// "Values, cash and penalties are ten-thousandths of a unit."
+const UNIT: u64 = 10_000;
+/// "ten-thousandths": the whole of a fee, penalty rate, factor or weight.
+const WHOLE: u64 = 10_000;
+const MOST_TOP: u64 = 4_000;
+const MOST_DATES: u64 = 40;
+const MOST_DISCOUNT: u64 = 1_000_000;
+const MOST_FACTOR: u64 = 30_000;
+const RECORD_BYTES: usize = 16;
+const RETURN_BYTES: usize = 4;
+const MOST_LIST_BYTES: usize = 256;
+const BOOKING_BYTES: usize = 16;
+
+/// The fields of a contract record.
+#[derive(Clone, Copy, Debug)]
+struct Contract {
+    premium: u64,
+    level: u64,
+    top: u64,
+    dates: u64,
+    fee: u64,
+    penalty: u64,
+    discount: u64,
+}
+
+/// A return record: factor and weight, both in ten-thousandths.
+#[derive(Clone, Copy, Debug)]
+struct Return {
+    factor: u64,
+    weight: u64,
+}
+
+/// "fields are unsigned, low byte first". Called with at most 4 bytes.
+fn number_in(bytes: &[u8]) -> u64 {
+    bytes.iter().rev().fold(0, |n, b| n * 256 + u64::from(*b))
+}
+
+/// "A contract record has 16 bytes." Refusals 1 to 6, in the order of the table.
+fn read_contract(record: &[u8]) -> Result<Contract, Answer> {
+    refuse_if(record.len() != RECORD_BYTES, 1, 0)?;
+    let c = Contract {
+        premium: number_in(&record[0..2]),
+        level: number_in(&record[2..4]),
+        top: number_in(&record[4..6]),
+        dates: number_in(&record[6..8]),
+        fee: number_in(&record[8..10]),
+        penalty: number_in(&record[10..12]),
+        discount: number_in(&record[12..16]),
+    };
+    refuse_if(c.top > MOST_TOP || c.premium < 1 || c.premium > c.top, 2, 0)?;
+    refuse_if(c.level < 1 || c.level > c.premium, 3, 0)?;
+    refuse_if(c.dates < 1 || c.dates > MOST_DATES, 4, 0)?;
+    refuse_if(c.fee > WHOLE || c.penalty > WHOLE, 5, 0)?;
+    refuse_if(c.discount < 1 || c.discount > MOST_DISCOUNT, 6, 0)?;
+    Ok(c)
+}
+
+/// "A list has 1 to 64 records and its weights add to 10,000." Refusals 7 to 9.
+fn read_returns(list: &[u8]) -> Result<Vec<Return>, Answer> {
+    let length = list.len();
+    refuse_if(
+        length == 0 || length > MOST_LIST_BYTES || length % RETURN_BYTES != 0,
+        7,
+        0,
+    )?;
+    let mut returns = Vec::new();
+    for bytes in list.chunks(RETURN_BYTES) {
+        let factor = number_in(&bytes[0..2]);
+        let weight = number_in(&bytes[2..4]);
+        let place = returns.len() as u64;
+        refuse_if(
+            factor > MOST_FACTOR || weight < 1 || weight > WHOLE,
+            8,
+            place,
+        )?;
+        returns.push(Return { factor, weight });
+    }
+    let weights: u64 = returns.iter().map(|r| r.weight).sum();
+    refuse_if(weights != WHOLE, 9, 0)?;
+    Ok(returns)
+}
+
+/// "A contract record is read whole before the return list is looked at."
+fn read_both(record: &[u8], list: &[u8]) -> Result<(Contract, Vec<Return>), Answer> {
+    let contract = read_contract(record)?;
+    let returns = read_returns(list)?;
+    Ok((contract, returns))
+}
+
+#[derive(Clone, Copy, Debug)]
+enum Behaviour {
+    Static,
+    Mixed,
+    Dynamic,
+}
+
+/// Refusal 10: "behaviour not 0 static, 1 mixed, 2 dynamic".
+fn read_behaviour(behaviour: u64) -> Result<Behaviour, Answer> {
+    match behaviour {
+        0 => Ok(Behaviour::Static),
+        1 => Ok(Behaviour::Mixed),
+        2 => Ok(Behaviour::Dynamic),
+        _ => Err(Answer {
+            number: 10,
+            place: 0,
+        }),
+    }
+}
+
+// --------------------------------------------------------------- One date
+
+/// "Let m be the smaller of G and A."
+fn m_of(c: &Contract, guarantee: u64) -> u64 {
+    c.level.min(guarantee)
+}
+
+/// "Dynamic: 0 to the larger of W and m." This is the end of that range.
+fn largest_amount(c: &Contract, account: u64, guarantee: u64) -> u64 {
+    account.max(m_of(c, guarantee))
+}
+
+/// "Admissible amounts t", smallest first.
+fn admissible(c: &Contract, behaviour: Behaviour, account: u64, guarantee: u64) -> Vec<u64> {
+    let m = m_of(c, guarantee);
+    match behaviour {
+        // "Static: m only."
+        Behaviour::Static => vec![m],
+        // "Mixed: m and, when W is above m, also W (surrender)."
+        Behaviour::Mixed if account > m => vec![m, account],
+        Behaviour::Mixed => vec![m],
+        // "Dynamic: 0 to the larger of W and m."
+        Behaviour::Dynamic => (0..=largest_amount(c, account, guarantee)).collect(),
+    }
+}
+
+/// "Penalty: rate × (t − m) where t is above m, else 0."
+fn penalty_on(c: &Contract, guarantee: u64, amount: u64) -> u64 {
+    c.penalty * amount.saturating_sub(m_of(c, guarantee))
+}
+
+/// "Cash: 10,000 × t less penalty."
+/// The rate is at most 10,000, so the penalty is never more than 10,000 × t.
+fn cash_for(c: &Contract, guarantee: u64, amount: u64) -> u64 {
+    UNIT * amount - penalty_on(c, guarantee, amount)
+}
+
+/// "Guarantee after: A − t if t is at most m; else the smaller of A − t and
+/// A × (W − t) / W rounded down, and never below 0."
+/// An admissible t above m is at most W, so there W is above 0.
+fn guarantee_after(c: &Contract, account: u64, guarantee: u64, amount: u64) -> u64 {
+    let less_amount = guarantee.saturating_sub(amount);
+    if amount <= m_of(c, guarantee) {
+        less_amount
+    } else {
+        less_amount.min(guarantee * (account - amount) / account)
+    }
+}
+
+/// "Balance after: W − t, never below 0."
+fn balance_after(account: u64, amount: u64) -> u64 {
+    account.saturating_sub(amount)
+}
+
+/// "next account = balance × factor × (10,000 − fee) / 100,000,000, rounded down a
+/// single time. A result above top is held at top."
+fn next_account(c: &Contract, balance: u64, factor: u64) -> u64 {
+    (balance * factor * (WHOLE - c.fee) / (WHOLE * WHOLE)).min(c.top)
+}
+
+// ----------------------------------------------------------------- Values
+
+/// "At maturity the value is 10,000 × the larger of W and A."
+fn maturity_value(account: u64, guarantee: u64) -> u64 {
+    UNIT * account.max(guarantee)
+}
+
+/// "discount × (sum of weight × value reached) / 10,000,000,000, rounded down once".
+/// A date adds at most 10,000 × 4,000 to a value, so a value is at most
+/// 1,600,000,000 (below 2^32) and the product at most 16 × 10^18 (below 2^64).
+fn discounted(c: &Contract, returns: &[Return], next: &[u32], balance: u64, guarantee: u64) -> u64 {
+    let mut sum = 0;
+    for r in returns {
+        let account = next_account(c, balance, r.factor);
+        sum += r.weight * u64::from(next[entry(c, account, guarantee)]);
+    }
+    c.discount * sum / 10_000_000_000
+}
+
+/// "a choice is worth its cash plus" the discounted sum.
+fn worth(c: &Contract, returns: &[Return], next: &[u32], w: u64, a: u64, amount: u64) -> u64 {
+    let balance = balance_after(w, amount);
+    let guarantee = guarantee_after(c, w, a, amount);
+    cash_for(c, a, amount) + discounted(c, returns, next, balance, guarantee)
+}
+
+/// "A state's value under a behaviour is the largest worth among its admissible
+/// amounts." "The recorded amount is the smallest among the best ones."
+/// Amounts come smallest first, so only a larger worth replaces the one held.
+fn best(
+    c: &Contract,
+    returns: &[Return],
+    next: &[u32],
+    w: u64,
+    a: u64,
+    b: Behaviour,
+) -> (u64, u64) {
+    let mut held = None;
+    for amount in admissible(c, b, w, a) {
+        let worth = worth(c, returns, next, w, a, amount);
+        match held {
+            Some((most, _)) if worth <= most => {}
+            _ => held = Some((worth, amount)),
+        }
+    }
+    held.unwrap_or((0, 0))
+}
+
+/// "Start: balance U and guarantee U, then the first return." "The contract's value
+/// is the same discounted and rounded sum over the first return, without cash."
+/// "the margin: value less 10,000 × premium".
+fn value_at_start(c: &Contract, returns: &[Return], first: &[u32]) -> (u32, i64) {
+    let value = discounted(c, returns, first, c.premium, c.premium);
+    (value as u32, value as i64 - (UNIT * c.premium) as i64)
+}
+
+// ------------------------------------------------------------ Lent slices
+
+/// "One layer has (top + 1) × (U + 1) entries".
+fn layer_size(c: &Contract) -> usize {
+    ((c.top + 1) * (c.premium + 1)) as usize
+}
+
+/// "the entry of (W, A) is W × (U + 1) + A".
+fn entry(c: &Contract, account: u64, guarantee: u64) -> usize {
+    (account * (c.premium + 1) + guarantee) as usize
+}
+
+/// "the layer of date i starts at entry (i − 1) × (top + 1) × (U + 1)".
+fn layer_start(c: &Contract, date: u64) -> usize {
+    (date as usize - 1) * layer_size(c)
+}
+
+/// "The working slice holds 32-bit numbers, two layers."
+fn work_size(c: &Contract) -> usize {
+    2 * layer_size(c)
+}
+
+/// The table has a layer for each decision date, "for i from 1 to N−1".
+fn table_size(c: &Contract) -> usize {
+    (c.dates as usize - 1) * layer_size(c)
+}
+
+/// "State: account W from 0 to top, guarantee A from 0 to U", in the order of entries.
+fn states(c: &Contract) -> impl Iterator<Item = (u64, u64)> {
+    let (top, premium) = (c.top, c.premium);
+    (0..=top).flat_map(move |w| (0..=premium).map(move |a| (w, a)))
+}
+
+/// The values of date N.
+fn maturity_layer(c: &Contract) -> Vec<u32> {
+    states(c)
+        .map(|(w, a)| maturity_value(w, a) as u32)
+        .collect()
+}
+
+/// "After success the first layer holds the values of date 1 and the second zeros."
+fn leave_work(work: &mut [u32], first: &[u32]) {
+    work[..first.len()].copy_from_slice(first);
+    work[first.len()..2 * first.len()].fill(0);
+}
+
+// ------------------------------------------------------------- Operations
+
+fn valued(result: Result<(u32, i64), Answer>) -> Valued {
+    let (told, (value, margin)) = match result {
+        Ok(figures) => (SUCCESS, figures),
+        Err(refusal) => (refusal, (0, 0)),
+    };
+    Valued {
+        number: told.number,
+        place: told.place,
+        value,
+        margin,
+    }
+}
+
+/// "checking a record": refusals 1 to 6.
+pub fn check(record: &[u8]) -> Answer {
+    answer(read_contract(record).map(|_| ()))
+}
+
+/// "valuing a contract": refusals 1 to 11.
+pub fn value(
+    record: &[u8],
+    list: &[u8],
+    behaviour: u64,
+    work: &mut [u32],
+    table: &mut [u16],
+) -> Valued {
+    valued(try_value(record, list, behaviour, work, table))
+}
+
+fn try_value(
+    record: &[u8],
+    list: &[u8],
+    behaviour: u64,
+    work: &mut [u32],
+    table: &mut [u16],
+) -> Result<(u32, i64), Answer> {
+    let (c, returns) = read_both(record, list)?;
+    let behaviour = read_behaviour(behaviour)?;
+    let short = work.len() < work_size(&c) || table.len() < table_size(&c);
+    refuse_if(short, 11, 0)?;
+
+    let mut next = maturity_layer(&c);
+    for date in (1..c.dates).rev() {
+        let mut values = Vec::with_capacity(next.len());
+        for (w, a) in states(&c) {
+            let (worth, amount) = best(&c, &returns, &next, w, a, behaviour);
+            values.push(worth as u32);
+            table[layer_start(&c, date) + entry(&c, w, a)] = amount as u16;
+        }
+        next = values;
+    }
+    leave_work(work, &next);
+    Ok(value_at_start(&c, &returns, &next))
+}
+
+/// "valuing a supplied withdrawal table": refusals 1 to 9, 11 and 14.
+pub fn value_table(record: &[u8], list: &[u8], work: &mut [u32], table: &[u16]) -> Valued {
+    valued(try_value_table(record, list, work, table))
+}
+
+fn try_value_table(
+    record: &[u8],
+    list: &[u8],
+    work: &mut [u32],
+    table: &[u16],
+) -> Result<(u32, i64), Answer> {
+    let (c, returns) = read_both(record, list)?;
+    let short = work.len() < work_size(&c) || table.len() < table_size(&c);
+    refuse_if(short, 11, 0)?;
+    check_table(&c, table)?;
+
+    let mut next = maturity_layer(&c);
+    for date in (1..c.dates).rev() {
+        let mut values = Vec::with_capacity(next.len());
+        for (w, a) in states(&c) {
+            let amount = u64::from(table[layer_start(&c, date) + entry(&c, w, a)]);
+            values.push(worth(&c, &returns, &next, w, a, amount) as u32);
+        }
+        next = values;
+    }
+    leave_work(work, &next);
+    Ok(value_at_start(&c, &returns, &next))
+}
+
+/// "A supplied table is checked in every entry, reachable or not, against the dynamic
+/// set". Refusal 14, "first bad table entry".
+fn check_table(c: &Contract, table: &[u16]) -> Result<(), Answer> {
+    for date in 1..c.dates {
+        for (w, a) in states(c) {
+            let place = layer_start(c, date) + entry(c, w, a);
+            let amount = u64::from(table[place]);
+            refuse_if(amount > largest_amount(c, w, a), 14, place as u64)?;
+        }
+    }
+    Ok(())
+}
+
+/// "booking one withdrawal": refusals 1 to 6, 11, 12 and 14.
+pub fn book(
+    record: &[u8],
+    date: u64,
+    account: u64,
+    guarantee: u64,
+    amount: u64,
+    buffer: &mut [u8],
+) -> Answer {
+    answer(try_book(record, date, account, guarantee, amount, buffer))
+}
+
+/// "A booking fills 16 bytes: cash (4), penalty (4), balance (2), guarantee (2), four
+/// zeros."
+fn try_book(
+    record: &[u8],
+    date: u64,
+    w: u64,
+    a: u64,
+    amount: u64,
+    buffer: &mut [u8],
+) -> Result<(), Answer> {
+    let c = read_contract(record)?;
+    refuse_if(buffer.len() != BOOKING_BYTES, 11, 0)?;
+    let no_decision = date < 1 || date > c.dates - 1;
+    refuse_if(no_decision || w > c.top || a > c.premium, 12, 0)?;
+    refuse_if(amount > largest_amount(&c, w, a), 14, 0)?;
+
+    let cash = cash_for(&c, a, amount) as u32;
+    let penalty = penalty_on(&c, a, amount) as u32;
+    let balance = balance_after(w, amount) as u16;
+    let guarantee = guarantee_after(&c, w, a, amount) as u16;
+    buffer[0..4].copy_from_slice(&cash.to_le_bytes());
+    buffer[4..8].copy_from_slice(&penalty.to_le_bytes());
+    buffer[8..10].copy_from_slice(&balance.to_le_bytes());
+    buffer[10..12].copy_from_slice(&guarantee.to_le_bytes());
+    buffer[12..16].fill(0);
+    Ok(())
+}
+
+/// "walking a contract along a given path": refusals 1 to 9, 11, 13 and 14.
+pub fn walk(
+    record: &[u8],
+    list: &[u8],
+    table: &[u16],
+    numbers: &[u16],
+    cash: &mut [u32],
+) -> Answer {
+    answer(try_walk(record, list, table, numbers, cash))
+}
+
+fn try_walk(
+    record: &[u8],
+    list: &[u8],
+    table: &[u16],
+    numbers: &[u16],
+    cash: &mut [u32],
+) -> Result<(), Answer> {
+    let (c, returns) = read_both(record, list)?;
+    let dates = c.dates as usize;
+    refuse_if(table.len() < table_size(&c) || cash.len() < dates, 11, 0)?;
+    check_numbers(&c, &returns, numbers)?;
+
+    // Kept apart until the end: a refusal on the way leaves the lent cash as it was.
+    let mut paid = Vec::with_capacity(dates);
+    let mut account = next_account(&c, c.premium, returns[usize::from(numbers[0])].factor);
+    let mut guarantee = c.premium;
+    for date in 1..c.dates {
+        let amount = u64::from(table[layer_start(&c, date) + entry(&c, account, guarantee)]);
+        refuse_if(amount > largest_amount(&c, account, guarantee), 14, date)?;
+        paid.push(cash_for(&c, guarantee, amount) as u32);
+        guarantee = guarantee_after(&c, account, guarantee, amount);
+        let balance = balance_after(account, amount);
+        let number = usize::from(numbers[date as usize]);
+        account = next_account(&c, balance, returns[number].factor);
+    }
+    paid.push(maturity_value(account, guarantee) as u32);
+    cash[..dates].copy_from_slice(&paid);
+    Ok(())
+}
+
+/// Refusal 13: "count not N (looked at first), or no such return"; place "first bad
+/// index; N if the count is wrong".
+fn check_numbers(c: &Contract, returns: &[Return], numbers: &[u16]) -> Result<(), Answer> {
+    refuse_if(numbers.len() as u64 != c.dates, 13, c.dates)?;
+    for (index, number) in numbers.iter().enumerate() {
+        refuse_if(usize::from(*number) >= returns.len(), 13, index as u64)?;
+    }
+    Ok(())
+}
+
+// ------------------------------------------------------------ The program
+
+/// What the program `gmwbval` prints for the bytes of its two files. "A refusal prints
+/// only `refused`, number and place, parted by single spaces."
+pub fn program(record: &[u8], list: &[u8]) -> String {
+    match try_program(record, list) {
+        Ok(lines) => lines,
+        Err(refusal) => format!("refused {} {}\n", refusal.number, refusal.place),
+    }
+}
+
+/// "The first three lines give each behaviour's name and the contract's value. Each
+/// later line: return number, account and guarantee at date 1, recorded static, mixed
+/// and dynamic amounts; none for N = 1." "The program lends a working slice of 8,192
+/// numbers and a table of 16,384."
+fn try_program(record: &[u8], list: &[u8]) -> Result<String, Answer> {
+    let mut work = vec![0; 8_192];
+    let mut tables = [vec![0; 16_384], vec![0; 16_384], vec![0; 16_384]];
+    let mut lines = String::new();
+    for (behaviour, name) in ["static", "mixed", "dynamic"].into_iter().enumerate() {
+        let table = &mut tables[behaviour];
+        let (value, _) = try_value(record, list, behaviour as u64, &mut work, table)?;
+        lines += &format!("{name} {value}\n");
+    }
+    let (c, returns) = read_both(record, list)?;
+    if c.dates > 1 {
+        for (number, r) in returns.iter().enumerate() {
+            let account = next_account(&c, c.premium, r.factor);
+            let place = entry(&c, account, c.premium);
+            let amounts = [tables[0][place], tables[1][place], tables[2][place]];
+            let [fixed, mixed, free] = amounts;
+            let guarantee = c.premium;
+            lines += &format!("{number} {account} {guarantee} {fixed} {mixed} {free}\n");
+        }
+    }
+    Ok(lines)
+}

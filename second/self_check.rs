@@ -1,0 +1,1049 @@
+//! `second self-check`: the figures of document 01's section "Contracts worked by
+//! hand", every refusal on both sides of its boundary, the order of the checks, what is
+//! left in the lent slices, and properties on random small contracts.
+//!
+//! The operations are only called from outside here, as an engine's caller would.
+
+use crate::script::{answer, digest, fill, MOD_16, MOD_32, MOD_8};
+use crate::{gmwb, text};
+use std::fmt::Debug;
+
+/// Counts the checks made and failed.
+struct Tally {
+    checks: u64,
+    failed: u64,
+}
+
+impl Tally {
+    fn same<T: PartialEq + Debug>(&mut self, name: &str, got: T, expected: T) {
+        self.checks += 1;
+        if got != expected {
+            self.failed += 1;
+            eprintln!("failed: {name}: got {got:?}, expected {expected:?}");
+        }
+    }
+}
+
+/// Makes all checks; gives how many were made and how many failed.
+pub fn run() -> (u64, u64) {
+    let mut t = Tally {
+        checks: 0,
+        failed: 0,
+    };
+    marked_values(&mut t);
+    marked_states(&mut t);
+    marked_bookings(&mut t);
+    printed(&mut t);
+    printed_within_slices(&mut t);
+    record_boundaries(&mut t);
+    list_boundaries(&mut t);
+    slice_boundaries(&mut t);
+    booking_boundaries(&mut t);
+    number_boundaries(&mut t);
+    amount_boundaries(&mut t);
+    order_of_record_checks(&mut t);
+    order_of_later_checks(&mut t);
+    left_in_slices(&mut t);
+    rounded_once(&mut t);
+    large_values(&mut t);
+    script_lines(&mut t);
+    let mut draw = Draw(20_240_601);
+    for k in 0..48 {
+        random_contract(&mut t, &mut draw, k);
+    }
+    for k in 0..200 {
+        random_walk(&mut t, &mut draw, k);
+    }
+    for _ in 0..50 {
+        random_text(&mut t, &mut draw);
+    }
+    for _ in 0..2_000 {
+        random_bytes(&mut t, &mut draw);
+    }
+    (t.checks, t.failed)
+}
+
+// ------------------------------------------------------- Contracts and calls
+
+#[derive(Clone, Copy, Debug)]
+struct Terms {
+    premium: u16,
+    level: u16,
+    top: u16,
+    dates: u16,
+    fee: u16,
+    penalty: u16,
+    discount: u32,
+}
+
+const P: Terms = Terms {
+    premium: 10,
+    level: 5,
+    top: 20,
+    dates: 2,
+    fee: 0,
+    penalty: 1_000,
+    discount: 1_000_000,
+};
+
+const Q: Terms = Terms {
+    fee: 2_000,
+    penalty: 0,
+    ..P
+};
+
+const P_RETURNS: [(u16, u16); 2] = [(5_000, 5_000), (15_000, 5_000)];
+
+impl Terms {
+    fn record(&self) -> Vec<u8> {
+        let mut bytes = Vec::new();
+        for field in [self.premium, self.level, self.top, self.dates] {
+            bytes.extend(field.to_le_bytes());
+        }
+        bytes.extend(self.fee.to_le_bytes());
+        bytes.extend(self.penalty.to_le_bytes());
+        bytes.extend(self.discount.to_le_bytes());
+        bytes
+    }
+
+    fn layer(&self) -> usize {
+        (usize::from(self.top) + 1) * (usize::from(self.premium) + 1)
+    }
+
+    fn entry(&self, w: u64, a: u64) -> usize {
+        w as usize * (usize::from(self.premium) + 1) + a as usize
+    }
+
+    fn m(&self, a: u64) -> u64 {
+        a.min(u64::from(self.level))
+    }
+
+    fn states(&self) -> Vec<(u64, u64)> {
+        let each = |w| (0..=u64::from(self.premium)).map(move |a| (w, a));
+        (0..=u64::from(self.top)).flat_map(each).collect()
+    }
+
+    /// Cash, penalty, balance and guarantee of a booking, in signed numbers.
+    fn figures(&self, w: u64, a: u64, amount: u64) -> [u64; 4] {
+        let (m, w, a, amount) = (self.m(a) as i64, w as i64, a as i64, amount as i64);
+        let penalty = i64::from(self.penalty) * (amount - m).max(0);
+        let mut guarantee = a - amount;
+        if amount > m {
+            guarantee = guarantee.min(a * (w - amount) / w).max(0);
+        }
+        let cash = 10_000 * amount - penalty;
+        [cash, penalty, (w - amount).max(0), guarantee].map(|x| x as u64)
+    }
+
+    fn next(&self, balance: u64, factor: u16) -> u64 {
+        let product = balance * u64::from(factor) * (10_000 - u64::from(self.fee));
+        (product / 100_000_000).min(u64::from(self.top))
+    }
+}
+
+fn list(returns: &[(u16, u16)]) -> Vec<u8> {
+    let mut bytes = Vec::new();
+    for (factor, weight) in returns {
+        bytes.extend(factor.to_le_bytes());
+        bytes.extend(weight.to_le_bytes());
+    }
+    bytes
+}
+
+fn filled_8(length: usize) -> Vec<u8> {
+    (0..length)
+        .map(|i| fill(3, i as u64, MOD_8) as u8)
+        .collect()
+}
+
+fn filled_16(length: usize) -> Vec<u16> {
+    (0..length)
+        .map(|i| fill(5, i as u64, MOD_16) as u16)
+        .collect()
+}
+
+fn filled_32(length: usize) -> Vec<u32> {
+    (0..length)
+        .map(|i| fill(9, i as u64, MOD_32) as u32)
+        .collect()
+}
+
+/// A valuation with slices of exactly the needed length.
+fn valued(
+    terms: &Terms,
+    returns: &[(u16, u16)],
+    behaviour: u64,
+) -> (gmwb::Valued, Vec<u32>, Vec<u16>) {
+    let mut work = filled_32(2 * terms.layer());
+    let mut table = filled_16((usize::from(terms.dates) - 1) * terms.layer());
+    let (record, list) = (terms.record(), list(returns));
+    let answer = gmwb::value(&record, &list, behaviour, &mut work, &mut table);
+    (answer, work, table)
+}
+
+fn value_of(terms: &Terms, behaviour: u64) -> (u64, u32, i64) {
+    let answer = valued(terms, &P_RETURNS, behaviour).0;
+    (answer.number, answer.value, answer.margin)
+}
+
+/// A booking: number and place, then cash, penalty, balance, guarantee.
+fn booked(terms: &Terms, date: u64, w: u64, a: u64, amount: u64) -> (u64, u64, [u64; 4]) {
+    let mut b = filled_8(16);
+    let answer = gmwb::book(&terms.record(), date, w, a, amount, &mut b);
+    let cash = u64::from(u32::from_le_bytes([b[0], b[1], b[2], b[3]]));
+    let penalty = u64::from(u32::from_le_bytes([b[4], b[5], b[6], b[7]]));
+    let balance = u64::from(u16::from_le_bytes([b[8], b[9]]));
+    let guarantee = u64::from(u16::from_le_bytes([b[10], b[11]]));
+    let figures = [cash, penalty, balance, guarantee];
+    (answer.number, answer.place, figures)
+}
+
+// -------------------------------------------------- Contracts worked by hand
+
+fn marked_values(t: &mut Tally) {
+    t.same("case 1 static", value_of(&P, 0), (0, 125_000, 25_000));
+    t.same("case 1 mixed", value_of(&P, 1), (0, 125_000, 25_000));
+    t.same("case 1 dynamic", value_of(&P, 2), (0, 127_500, 27_500));
+    let short = Terms { dates: 1, ..P };
+    for behaviour in 0..3 {
+        t.same("case 4", value_of(&short, behaviour), (0, 125_000, 25_000));
+    }
+    let discounted = Terms {
+        discount: 950_000,
+        ..P
+    };
+    t.same("case 5", value_of(&discounted, 0), (0, 115_187, 15_187));
+    t.same("case 6 static", value_of(&Q, 0), (0, 107_500, 7_500));
+    t.same("case 6 mixed", value_of(&Q, 1), (0, 110_000, 10_000));
+    t.same("case 6 dynamic", value_of(&Q, 2), (0, 110_000, 10_000));
+    let lower = Terms { discount: 1, ..P };
+    t.same("margin below 0", value_of(&lower, 0), (0, 0, -100_000));
+}
+
+fn marked_states(t: &mut Tally) {
+    let (_, work, table) = valued(&P, &P_RETURNS, 2);
+    let place = P.entry(15, 10);
+    t.same("case 2", (work[place], table[place]), (155_000, 1));
+    let place = P.entry(5, 10);
+    t.same("case 3 dynamic", (work[place], table[place]), (100_000, 0));
+    let (_, work, table) = valued(&P, &P_RETURNS, 1);
+    t.same("case 3 mixed", (work[place], table[place]), (100_000, 5));
+    let place = Q.entry(12, 10);
+    let (_, _, table) = valued(&Q, &P_RETURNS, 1);
+    t.same("case 7 mixed", table[place], 12);
+    let (_, _, table) = valued(&Q, &P_RETURNS, 2);
+    t.same("case 7 dynamic", table[place], 0);
+}
+
+fn marked_bookings(t: &mut Tally) {
+    let got = booked(&P, 1, 15, 10, 6);
+    t.same("case 8", got, (0, 0, [59_000, 1_000, 9, 4]));
+    let got = booked(&P, 1, 15, 10, 15);
+    t.same("case 9", got, (0, 0, [140_000, 10_000, 0, 0]));
+    let (number, place, _) = booked(&P, 1, 5, 10, 6);
+    t.same("case 10", (number, place), (14, 0));
+    // Not marked: the amount m on an account below it, and nothing on an empty account.
+    let got = booked(&P, 1, 3, 10, 5);
+    t.same("m above the account", got, (0, 0, [50_000, 0, 0, 5]));
+    let got = booked(&P, 1, 0, 10, 0);
+    t.same("nothing drawn", got, (0, 0, [0, 0, 0, 10]));
+    // Above m: a guarantee below the amount, then one above the account, where the
+    // proportional reset is the smaller (10 × 4 / 7 is 5.7).
+    let got = booked(&P, 1, 15, 4, 6);
+    t.same("guarantee at 0", got, (0, 0, [58_000, 2_000, 9, 0]));
+    let low = Terms { level: 1, ..P };
+    let got = booked(&low, 1, 7, 10, 3);
+    t.same("proportional", got, (0, 0, [28_000, 2_000, 4, 5]));
+}
+
+fn printed(t: &mut Tally) {
+    let expected = "static 125000\nmixed 125000\ndynamic 127500\n0 5 10 5 5 0\n1 15 10 5 5 1\n";
+    let (record, returns) = (P.record(), list(&P_RETURNS));
+    t.same(
+        "printed P",
+        gmwb::program(&record, &returns),
+        expected.into(),
+    );
+    let packed = text::pack(include_str!("example-p.txt"));
+    t.same(
+        "example-p.txt",
+        packed,
+        Ok((record.clone(), returns.clone())),
+    );
+    let short = Terms { dates: 1, ..P }.record();
+    let expected = "static 125000\nmixed 125000\ndynamic 125000\n";
+    t.same(
+        "printed N 1",
+        gmwb::program(&short, &returns),
+        expected.into(),
+    );
+    for (record, list, expected) in [
+        (&[][..], &[][..], "refused 1 0\n"),
+        (&record[..], &[][..], "refused 7 0\n"),
+        (
+            &record[..],
+            &list(&[(0, 1), (30_001, 1)])[..],
+            "refused 8 1\n",
+        ),
+    ] {
+        t.same(
+            "printed refusal",
+            gmwb::program(record, list),
+            expected.into(),
+        );
+    }
+}
+
+/// Two layers of 4,096 fit in 8,192 numbers, four in a table of 16,384.
+fn printed_within_slices(t: &mut Tally) {
+    for (premium, top, dates, fits) in [
+        (1, 2_047, 1, true),
+        (1, 2_048, 1, false),
+        (1, 2_047, 5, true),
+        (1, 2_047, 6, false),
+    ] {
+        let terms = Terms {
+            premium,
+            level: 1,
+            top,
+            dates,
+            ..P
+        };
+        let single = list(&[(0, 10_000)]);
+        let refused = gmwb::program(&terms.record(), &single) == "refused 11 0\n";
+        t.same("the program's slices", refused, !fits);
+    }
+}
+
+// ------------------------------------------------------------------ Refusals
+
+/// The input of all five operations; each takes its part.
+#[derive(Clone)]
+struct Call {
+    record: Vec<u8>,
+    list: Vec<u8>,
+    behaviour: u64,
+    work: usize,
+    table: Vec<u16>,
+    date: u64,
+    account: u64,
+    guarantee: u64,
+    amount: u64,
+    buffer: usize,
+    numbers: Vec<u16>,
+    cash: usize,
+}
+
+/// Number and place from check, value, value_table, book and walk.
+type Five = [(u64, u64); 5];
+
+const FINE: Five = [(0, 0); 5];
+
+/// A fault in the record is refused by all five.
+fn record_fault(number: u64) -> Five {
+    [(number, 0); 5]
+}
+
+/// A fault in the list is refused by the three that take one.
+fn list_fault(number: u64, place: u64) -> Five {
+    let refused = (number, place);
+    [(0, 0), refused, refused, (0, 0), refused]
+}
+
+/// A call that all five operations take: a table of zeros, slices of the exact length.
+fn good(terms: &Terms, returns: &[(u16, u16)]) -> Call {
+    let decisions = usize::from(terms.dates).saturating_sub(1);
+    Call {
+        record: terms.record(),
+        list: list(returns),
+        behaviour: 0,
+        work: 2 * terms.layer(),
+        table: vec![0; decisions * terms.layer()],
+        date: 1,
+        account: 0,
+        guarantee: 0,
+        amount: 0,
+        buffer: 16,
+        numbers: vec![0; usize::from(terms.dates)],
+        cash: usize::from(terms.dates),
+    }
+}
+
+fn good_p() -> Call {
+    good(&P, &P_RETURNS)
+}
+
+/// Makes the five calls: number and place of each, and whether its figures are 0 and
+/// its slices as before.
+fn called(c: &Call) -> (Five, [bool; 5]) {
+    let checked = gmwb::check(&c.record);
+    let mut got = [(checked.number, checked.place); 5];
+    let mut kept = [true; 5];
+
+    let (mut work, mut table) = (filled_32(c.work), filled_16(c.table.len()));
+    let v = gmwb::value(&c.record, &c.list, c.behaviour, &mut work, &mut table);
+    got[1] = (v.number, v.place);
+    kept[1] = work == filled_32(c.work) && table == filled_16(c.table.len());
+    kept[1] &= v.value == 0 && v.margin == 0;
+
+    let mut work = filled_32(c.work);
+    let v = gmwb::value_table(&c.record, &c.list, &mut work, &c.table);
+    got[2] = (v.number, v.place);
+    kept[2] = work == filled_32(c.work) && v.value == 0 && v.margin == 0;
+
+    let mut buffer = filled_8(c.buffer);
+    let (w, a) = (c.account, c.guarantee);
+    let b = gmwb::book(&c.record, c.date, w, a, c.amount, &mut buffer);
+    got[3] = (b.number, b.place);
+    kept[3] = buffer == filled_8(c.buffer);
+
+    let mut cash = filled_32(c.cash);
+    let b = gmwb::walk(&c.record, &c.list, &c.table, &c.numbers, &mut cash);
+    got[4] = (b.number, b.place);
+    kept[4] = cash == filled_32(c.cash);
+    (got, kept)
+}
+
+impl Tally {
+    /// The five answers are those expected, and a refusal has changed nothing.
+    fn five(&mut self, name: &str, call: &Call, expected: Five) {
+        let got = self.refusals_change_nothing(name, call);
+        self.same(name, got, expected);
+    }
+
+    fn refusals_change_nothing(&mut self, name: &str, call: &Call) -> Five {
+        let (got, kept) = called(call);
+        for (i, (number, _)) in got.into_iter().enumerate() {
+            let sound = number == 0 || kept[i];
+            let name = format!("{name}: slices and figures of call {i}");
+            self.same(&name, sound, true);
+        }
+        got
+    }
+
+    fn terms(&mut self, name: &str, terms: Terms, number: u64) {
+        let call = good(&terms, &P_RETURNS);
+        // Slices for a record out of range are not sized by it.
+        let call = if number == 0 {
+            call
+        } else {
+            Call {
+                record: call.record,
+                ..good_p()
+            }
+        };
+        let mut expected = record_fault(number);
+        if number == 0 && terms.dates == 1 {
+            expected[3] = (12, 0);
+        }
+        self.five(name, &call, expected);
+    }
+}
+
+#[rustfmt::skip]
+fn record_boundaries(t: &mut Tally) {
+    t.five("P", &good_p(), FINE);
+    for length in [0, 1, 15, 17, 32] {
+        let mut record = P.record();
+        record.resize(length, 0);
+        t.five("record length", &Call { record, ..good_p() }, record_fault(1));
+    }
+    t.terms("top 4,000", Terms { top: 4_000, ..P }, 0);
+    t.terms("top 4,001", Terms { top: 4_001, ..P }, 2);
+    t.terms("top 65,535", Terms { top: 65_535, ..P }, 2);
+    t.terms("premium at top", Terms { top: 10, ..P }, 0);
+    t.terms("premium above top", Terms { top: 9, ..P }, 2);
+    t.terms("premium 0", Terms { premium: 0, ..P }, 2);
+    t.terms("premium and top 0", Terms { premium: 0, top: 0, ..P }, 2);
+    t.terms("premium 1", Terms { premium: 1, level: 1, top: 1, ..P }, 0);
+    t.terms("level 0", Terms { level: 0, ..P }, 3);
+    t.terms("level 1", Terms { level: 1, ..P }, 0);
+    t.terms("level at premium", Terms { level: 10, ..P }, 0);
+    t.terms("level above premium", Terms { level: 11, ..P }, 3);
+    t.terms("dates 0", Terms { dates: 0, ..P }, 4);
+    t.terms("dates 1", Terms { dates: 1, ..P }, 0);
+    t.terms("dates 40", Terms { dates: 40, ..P }, 0);
+    t.terms("dates 41", Terms { dates: 41, ..P }, 4);
+    t.terms("fee 10,000", Terms { fee: 10_000, ..P }, 0);
+    t.terms("fee 10,001", Terms { fee: 10_001, ..P }, 5);
+    t.terms("penalty 0", Terms { penalty: 0, ..P }, 0);
+    t.terms("penalty 10,000", Terms { penalty: 10_000, ..P }, 0);
+    t.terms("penalty 10,001", Terms { penalty: 10_001, ..P }, 5);
+    t.terms("discount 0", Terms { discount: 0, ..P }, 6);
+    t.terms("discount 1", Terms { discount: 1, ..P }, 0);
+    t.terms("discount 1,000,001", Terms { discount: 1_000_001, ..P }, 6);
+}
+
+fn list_boundaries(t: &mut Tally) {
+    for length in [0, 1, 3, 5, 7, 255, 257, 260, 1_024] {
+        let call = Call {
+            list: vec![0; length],
+            ..good_p()
+        };
+        t.five("list length", &call, list_fault(7, 0));
+    }
+    let most: Vec<(u16, u16)> = (0..64)
+        .map(|i| (i, if i < 16 { 157 } else { 156 }))
+        .collect();
+    t.five("64 records", &good(&P, &most), FINE);
+    let whole = 10_000;
+    for (returns, expected) in [
+        (vec![(30_000, whole)], FINE),
+        (vec![(30_001, whole)], list_fault(8, 0)),
+        (vec![(0, whole)], FINE),
+        (vec![(0, whole + 1)], list_fault(8, 0)),
+        (vec![(0, 0), (0, whole)], list_fault(8, 0)),
+        (vec![(0, whole), (0, 0)], list_fault(8, 1)),
+        (vec![(0, 1), (0, whole - 1)], FINE),
+        (vec![(0, 1), (0, 1), (65_535, 1), (0, 0)], list_fault(8, 2)),
+        (vec![(7, 5_000), (7, 5_000)], FINE),
+        (vec![(0, whole - 1)], list_fault(9, 0)),
+        (vec![(0, whole), (0, 1)], list_fault(9, 0)),
+        (vec![(0, whole); 64], list_fault(9, 0)),
+    ] {
+        t.five("list", &good(&P, &returns), expected);
+    }
+}
+
+#[rustfmt::skip]
+fn slice_boundaries(t: &mut Tally) {
+    let short = (11, 0);
+    let fine = (0, 0);
+    let p = good_p();
+    for work in [0, 231, 461] {
+        let call = Call { work, ..p.clone() };
+        t.five("work one short", &call, [fine, short, short, fine, fine]);
+    }
+    t.five("work longer", &Call { work: 463, ..p.clone() }, FINE);
+    for length in [0, 230] {
+        let call = Call { table: vec![0; length], ..p.clone() };
+        t.five("table one short", &call, [fine, short, short, fine, short]);
+    }
+    t.five("table longer", &Call { table: vec![0; 232], ..p.clone() }, FINE);
+    for cash in [0, 1] {
+        let call = Call { cash, ..p.clone() };
+        t.five("cash one short", &call, [fine, fine, fine, fine, short]);
+    }
+    t.five("cash longer", &Call { cash: 3, ..p.clone() }, FINE);
+    for buffer in [0, 15, 17] {
+        let call = Call { buffer, ..p.clone() };
+        t.five("buffer length", &call, [fine, fine, fine, short, fine]);
+    }
+    for behaviour in [1, 2] {
+        t.five("behaviour", &Call { behaviour, ..p.clone() }, FINE);
+    }
+    for behaviour in [3, 256, u64::MAX] {
+        let call = Call { behaviour, ..p.clone() };
+        t.five("no behaviour", &call, [fine, (10, 0), fine, fine, fine]);
+    }
+    let single = good(&Terms { dates: 1, ..P }, &P_RETURNS);
+    t.same("empty table for N 1", single.table.len(), 0);
+    t.five("N 1", &single, [fine, fine, fine, (12, 0), fine]);
+}
+
+fn booking_boundaries(t: &mut Tally) {
+    let three = Terms { dates: 3, ..P };
+    for (date, account, guarantee, amount, number) in [
+        (0, 0, 0, 0, 12),
+        (1, 0, 0, 0, 0),
+        (2, 0, 0, 0, 0),
+        (3, 0, 0, 0, 12),
+        (u64::MAX, 0, 0, 0, 12),
+        (1, 20, 0, 0, 0),
+        (1, 21, 0, 0, 12),
+        (1, u64::MAX, 0, u64::MAX, 12),
+        (1, 0, 10, 0, 0),
+        (1, 0, 11, 0, 12),
+        (1, 0, u64::MAX, 0, 12),
+        (1, 20, 10, 20, 0),
+        (1, 20, 10, 21, 14),
+        (1, 3, 10, 5, 0),
+        (1, 3, 10, 6, 14),
+        (1, 0, 2, 2, 0),
+        (1, 0, 2, 3, 14),
+        (1, 0, 0, 1, 14),
+        (1, 20, 10, u64::MAX, 14),
+    ] {
+        let call = Call {
+            date,
+            account,
+            guarantee,
+            amount,
+            ..good(&three, &P_RETURNS)
+        };
+        let name = format!("booking {amount} at date {date}, ({account}, {guarantee})");
+        t.five(&name, &call, [(0, 0), (0, 0), (0, 0), (number, 0), (0, 0)]);
+    }
+}
+
+fn number_boundaries(t: &mut Tally) {
+    let three = Terms { dates: 3, ..P };
+    for (numbers, place) in [
+        (vec![1, 1, 1], None),
+        (vec![], Some(3)),
+        (vec![9, 9], Some(3)),
+        (vec![9, 9, 9, 9], Some(3)),
+        (vec![2, 0, 0], Some(0)),
+        (vec![0, 2, 65_535], Some(1)),
+        (vec![1, 1, 2], Some(2)),
+    ] {
+        let name = format!("return numbers {numbers:?}");
+        let call = Call {
+            numbers,
+            ..good(&three, &P_RETURNS)
+        };
+        let mut expected = FINE;
+        if let Some(place) = place {
+            expected[4] = (13, place);
+        }
+        t.five(&name, &call, expected);
+    }
+}
+
+/// The table's first amounts beyond the dynamic set, met by the walk or not. With a
+/// table of zeros and return 1 always, three dates meet (15, 10), then (20, 10).
+fn amount_boundaries(t: &mut Tally) {
+    let terms = Terms { dates: 3, ..P };
+    let second = terms.layer();
+    let (met_1, met_2) = (terms.entry(15, 10), second + terms.entry(20, 10));
+    let (first, last) = (terms.entry(0, 0), second + terms.entry(20, 9));
+    let (fine, walk_1, walk_2) = ((0, 0), (14, 1), (14, 2));
+    for (entries, found, walked) in [
+        (vec![(met_1, 15)], None, fine),
+        (vec![(met_1, 16)], Some(met_1), walk_1),
+        (vec![(met_1, 65_535)], Some(met_1), walk_1),
+        (vec![(met_2, 20)], None, fine),
+        (vec![(met_2, 21)], Some(met_2), walk_2),
+        (vec![(met_1, 16), (met_2, 21)], Some(met_1), walk_1),
+        (vec![(first, 1)], Some(first), fine),
+        (vec![(first, 1), (met_2, 21)], Some(first), walk_2),
+        (vec![(last, 21)], Some(last), fine),
+        (vec![(terms.entry(3, 10), 5)], None, fine),
+        (
+            vec![(terms.entry(3, 10), 6)],
+            Some(terms.entry(3, 10)),
+            fine,
+        ),
+        (vec![(second + first, 1)], Some(second + first), fine),
+        (vec![(2 * second, 1)], None, fine),
+    ] {
+        let mut call = good(&terms, &P_RETURNS);
+        call.numbers = vec![1, 1, 1];
+        call.table.push(0);
+        for (place, amount) in &entries {
+            call.table[*place] = *amount;
+        }
+        let found = found.map_or(fine, |place| (14, place as u64));
+        let name = format!("table with {entries:?}");
+        t.five(&name, &call, [fine, fine, found, fine, walked]);
+    }
+}
+
+// -------------------------------------------------------- Order of the checks
+
+/// Everything wrong at once, then put right in the order of the table.
+fn all_wrong() -> (Terms, Call) {
+    let terms = Terms {
+        premium: 0,
+        level: 0,
+        top: 20,
+        dates: 0,
+        fee: 10_001,
+        penalty: 10_001,
+        discount: 0,
+    };
+    let call = Call {
+        list: vec![255; 3],
+        behaviour: 3,
+        work: 0,
+        table: Vec::new(),
+        date: 0,
+        account: 21,
+        amount: 99,
+        buffer: 15,
+        numbers: Vec::new(),
+        cash: 0,
+        ..good_p()
+    };
+    (terms, call)
+}
+
+fn order_of_record_checks(t: &mut Tally) {
+    let (mut terms, mut call) = all_wrong();
+    let mut step = |number: u64, terms: &Terms| {
+        call.record = terms.record();
+        t.five("order of the record's checks", &call, record_fault(number));
+    };
+    step(2, &terms);
+    terms.premium = 10;
+    step(3, &terms);
+    terms.level = 5;
+    step(4, &terms);
+    terms.dates = 2;
+    step(5, &terms);
+    terms.fee = 0;
+    step(5, &terms);
+    terms.penalty = 1_000;
+    step(6, &terms);
+    call.record.pop();
+    t.five("order: record length first", &call, record_fault(1));
+}
+
+fn order_of_later_checks(t: &mut Tally) {
+    let (_, mut call) = all_wrong();
+    let name = "order of the later checks";
+    let (fine, short) = ((0, 0), (11, 0));
+    t.five(name, &call, [fine, (7, 0), (7, 0), short, (7, 0)]);
+    call.list = list(&[(0, 1), (30_001, 1)]);
+    t.five(name, &call, [fine, (8, 1), (8, 1), short, (8, 1)]);
+    call.list = list(&[(0, 1), (30_000, 1)]);
+    t.five(name, &call, [fine, (9, 0), (9, 0), short, (9, 0)]);
+    call.list = list(&P_RETURNS);
+    t.five(name, &call, [fine, (10, 0), short, short, short]);
+    call.behaviour = 2;
+    call.buffer = 16;
+    t.five(name, &call, [fine, short, short, (12, 0), short]);
+    call.work = 462;
+    call.cash = 2;
+    call.date = 1;
+    t.five(name, &call, [fine, short, short, (12, 0), short]);
+    call.table = vec![99; 231];
+    call.account = 20;
+    t.five(name, &call, [fine, fine, (14, 0), (14, 0), (13, 2)]);
+    call.numbers = vec![0, 2];
+    call.amount = 20;
+    t.five(name, &call, [fine, fine, (14, 0), fine, (13, 1)]);
+    call.numbers = vec![0, 1];
+    t.five(name, &call, [fine, fine, (14, 0), fine, (14, 1)]);
+}
+
+// ------------------------------------------------------- After a success
+
+/// Slices longer than needed: the parts named by the document, and the rest as before.
+fn left_in_slices(t: &mut Tally) {
+    let (record, returns, layer) = (P.record(), list(&P_RETURNS), P.layer());
+    let (mut work, mut table) = (filled_32(2 * layer + 9), filled_16(layer + 9));
+    gmwb::value(&record, &returns, 2, &mut work, &mut table);
+    let second_zero = work[layer..2 * layer].iter().all(|x| *x == 0);
+    t.same("second layer zeros", second_zero, true);
+    let rest = filled_32(2 * layer + 9)[2 * layer..].to_vec();
+    t.same("work beyond", work[2 * layer..].to_vec(), rest.clone());
+    let beyond = filled_16(layer + 9)[layer..].to_vec();
+    t.same("table beyond", table[layer..].to_vec(), beyond);
+
+    let mut again = filled_32(2 * layer + 9);
+    gmwb::value_table(&record, &returns, &mut again, &table);
+    t.same("work after a supplied table", again, work);
+
+    let mut cash = filled_32(4);
+    let answer = gmwb::walk(&record, &returns, &table, &[1, 0], &mut cash);
+    t.same("walk", (answer.number, answer.place), (0, 0));
+    // At (15, 10) the table draws 1; balance 14 falls to 7 beside guarantee 9.
+    t.same("cash of the walk", &cash[..2], &[10_000, 90_000][..]);
+    t.same("cash beyond", &cash[2..], &filled_32(4)[2..]);
+
+    let short = Terms { dates: 1, ..P };
+    let (_, work, _) = valued(&short, &P_RETURNS, 0);
+    for (w, a) in short.states() {
+        let expected = (10_000 * w.max(a)) as u32;
+        t.same("N 1: maturity values", work[short.entry(w, a)], expected);
+    }
+}
+
+/// "rounded down a single time": 3 × 1.5 × 0.9 = 4.05 gives 4. Rounding after the factor
+/// too would give 3.
+fn rounded_once(t: &mut Tally) {
+    let terms = Terms {
+        premium: 3,
+        level: 1,
+        fee: 1_000,
+        ..P
+    };
+    let single = list(&[(15_000, 10_000)]);
+    let got = gmwb::program(&terms.record(), &single);
+    let account = got.lines().nth(3).and_then(|l| l.split(' ').nth(1));
+    t.same("rounded once", account, Some("4"));
+}
+
+/// Close to the largest values there are: on an account of 4,000 that triples, 2,666
+/// can be drawn on each of 39 dates, and 4,000 remain.
+fn large_values(t: &mut Tally) {
+    let terms = Terms {
+        premium: 1,
+        level: 1,
+        top: 4_000,
+        dates: 40,
+        penalty: 0,
+        ..P
+    };
+    let mut table = Vec::new();
+    for _ in 1..terms.dates {
+        let keep = terms
+            .states()
+            .into_iter()
+            .map(|(w, _)| (w - w.div_ceil(3)) as u16);
+        table.extend(keep);
+    }
+    let mut work = vec![0; 2 * terms.layer()];
+    let single = list(&[(30_000, 10_000)]);
+    let v = gmwb::value_table(&terms.record(), &single, &mut work, &table);
+    t.same("large values: accepted", v.number, 0);
+    let expected = 39 * 26_660_000 + 40_000_000;
+    t.same("large values", work[terms.entry(4_000, 0)], expected);
+}
+
+/// Answers to script lines, with digests worked out apart. T is the least contract: an
+/// account and a guarantee of 1, one date, one return that changes nothing.
+fn script_lines(t: &mut Tally) {
+    let p = "0a000500140002000000e80340420f00";
+    let least = "01000100010001000000000040420f00";
+    let valued = "0 0 10000 0 3700988814 7 0,10000,10000,10000,0,0,0,0 -";
+    t.same("digest of nothing", digest::<u32>(&[]), 7);
+    t.same("digest of 0, 5", digest(&[0u16, 5]), (7 * 31 + 1) * 31 + 6);
+    for (line, expected) in [
+        ("check P", "0 0"),
+        ("check -", "1 0"),
+        ("check 00", "1 0"),
+        ("value T 10271027 0 8:5 -", valued),
+        ("value_table T 10271027 8:5 -", valued),
+        ("book P 1 15 10 6 3:250", "11 0 454051 fa8918"),
+        ("book P 1 15 10 6 2:9:1", "11 0 6759 0000"),
+        ("book P 1 15 10 6 -", "11 0 7 -"),
+        ("walk T 10271027 - 0 2:9", "0 0 7 324687 - 10000,7928"),
+    ] {
+        let line = line.replace('P', p).replace('T', least);
+        t.same(&line, answer(&line, true), Ok(expected.into()));
+    }
+    let booked = answer(&format!("book {p} 1 15 10 6 16:4"), true);
+    let ends = booked.is_ok_and(|a| a.ends_with(" 78e60000e80300000900040000000000"));
+    t.same("booking in a script", ends, true);
+    for line in [
+        "",
+        "check",
+        "check  ",
+        "check 0",
+        "check 0A",
+        "value - - 0 1:x -",
+    ] {
+        t.same("line not understood", answer(line, false).is_err(), true);
+    }
+}
+
+// --------------------------------------------------- Random small contracts
+
+/// A small generator of its own, the same on every run.
+struct Draw(u64);
+
+impl Draw {
+    /// A number from 0 to `most`.
+    fn upto(&mut self, most: u64) -> u64 {
+        self.0 = self.0.wrapping_mul(6_364_136_223_846_793_005);
+        self.0 = self.0.wrapping_add(1_442_695_040_888_963_407);
+        (self.0 >> 33) % (most + 1)
+    }
+
+    fn terms(&mut self) -> Terms {
+        let top = 1 + self.upto(9) as u16;
+        let premium = 1 + self.upto(u64::from(top) - 1) as u16;
+        let fees = [0, 300, 10_000][self.upto(2) as usize];
+        Terms {
+            premium,
+            level: 1 + self.upto(u64::from(premium) - 1) as u16,
+            top,
+            dates: 1 + self.upto(3) as u16,
+            fee: self.upto(fees) as u16,
+            penalty: self.upto(10_000) as u16 * self.upto(1) as u16,
+            discount: 1_000_000 - self.upto(100_000) as u32,
+        }
+    }
+
+    fn returns(&mut self) -> Vec<(u16, u16)> {
+        let mut left = 10_000;
+        let mut returns = Vec::new();
+        for _ in 0..self.upto(3) {
+            let weight = 1 + self.upto(3_000) as u16;
+            returns.push((self.upto(30_000) as u16, weight));
+            left -= weight;
+        }
+        returns.push((5_000 + self.upto(10_000) as u16, left));
+        returns
+    }
+}
+
+/// The amounts open in a state, smallest first: 0 static, 1 mixed, 2 dynamic.
+fn open(terms: &Terms, behaviour: usize, w: u64, a: u64) -> Vec<u64> {
+    let m = terms.m(a);
+    match behaviour {
+        0 => vec![m],
+        1 if w > m => vec![m, w],
+        1 => vec![m],
+        _ => (0..=w.max(m)).collect(),
+    }
+}
+
+/// A contract at each number of dates up to its own, so that the values of date 1 run
+/// through those of every date.
+fn random_contract(t: &mut Tally, draw: &mut Draw, k: u64) {
+    let (whole, returns) = (draw.terms(), draw.returns());
+    let mut before: Vec<Vec<u32>> = Vec::new();
+    for dates in 1..=whole.dates {
+        let terms = Terms { dates, ..whole };
+        let name = format!("random contract {k}: {terms:?} {returns:?}");
+        let runs = [0, 1, 2].map(|b| valued(&terms, &returns, b));
+        ordered(t, &name, &terms, &runs);
+        for (answer, work, table) in &runs {
+            let mut again = filled_32(work.len());
+            let (record, list) = (terms.record(), list(&returns));
+            let supplied = gmwb::value_table(&record, &list, &mut again, table);
+            t.same(&format!("{name}: supplied table"), supplied, *answer);
+            t.same(&format!("{name}: supplied table, work"), &again, work);
+        }
+        if dates > 1 {
+            for (behaviour, (_, work, table)) in runs.iter().enumerate() {
+                let next = &before[behaviour];
+                let left = (&work[..], &table[..]);
+                one_step(t, &name, &terms, &returns, behaviour, next, left);
+            }
+        }
+        before = runs.into_iter().map(|(_, work, _)| work).collect();
+    }
+}
+
+/// Static is at most mixed, mixed at most dynamic, in every state and at the start.
+fn ordered(
+    t: &mut Tally,
+    name: &str,
+    terms: &Terms,
+    runs: &[(gmwb::Valued, Vec<u32>, Vec<u16>); 3],
+) {
+    let [fixed, mixed, free] = runs;
+    for (w, a) in terms.states() {
+        let place = terms.entry(w, a);
+        let rising = fixed.1[place] <= mixed.1[place] && mixed.1[place] <= free.1[place];
+        t.same(&format!("{name}: order at ({w}, {a})"), rising, true);
+    }
+    let rising = fixed.0.value <= mixed.0.value && mixed.0.value <= free.0.value;
+    t.same(&format!("{name}: order at the start"), rising, true);
+}
+
+/// Value and amount of each state of date 1, from bookings and the values of a contract
+/// with one date fewer, whose date 1 stands as far from maturity as this one's date 2.
+fn one_step(
+    t: &mut Tally,
+    name: &str,
+    terms: &Terms,
+    returns: &[(u16, u16)],
+    behaviour: usize,
+    next: &[u32],
+    left: (&[u32], &[u16]),
+) {
+    for (w, a) in terms.states() {
+        let mut best = (0, 0);
+        for (index, amount) in open(terms, behaviour, w, a).into_iter().enumerate() {
+            let booking = booked(terms, 1, w, a, amount);
+            let expected = (0, 0, terms.figures(w, a, amount));
+            t.same(&format!("{name}: booking"), booking, expected);
+            let [cash, _, balance, guarantee] = booking.2;
+            let mut sum: u128 = 0;
+            for (factor, weight) in returns {
+                let place = terms.entry(terms.next(balance, *factor), guarantee);
+                sum += u128::from(*weight) * u128::from(next[place]);
+            }
+            let later = u128::from(terms.discount) * sum / 10_000_000_000;
+            let worth = u128::from(cash) + later;
+            if index == 0 || worth > best.0 {
+                best = (worth, amount);
+            }
+        }
+        let place = terms.entry(w, a);
+        let got = (u128::from(left.0[place]), u64::from(left.1[place]));
+        t.same(&format!("{name}: state ({w}, {a})"), got, best);
+    }
+}
+
+/// A walk along a random table and path. On even turns no amount passes m.
+fn random_walk(t: &mut Tally, draw: &mut Draw, k: u64) {
+    let (terms, returns) = (draw.terms(), draw.returns());
+    let within_m = k % 2 == 0;
+    let mut table: Vec<u16> = Vec::new();
+    for _ in 1..terms.dates {
+        for (w, a) in terms.states() {
+            let m = terms.m(a);
+            let most = if within_m { m } else { w.max(m) };
+            table.push(draw.upto(most) as u16);
+        }
+    }
+    let last = returns.len() as u64 - 1;
+    let numbers: Vec<u16> = (0..terms.dates).map(|_| draw.upto(last) as u16).collect();
+    let mut cash = vec![0; usize::from(terms.dates)];
+    let (record, list) = (terms.record(), list(&returns));
+    let answer = gmwb::walk(&record, &list, &table, &numbers, &mut cash);
+    let name = format!("random walk {k}: {terms:?}");
+    t.same(&name, (answer.number, answer.place), (0, 0));
+    let factors: Vec<u16> = numbers.iter().map(|n| returns[usize::from(*n)].0).collect();
+    follow(t, &name, &terms, &table, &factors, &cash, within_m);
+}
+
+/// The same walk, booking by booking. "While no amount on a walk passes m, amounts
+/// withdrawn so far plus the guarantee equal the premium."
+fn follow(
+    t: &mut Tally,
+    name: &str,
+    terms: &Terms,
+    table: &[u16],
+    factors: &[u16],
+    cash: &[u32],
+    within_m: bool,
+) {
+    let premium = u64::from(terms.premium);
+    let (mut balance, mut guarantee, mut drawn) = (premium, premium, 0);
+    for (i, factor) in factors.iter().enumerate() {
+        let date = i as u64 + 1;
+        let account = terms.next(balance, *factor);
+        let paid = if date == u64::from(terms.dates) {
+            10_000 * account.max(guarantee)
+        } else {
+            let place = i * terms.layer() + terms.entry(account, guarantee);
+            let amount = u64::from(table[place]);
+            let (_, _, figures) = booked(terms, date, account, guarantee, amount);
+            balance = figures[2];
+            guarantee = figures[3];
+            drawn += amount;
+            figures[0]
+        };
+        t.same(&format!("{name}: cash"), u64::from(cash[i]), paid);
+        if within_m {
+            t.same(&format!("{name}: conservation"), drawn + guarantee, premium);
+        }
+    }
+}
+
+/// Any record and list in words, and back.
+fn random_text(t: &mut Tally, draw: &mut Draw) {
+    let record: Vec<u8> = (0..16).map(|_| draw.upto(255) as u8).collect();
+    let length = 4 * draw.upto(70);
+    let list: Vec<u8> = (0..length).map(|_| draw.upto(255) as u8).collect();
+    let back = text::show(&record, &list).and_then(|words| text::pack(&words));
+    t.same("show, then pack", back, Ok((record, list)));
+}
+
+/// Any bytes, lengths and numbers: each call comes back, and a refusal changes nothing.
+fn random_bytes(t: &mut Tally, draw: &mut Draw) {
+    let mut call = good(&draw.terms(), &draw.returns());
+    for _ in 0..draw.upto(2) {
+        let place = draw.upto(15) as usize;
+        call.record[place] = draw.upto(255) as u8;
+        let place = draw.upto(call.list.len() as u64 - 1) as usize;
+        call.list[place] = draw.upto(255) as u8;
+    }
+    call.behaviour = draw.upto(3);
+    call.work = draw.upto(300) as usize;
+    call.table = (0..draw.upto(400)).map(|_| draw.upto(6) as u16).collect();
+    call.numbers = (0..draw.upto(5)).map(|_| draw.upto(4) as u16).collect();
+    call.cash = draw.upto(5) as usize;
+    call.date = draw.upto(5);
+    call.account = draw.upto(12);
+    call.guarantee = draw.upto(12);
+    call.amount = draw.upto(12);
+    t.refusals_change_nothing("random call", &call);
+}

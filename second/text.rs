@@ -1,0 +1,97 @@
+//! A contract record and a return list as readable text, both ways.
+//!
+//! One field a line, name and decimal number parted by a single space:
+//! `premium`, `level`, `top`, `dates`, `fee`, `penalty`, `discount`, each once, in any
+//! order. Then or between them, in the order of the list, `return FACTOR WEIGHT`.
+//! Blank lines and lines that start with `#` are passed over. Only the width of a
+//! field is checked here, so that a record that the rules refuse can be written too.
+
+/// Name, offset and bytes of each field of a contract record.
+const FIELDS: [(&str, usize, usize); 7] = [
+    ("premium", 0, 2),
+    ("level", 2, 2),
+    ("top", 4, 2),
+    ("dates", 6, 2),
+    ("fee", 8, 2),
+    ("penalty", 10, 2),
+    ("discount", 12, 4),
+];
+
+/// A decimal number: digits only, and no larger than 64 bits hold.
+pub fn number(text: &str) -> Result<u64, String> {
+    let digits = !text.is_empty() && text.bytes().all(|b| b.is_ascii_digit());
+    match text.parse() {
+        Ok(n) if digits => Ok(n),
+        _ => Err(format!("'{text}' is not a number of at most 64 bits")),
+    }
+}
+
+/// The bytes of a number, low byte first, when it fits the field's width.
+fn field_bytes(name: &str, text: &str, width: usize) -> Result<Vec<u8>, String> {
+    let n = number(text)?;
+    let bytes = n.to_le_bytes();
+    if bytes[width..].iter().any(|b| *b != 0) {
+        return Err(format!("{name} {n} does not fit in {width} bytes"));
+    }
+    Ok(bytes[..width].to_vec())
+}
+
+/// Record and list from text.
+pub fn pack(text: &str) -> Result<(Vec<u8>, Vec<u8>), String> {
+    let mut record = vec![0; 16];
+    let mut given = [false; FIELDS.len()];
+    let mut list = Vec::new();
+    for line in text.lines() {
+        if line.is_empty() || line.starts_with('#') {
+            continue;
+        }
+        let words: Vec<&str> = line.split(' ').collect();
+        if let ["return", factor, weight] = words[..] {
+            list.extend(field_bytes("factor", factor, 2)?);
+            list.extend(field_bytes("weight", weight, 2)?);
+            continue;
+        }
+        let [word, value] = words[..] else {
+            return Err(format!("line not understood: {line}"));
+        };
+        let Some(place) = FIELDS.iter().position(|(name, _, _)| *name == word) else {
+            return Err(format!("no such field: {word}"));
+        };
+        if given[place] {
+            return Err(format!("{word} is given twice"));
+        }
+        given[place] = true;
+        let (name, offset, width) = FIELDS[place];
+        record[offset..offset + width].copy_from_slice(&field_bytes(name, value, width)?);
+    }
+    match given.iter().position(|g| !g) {
+        Some(place) => Err(format!("{} is not given", FIELDS[place].0)),
+        None => Ok((record, list)),
+    }
+}
+
+fn number_in(bytes: &[u8]) -> u64 {
+    bytes.iter().rev().fold(0, |n, b| n * 256 + u64::from(*b))
+}
+
+/// Text from record and list; `pack` gives the same bytes back.
+pub fn show(record: &[u8], list: &[u8]) -> Result<String, String> {
+    if record.len() != 16 {
+        return Err(format!("the record has {} bytes, not 16", record.len()));
+    }
+    if list.len() % 4 != 0 {
+        return Err(format!(
+            "the list has {} bytes, no multiple of 4",
+            list.len()
+        ));
+    }
+    let mut text = String::new();
+    for (name, offset, width) in FIELDS {
+        text += &format!("{name} {}\n", number_in(&record[offset..offset + width]));
+    }
+    for bytes in list.chunks(4) {
+        let (factor, weight) = (number_in(&bytes[..2]), number_in(&bytes[2..]));
+        text += &format!("return {factor} {weight}\n");
+    }
+    Ok(text)
+}
