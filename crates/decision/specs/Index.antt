@@ -1,10 +1,11 @@
 -- Functions of an index: their sum, their list, and the first index that passes a test. Assumes nothing.
 use mathlib.Core.Bool.{Bool, true, false}
 use mathlib.Core.List.{List, [], _∷_, _++_}
-use mathlib.Core.Path.{_≡_, refl, ap, subst}
+use mathlib.Core.Path.{_≡_, refl, ap, sym, subst}
 use Prim.Native.Nat.{ℕ, zero, suc, _+_, _*_, _≤_, _<_}
 use native.Mathlib.Nat.{le-refl, add-le-add}
 use native.Mathlib.Decide.{decLe}
+use native.Mathlib.Numerals.{add-one}
 use native.Mathlib.Omega.{arith}
 use lib.Dec.{T}
 use lib.ListN.{getD, length}
@@ -114,3 +115,42 @@ is-first {test} {n} x = first-unique (first-is test n) x
 -- nothing that passes comes before it
 pub first-least : {test : ℕ → Bool} {n r : ℕ} → First test n r → (u : ℕ) → T (test u) → r ≤ u
 first-least {test} {n} {r} x u t = elim (decLe r u) [ yes l ↦ l | no l ↦ absurd (x .none u (omega arith) (omega arith) t) ]
+
+-- ---- what a loop that counts up holds, where it says k + 1
+pub sum-next : (f : ℕ → ℕ) (k : ℕ) → sum f (k + 1) ≡ sum f k + f k
+unfolding sum
+sum-next f k = rw add-one
+
+-- a search that has come to k has passed nothing below it
+pub record Searched (test : ℕ → Bool) (n k : ℕ) : Type 0 where
+  pub within : k ≤ n
+  pub passed : (j : ℕ) → j < k → test j ≡ false
+
+pub search-none : (test : ℕ → Bool) (n : ℕ) → Searched test n 0
+search-none test n = record { within = omega arith; passed = λ j l. absurd (omega arith) }
+
+pub search-more : {test : ℕ → Bool} {n k : ℕ} → Searched test n k → k < n → test k ≡ false → Searched test n (k + 1)
+search-more {test} {n} {k} x l e = record { within = omega arith; passed = λ j m. go j (omega arith) (decLe (suc j) k) }
+  where
+    go : (j : ℕ) → j ≤ k → Dec (suc j ≤ k) → test j ≡ false
+    go j m (yes h) = x .passed j h
+    go j m (no h) = let z : j ≡ k = omega arith in rw z e
+
+never : {b : Bool} → b ≡ false → T b → ⊥
+never e t = subst T e t
+
+pub search-hit : {test : ℕ → Bool} {n k : ℕ} → Searched test n k → k < n → test k ≡ true → first test n ≡ k
+search-hit {test} {n} {k} x l e = is-first (record {
+  from = omega arith;
+  within = x .within;
+  passes = λ m. subst T (sym e) tt;
+  none = λ j i m t. never (x .passed j m) t;
+})
+
+pub search-end : {test : ℕ → Bool} {n k : ℕ} → Searched test n k → n ≤ k → first test n ≡ k
+search-end {test} {n} {k} x l = is-first (record {
+  from = omega arith;
+  within = x .within;
+  passes = λ m. absurd (omega arith);
+  none = λ j i m t. never (x .passed j m) t;
+})

@@ -9,7 +9,7 @@ use lib.Dec.{T, leb, ltb, eqb, eqb→eq, nltb→le, not-T}
 use lib.ListN.{length}
 use Rattle.decision.specs.Index.{sum, first, first-is}
 use Rattle.rules.specs.Contract.{Terms, Returns, recordBytes, termsOf, topMost, datesMost, rateMost, discountMost, returnBytes, returnsOf, returnsMost, factorMost, weightMost, weightTotal}
-use Rattle.rules.specs.Refusals.{Check, check, checkEach, Verdict, accepted, refused, verdict, numbers, numberOf, outside, recordChecks, badReturn, listChecks}
+use Rattle.rules.specs.Refusals.{Check, check, checkEach, Verdict, accepted, refused, verdict, numbers, numberOf, outside, termsChecks, recordChecks, badReturn, listChecks}
 
 -- the column of ranges, and refusals 2 to 6, for accepted terms
 pub record Valid (c : Terms) : Type 0 where
@@ -76,11 +76,11 @@ pass-right [] ls p = p
 pass-right (k ∷ ks) ls (t, p) = pass-right ks ls p
 
 -- neither of two conditions holds
-nor-left : (a b : Bool) → T (not (a || b)) → T (not a)
+pub nor-left : (a b : Bool) → T (not (a || b)) → T (not a)
 nor-left true b t = t
 nor-left false b t = tt
 
-nor-right : (a b : Bool) → T (not (a || b)) → T (not b)
+pub nor-right : (a b : Bool) → T (not (a || b)) → T (not b)
 nor-right true b t = absurd t
 nor-right false b t = t
 
@@ -88,11 +88,11 @@ not-not : (b : Bool) → T (not (not b)) → T b
 not-not true t = tt
 not-not false t = t
 
-at-least : (least most x : ℕ) → T (not (outside least most x)) → least ≤ x
+pub at-least : (least most x : ℕ) → T (not (outside least most x)) → least ≤ x
 unfolding outside
 at-least least most x t = nltb→le x least (nor-left (ltb x least) (ltb most x) t)
 
-at-most : (least most x : ℕ) → T (not (outside least most x)) → x ≤ most
+pub at-most : (least most x : ℕ) → T (not (outside least most x)) → x ≤ most
 unfolding outside
 at-most least most x t = nltb→le most x (nor-right (ltb x least) (ltb most x) t)
 
@@ -104,10 +104,9 @@ each-passes number from n bad t k l =
     let m = nltb→le (first bad n) n t in
     not-T (bad k) (λ q. x .none k (omega arith) (omega arith) q)
 
-pub valid-terms : (bytes : List ℕ) → AllPass (recordChecks bytes) → Valid (termsOf bytes)
-unfolding recordChecks AllPass
-valid-terms bytes (sixteen, (top-premium, (level, (dates, (rates, (discount, done)))))) =
-    let c = termsOf bytes in
+pub valid-terms : (c : Terms) → AllPass (termsChecks c) → Valid c
+unfolding termsChecks AllPass
+valid-terms c (top-premium, (level, (dates, (rates, (discount, done))))) =
     record {
       top = nltb→le topMost (c .top) (nor-left (ltb topMost (c .top)) (outside 1 (c .top) (c .premium)) top-premium);
       premium-least = at-least 1 (c .top) (c .premium) (nor-right (ltb topMost (c .top)) (outside 1 (c .top) (c .premium)) top-premium);
@@ -121,6 +120,10 @@ valid-terms bytes (sixteen, (top-premium, (level, (dates, (rates, (discount, don
       discount-least = at-least 1 discountMost (c .discount) discount;
       discount = at-most 1 discountMost (c .discount) discount;
     }
+
+pub valid-record : (bytes : List ℕ) → AllPass (recordChecks bytes) → Valid (termsOf bytes)
+unfolding recordChecks AllPass
+valid-record bytes (sixteen, rest) = valid-terms (termsOf bytes) rest
 
 -- a list of 4 to 256 bytes in fours holds 1 to 64 records
 count-least : (n : ℕ) → 1 ≤ n → n % 4 ≡ 0 → 1 ≤ n / 4

@@ -10,32 +10,32 @@ use lib.Dec.{lit<}
 use borrow.Author.Tests.{lt-ltb, le-ltb}
 use lib.IntN.{ℤ, pos, negℤ}
 use Rattle.rules.specs.Date.{nextAccount, discounted, margin}
-use Rattle.rules.specs.Refusals.{Check, check, checkEach, numbers, recordChecks, listChecks}
+use Rattle.rules.specs.Refusals.{Check, check, checkEach, numbers, termsChecks, recordChecks, listChecks}
 use Rattle.rules.specs.Operations.{valuingChecks, suppliedChecks, bookingChecks, walkChecks}
 
 -- ---- "Checks run in the order of the table; an operation makes those for which it has the input."
 pub record-order : (bytes : List ℕ) → numbers (recordChecks bytes) ≡ 1 ∷ 2 ∷ 3 ∷ 4 ∷ 5 ∷ 6 ∷ []
-unfolding numbers recordChecks
+unfolding numbers termsChecks recordChecks
 record-order bytes = refl
 
 pub valuing-order : (bytes list : List ℕ) (behaviour : ℕ) (work table : List ℕ)
     → numbers (valuingChecks bytes list behaviour work table) ≡ 1 ∷ 2 ∷ 3 ∷ 4 ∷ 5 ∷ 6 ∷ 7 ∷ 8 ∷ 9 ∷ 10 ∷ 11 ∷ []
-unfolding numbers recordChecks listChecks checkEach valuingChecks
+unfolding numbers termsChecks recordChecks listChecks checkEach valuingChecks
 valuing-order bytes list behaviour work table = refl
 
 pub supplied-order : (bytes list work table : List ℕ)
     → numbers (suppliedChecks bytes list work table) ≡ 1 ∷ 2 ∷ 3 ∷ 4 ∷ 5 ∷ 6 ∷ 7 ∷ 8 ∷ 9 ∷ 11 ∷ 14 ∷ []
-unfolding numbers recordChecks listChecks checkEach suppliedChecks
+unfolding numbers termsChecks recordChecks listChecks checkEach suppliedChecks
 supplied-order bytes list work table = refl
 
 pub booking-order : (bytes : List ℕ) (date w a t : ℕ) (buffer : List ℕ)
     → numbers (bookingChecks bytes date w a t buffer) ≡ 1 ∷ 2 ∷ 3 ∷ 4 ∷ 5 ∷ 6 ∷ 11 ∷ 12 ∷ 14 ∷ []
-unfolding numbers recordChecks bookingChecks
+unfolding numbers termsChecks recordChecks bookingChecks
 booking-order bytes date w a t buffer = refl
 
 pub walk-order : (bytes list table path cashes : List ℕ)
     → numbers (walkChecks bytes list table path cashes) ≡ 1 ∷ 2 ∷ 3 ∷ 4 ∷ 5 ∷ 6 ∷ 7 ∷ 8 ∷ 9 ∷ 11 ∷ 13 ∷ 13 ∷ 14 ∷ []
-unfolding numbers recordChecks listChecks checkEach walkChecks
+unfolding numbers termsChecks recordChecks listChecks checkEach walkChecks
 walk-order bytes list table path cashes = refl
 
 -- ---- "rounded down a single time": the next account is the largest that top and the exact product allow

@@ -55,22 +55,23 @@ outside least most x = ltb x least || ltb most x
 unfoldable pub short : ℕ → List ℕ → Bool
 short needed slice = ltb (length slice) needed
 
--- 1: "record not 16 bytes"
 -- 2: "top above 4,000, or premium not 1 to top"
 -- 3: "level not 1 to premium"
 -- 4: "dates not 1 to 40"
 -- 5: "fee or penalty rate above 10,000"
 -- 6: "discount not 1 to 1,000,000"
-unfoldable pub recordChecks : List ℕ → List Check
-recordChecks bytes =
-    let c = termsOf bytes in
-    check 1 0 (not (eqb (length bytes) recordBytes))
-    ∷ check 2 0 (ltb topMost (c .top) || outside 1 (c .top) (c .premium))
+unfoldable pub termsChecks : Terms → List Check
+termsChecks c =
+    check 2 0 (ltb topMost (c .top) || outside 1 (c .top) (c .premium))
     ∷ check 3 0 (outside 1 (c .premium) (c .level))
     ∷ check 4 0 (outside 1 datesMost (c .dates))
     ∷ check 5 0 (ltb rateMost (c .fee) || ltb rateMost (c .penalty))
     ∷ check 6 0 (outside 1 discountMost (c .discount))
     ∷ []
+
+-- 1: "record not 16 bytes"
+unfoldable pub recordChecks : List ℕ → List Check
+recordChecks bytes = check 1 0 (not (eqb (length bytes) recordBytes)) ∷ termsChecks (termsOf bytes)
 
 -- 8: "factor above 30,000, or weight not 1 to 10,000"
 unfoldable pub badReturn : Returns → ℕ → Bool

@@ -1,0 +1,2 @@
+-- What the enums that reading answers mean.
+pub mod Reading

@@ -1,0 +1,69 @@
+-- What reading a record or a list answers, in the words of the rules. Assumes nothing.
+use mathlib.Core.List.{List}
+use Prim.Native.Nat.{ℕ}
+use Rattle.rules.specs.Contract.{Terms, termsOf, returnsOf}
+use Rattle.rules.specs.Refusals.{Verdict, accepted, refused, verdict, recordChecks, listChecks}
+use Rattle.contract.specs.declared.Contract.{Contract}
+use Rattle.contract.specs.declared.Returns.{Returns}
+use Rattle.contract.specs.declared.Outcome.{Outcome}
+use Rattle.contract.specs.declared.Reading.{Reading}
+use Rattle.contract.specs.declared.Reading.the-variants as reading
+use Rattle.contract.specs.declared.Listing.{Listing}
+use Rattle.contract.specs.declared.Listing.the-variants as listing
+
+-- the struct and the record of the rules hold the same fields
+abbrev pub contractOf : Terms → Contract
+contractOf c = record {
+  premium = c .premium;
+  level = c .level;
+  top = c .top;
+  dates = c .dates;
+  fee = c .fee;
+  penalty = c .penalty;
+  discount = c .discount;
+}
+
+abbrev pub termsIn : Contract → Terms
+termsIn c = record {
+  premium = c .premium;
+  level = c .level;
+  top = c .top;
+  dates = c .dates;
+  fee = c .fee;
+  penalty = c .penalty;
+  discount = c .discount;
+}
+
+abbrev pub outcomeAt : ℕ → ℕ → Outcome
+outcomeAt number place = record { number = number; place = place }
+
+abbrev pub refusedReading : ℕ → ℕ → Reading
+refusedReading n p = reading.Refused (outcomeAt n p)
+
+abbrev pub refusedListing : ℕ → ℕ → Listing
+refusedListing n p = listing.Refused (outcomeAt n p)
+
+-- the case of each verdict
+abbrev pub readingOf : Verdict → Contract → Reading
+readingOf accepted c = reading.Accepted c
+readingOf (refused n p) c = refusedReading n p
+
+abbrev pub listingOf : Verdict → ℕ → Listing
+listingOf accepted n = listing.Accepted (record { count = n })
+listingOf (refused n p) k = refusedListing n p
+
+-- the number and place of each case
+abbrev pub readingVerdict : Reading → Verdict
+readingVerdict (reading.Accepted c) = accepted
+readingVerdict (reading.Refused r) = refused (r .number) (r .place)
+
+abbrev pub listingVerdict : Listing → Verdict
+listingVerdict (listing.Accepted n) = accepted
+listingVerdict (listing.Refused r) = refused (r .number) (r .place)
+
+-- reading any bytes as a record, and as a list
+unfoldable pub recordRead : List ℕ → Reading
+recordRead bytes = readingOf (verdict (recordChecks bytes)) (contractOf (termsOf bytes))
+
+unfoldable pub listRead : List ℕ → Listing
+listRead bytes = listingOf (verdict (listChecks bytes)) (returnsOf bytes .count)

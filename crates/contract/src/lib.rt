@@ -1,0 +1,214 @@
+// The contract record and the return list, read from bytes: terms and returns in range, or a refusal with its place.
+ghost use mathlib.Core.Path.{_≡_};
+ghost use mathlib.Core.Bool.{_||_, not};
+ghost use Prim.Native.Nat.{ℕ, _+_, _*_, _/_, _%_, _≤_, _<_};
+ghost use lib.Dec.{ltb, eqb};
+ghost use lib.ListN.{length};
+ghost use Rattle.decision.specs.Index.{sum, first};
+ghost use Rattle.rules.specs.Contract.{word, topMost, rateMost, returnBytes, returnsMost, returnsOf};
+ghost use Rattle.rules.specs.Refusals.{outside, verdict, termsChecks, badReturn};
+ghost use Rattle.contract.specs.Reading.{readingOf, refusedReading, refusedListing, termsIn, recordRead, listRead};
+
+// A number and its place: 0 and 0 for success.
+pub struct Outcome {
+    pub number: u32,
+    pub place: u64,
+}
+
+pub struct Contract {
+    pub premium: usize,
+    pub level: usize,
+    pub top: usize,
+    pub dates: usize,
+    pub fee: usize,
+    pub penalty: usize,
+    pub discount: usize,
+}
+
+pub enum Reading {
+    Accepted(Contract),
+    Refused(Outcome),
+}
+
+// The returns stay in the bytes of their list.
+pub struct Returns {
+    pub count: usize,
+}
+
+pub enum Listing {
+    Accepted(Returns),
+    Refused(Outcome),
+}
+
+fn wide(x: u8) -> usize
+    ensures { λ r. ⌜ (r ≡ x) × (r < 256) ⌝ }
+{
+    x as usize
+}
+
+// The two bytes from i on, low byte first.
+pub fn word(bytes: &[u8], i: usize) -> usize
+    requires { ⌜ i + 1 < length (now bytes) ⌝ }
+    ensures { λ r. ⌜ (r ≡ word (now (bytes .entry)) i) × (r < 65536) ⌝ }
+{
+    wide(bytes[i]) + 256 * wide(bytes[i + 1])
+}
+
+fn outside(least: usize, most: usize, x: usize) -> bool
+    ensures { λ r. ⌜ r ≡ outside least most x ⌝ }
+{
+    x < least || most < x
+}
+
+// Refusals 2 to 6, in their order.
+fn bad_premium(top: usize, premium: usize) -> bool
+    ensures { λ r. ⌜ r ≡ (ltb topMost top || outside 1 top premium) ⌝ }
+{
+    Contract::TOP_MOST < top || outside(1, top, premium)
+}
+
+fn bad_rates(fee: usize, penalty: usize) -> bool
+    ensures { λ r. ⌜ r ≡ (ltb rateMost fee || ltb rateMost penalty) ⌝ }
+{
+    Contract::RATE_MOST < fee || Contract::RATE_MOST < penalty
+}
+
+fn refused(number: u32) -> Reading
+    ensures { λ r. ⌜ r ≡ refusedReading number 0 ⌝ }
+{
+    Reading::Refused(Outcome { number, place: 0 })
+}
+
+impl Contract {
+    pub const BYTES: usize = 16;
+
+    pub const TOP_MOST: usize = 4000;
+
+    pub const DATES_MOST: usize = 40;
+
+    pub const RATE_MOST: usize = 10000;
+
+    pub const DISCOUNT_MOST: usize = 1000000;
+
+    pub const RETURN_BYTES: usize = 4;
+
+    pub const RETURNS_MOST: usize = 64;
+
+    pub const FACTOR_MOST: usize = 30000;
+
+    pub const WEIGHT_MOST: usize = 10000;
+
+    pub const WEIGHT_TOTAL: usize = 10000;
+
+    // The terms if every one is in range.
+    fn checked(self) -> Reading
+        ensures { λ r. ⌜ r ≡ readingOf (verdict (termsChecks (termsIn self))) self ⌝ }
+    {
+        let c = self;
+        if bad_premium(c.top, c.premium) {
+            return refused(2);
+        }
+        if outside(1, c.premium, c.level) {
+            return refused(3);
+        }
+        if outside(1, Self::DATES_MOST, c.dates) {
+            return refused(4);
+        }
+        if bad_rates(c.fee, c.penalty) {
+            return refused(5);
+        }
+        if outside(1, Self::DISCOUNT_MOST, c.discount) {
+            return refused(6);
+        }
+        Reading::Accepted(c)
+    }
+
+    // A record's bytes as terms in range.
+    pub fn read(bytes: &[u8]) -> Reading
+        ensures { λ r. ⌜ r ≡ recordRead (now (bytes .entry)) ⌝ }
+    {
+        if bytes.len() != Self::BYTES {
+            return refused(1);
+        }
+        let c = Contract {
+            premium: word(bytes, 0),
+            level: word(bytes, 2),
+            top: word(bytes, 4),
+            dates: word(bytes, 6),
+            fee: word(bytes, 8),
+            penalty: word(bytes, 10),
+            discount: word(bytes, 12) + 65536 * word(bytes, 14),
+        };
+        c.checked()
+    }
+}
+
+// Refusal 7.
+fn bad_length(length: usize) -> bool
+    ensures { λ r. ⌜ r ≡ (outside 1 (returnBytes * returnsMost) length || not (eqb (length % returnBytes) 0)) ⌝ }
+{
+    outside(1, Contract::RETURN_BYTES * Contract::RETURNS_MOST, length)
+        || length % Contract::RETURN_BYTES != 0
+}
+
+// Refusal 8 of return k.
+fn bad_return(bytes: &[u8], k: usize) -> bool
+    requires { ⌜ (4 * k + 4 ≤ length (now bytes)) × (k < 64) ⌝ }
+    ensures { λ r. ⌜ r ≡ badReturn (returnsOf (now (bytes .entry))) k ⌝ }
+{
+    let at = Contract::RETURN_BYTES * k;
+    Contract::FACTOR_MOST < word(bytes, at)
+        || outside(1, Contract::WEIGHT_MOST, word(bytes, at + 2))
+}
+
+// The first of the returns that is bad, or their count.
+fn first_bad(bytes: &[u8], count: usize) -> usize
+    requires { ⌜ (4 * count ≤ length (now bytes)) × (count ≤ 64) ⌝ }
+    ensures { λ r. ⌜ r ≡ first (badReturn (returnsOf (now (bytes .entry)))) count ⌝ }
+{
+    let mut k: usize = 0;
+    while k < count {
+        if bad_return(bytes, k) {
+            return k;
+        }
+        k += 1;
+    }
+    k
+}
+
+fn total_weight(bytes: &[u8], count: usize) -> usize
+    requires { ⌜ (4 * count ≤ length (now bytes)) × (count ≤ 64) ⌝ }
+    ensures { λ r. ⌜ r ≡ sum (returnsOf (now (bytes .entry)) .weight) count ⌝ }
+{
+    let mut total: usize = 0;
+    for k in 0..count {
+        total += word(bytes, Contract::RETURN_BYTES * k + 2);
+    }
+    total
+}
+
+fn refused_list(number: u32, place: u64) -> Listing
+    ensures { λ r. ⌜ r ≡ refusedListing number place ⌝ }
+{
+    Listing::Refused(Outcome { number, place })
+}
+
+impl Returns {
+    // A list's bytes as returns in range.
+    pub fn read(bytes: &[u8]) -> Listing
+        ensures { λ r. ⌜ r ≡ listRead (now (bytes .entry)) ⌝ }
+    {
+        if bad_length(bytes.len()) {
+            return refused_list(7, 0);
+        }
+        let count = bytes.len() / Contract::RETURN_BYTES;
+        let bad = first_bad(bytes, count);
+        if bad < count {
+            return refused_list(8, bad as u64);
+        }
+        if total_weight(bytes, count) != Contract::WEIGHT_TOTAL {
+            return refused_list(9, 0);
+        }
+        Listing::Accepted(Returns { count })
+    }
+}

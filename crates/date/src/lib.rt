@@ -1,0 +1,94 @@
+// One date on plain numbers: the leaves that every operation is made of.
+ghost use mathlib.Core.Path.{_≡_};
+ghost use Prim.Native.Nat.{ℕ, _-_, _≤_, max, min};
+ghost use Rattle.rules.specs.Contract.{topMost, rateMost, discountMost, factorMost};
+ghost use Rattle.rules.specs.Date.{dynamic, freeAmount, largestAmount, surrenders, admits, penalty, cash, guaranteeAfter, balanceAfter, nextAccount, maturityValue, discounted};
+
+pub fn smaller(x: usize, y: usize) -> usize
+    ensures { λ r. ⌜ r ≡ min x y ⌝ }
+{
+    if y < x { y } else { x }
+}
+
+pub fn larger(x: usize, y: usize) -> usize
+    ensures { λ r. ⌜ r ≡ max x y ⌝ }
+{
+    if x < y { y } else { x }
+}
+
+// A difference that stops at 0.
+pub fn less(x: usize, y: usize) -> usize
+    ensures { λ r. ⌜ r ≡ x - y ⌝ }
+{
+    if x < y { 0 } else { x - y }
+}
+
+pub fn free_amount(level: usize, a: usize) -> usize
+    ensures { λ r. ⌜ r ≡ freeAmount level a ⌝ }
+{
+    smaller(level, a)
+}
+
+pub fn largest_amount(m: usize, w: usize) -> usize
+    ensures { λ r. ⌜ r ≡ largestAmount m w ⌝ }
+{
+    larger(w, m)
+}
+
+pub fn admits_dynamic(m: usize, w: usize, t: usize) -> bool
+    ensures { λ r. ⌜ r ≡ admits dynamic m w t ⌝ }
+{
+    t <= largest_amount(m, w)
+}
+
+pub fn penalty(rate: usize, m: usize, t: usize) -> usize
+    requires { ⌜ (rate ≤ rateMost) × (t ≤ topMost) ⌝ }
+    ensures { λ r. ⌜ (r ≡ penalty rate m t) × (r ≤ 40000000) ⌝ }
+{
+    rate * less(t, m)
+}
+
+pub fn cash(rate: usize, m: usize, t: usize) -> usize
+    requires { ⌜ (rate ≤ rateMost) × (t ≤ topMost) ⌝ }
+    ensures { λ r. ⌜ (r ≡ cash rate m t) × (r ≤ 40000000) ⌝ }
+{
+    less(10000 * t, penalty(rate, m, t))
+}
+
+pub fn guarantee_after(m: usize, w: usize, a: usize, t: usize) -> usize
+    requires { ⌜ (w ≤ topMost) × (a ≤ topMost) × (t ≤ max w m) ⌝ }
+    ensures { λ r. ⌜ r ≡ guaranteeAfter m w a t ⌝ }
+{
+    if t <= m {
+        return less(a, t);
+    }
+    smaller(less(a, t), a * (w - t) / w)
+}
+
+pub fn balance_after(w: usize, t: usize) -> usize
+    ensures { λ r. ⌜ r ≡ balanceAfter w t ⌝ }
+{
+    less(w, t)
+}
+
+pub fn next_account(fee: usize, top: usize, balance: usize, factor: usize) -> usize
+    requires { ⌜ (fee ≤ rateMost) × (balance ≤ topMost) × (factor ≤ factorMost) ⌝ }
+    ensures { λ r. ⌜ r ≡ nextAccount fee top balance factor ⌝ }
+{
+    smaller(top, balance * factor * (10000 - fee) / 100000000)
+}
+
+pub fn maturity_value(w: usize, a: usize) -> usize
+    requires { ⌜ (w ≤ topMost) × (a ≤ topMost) ⌝ }
+    ensures { λ r. ⌜ (r ≡ maturityValue w a) × (r ≤ 40000000) ⌝ }
+{
+    10000 * larger(w, a)
+}
+
+// In two parts, so that no product passes 64 bits.
+pub fn discounted(discount: usize, sum: usize) -> usize
+    requires { ⌜ (discount ≤ discountMost) × (sum ≤ 100000000000000000) ⌝ }
+    ensures { λ r. ⌜ r ≡ discounted discount sum ⌝ }
+{
+    (discount * (sum / 10000) + discount * (sum % 10000) / 10000) / 1000000
+}
