@@ -2,7 +2,7 @@
 use mathlib.Core.List.{List}
 use Prim.Native.Nat.{ℕ}
 use Rattle.rules.specs.Contract.{Terms, termsOf, returnsOf}
-use Rattle.rules.specs.Refusals.{Verdict, accepted, refused, verdict, recordChecks, listChecks}
+use Rattle.rules.specs.Refusals.{Verdict, accepted, refused, verdict, numberOf, placeOf, recordChecks, listChecks}
 use Rattle.contract.specs.declared.Contract.{Contract}
 use Rattle.contract.specs.declared.Returns.{Returns}
 use Rattle.contract.specs.declared.Outcome.{Outcome}
@@ -67,3 +67,7 @@ recordRead bytes = readingOf (verdict (recordChecks bytes)) (contractOf (termsOf
 
 unfoldable pub listRead : List ℕ → Listing
 listRead bytes = listingOf (verdict (listChecks bytes)) (returnsOf bytes .count)
+
+-- "Success gives number 0, place 0. A refusal gives its number and place"
+abbrev pub outcomeOf : Verdict → Outcome
+outcomeOf v = outcomeAt (numberOf v) (placeOf v)

@@ -7,7 +7,7 @@ ghost use lib.ListN.{length};
 ghost use Rattle.decision.specs.Index.{sum, first};
 ghost use Rattle.rules.specs.Contract.{word, topMost, rateMost, returnBytes, returnsMost, returnsOf};
 ghost use Rattle.rules.specs.Refusals.{outside, verdict, termsChecks, badReturn};
-ghost use Rattle.contract.specs.Reading.{readingOf, refusedReading, refusedListing, termsIn, recordRead, listRead};
+ghost use Rattle.contract.specs.Reading.{readingOf, readingVerdict, listingVerdict, outcomeOf, refusedReading, refusedListing, termsIn, recordRead, listRead};
 
 // A number and its place: 0 and 0 for success.
 pub struct Outcome {
@@ -40,6 +40,37 @@ pub enum Listing {
     Refused(Outcome),
 }
 
+impl Reading {
+    // The number and place of each case.
+    pub fn outcome(self) -> Outcome
+        ensures { λ r. ⌜ r ≡ outcomeOf (readingVerdict self) ⌝ }
+    {
+        let reading = self;
+        match reading {
+            Reading::Accepted(_) => Outcome {
+                number: 0,
+                place: 0,
+            },
+            Reading::Refused(outcome) => outcome,
+        }
+    }
+}
+
+impl Listing {
+    pub fn outcome(self) -> Outcome
+        ensures { λ r. ⌜ r ≡ outcomeOf (listingVerdict self) ⌝ }
+    {
+        let listing = self;
+        match listing {
+            Listing::Accepted(_) => Outcome {
+                number: 0,
+                place: 0,
+            },
+            Listing::Refused(outcome) => outcome,
+        }
+    }
+}
+
 fn wide(x: u8) -> usize
     ensures { λ r. ⌜ (r ≡ x) × (r < 256) ⌝ }
 {
@@ -54,7 +85,7 @@ pub fn word(bytes: &[u8], i: usize) -> usize
     wide(bytes[i]) + 256 * wide(bytes[i + 1])
 }
 
-fn outside(least: usize, most: usize, x: usize) -> bool
+pub fn outside(least: usize, most: usize, x: usize) -> bool
     ensures { λ r. ⌜ r ≡ outside least most x ⌝ }
 {
     x < least || most < x

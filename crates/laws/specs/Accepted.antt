@@ -9,7 +9,7 @@ use lib.Dec.{T, leb, ltb, eqb, eqb→eq, nltb→le, not-T}
 use lib.ListN.{length}
 use Rattle.decision.specs.Index.{sum, first, first-is}
 use Rattle.rules.specs.Contract.{Terms, Returns, recordBytes, termsOf, topMost, datesMost, rateMost, discountMost, returnBytes, returnsOf, returnsMost, factorMost, weightMost, weightTotal}
-use Rattle.rules.specs.Refusals.{Check, check, checkEach, Verdict, accepted, refused, verdict, numbers, numberOf, outside, termsChecks, recordChecks, badReturn, listChecks}
+use Rattle.rules.specs.Refusals.{Check, check, checkEach, Verdict, accepted, refused, verdict, numbers, numberOf, placeOf, onSuccess, outside, termsChecks, recordChecks, badReturn, listChecks}
 
 -- the column of ranges, and refusals 2 to 6, for accepted terms
 pub record Valid (c : Terms) : Type 0 where
@@ -84,7 +84,7 @@ pub nor-right : (a b : Bool) → T (not (a || b)) → T (not b)
 nor-right true b t = absurd t
 nor-right false b t = t
 
-not-not : (b : Bool) → T (not (not b)) → T b
+pub not-not : (b : Bool) → T (not (not b)) → T b
 not-not true t = tt
 not-not false t = t
 
@@ -156,3 +156,44 @@ valid-returns bytes (size, (each, (total, done))) =
       weight = λ k l. at-most 1 weightMost (rs .weight k) (good-weight rs k (good k l));
       total = eqb→eq (sum (rs .weight) (rs .count)) weightTotal (not-not (eqb (sum (rs .weight) (rs .count)) weightTotal) total);
     }
+
+-- ---- checks in two parts
+-- the later checks count where the earlier ones accept
+abbrev pub andThen : Verdict → Verdict → Verdict
+andThen accepted v = v
+andThen (refused n p) v = refused n p
+
+pub verdict-append : (ks ls : List Check) → verdict (ks ++ ls) ≡ andThen (verdict ks) (verdict ls)
+unfolding verdict
+verdict-append [] ls = refl
+verdict-append (k ∷ ks) ls = go (k .failed) (verdict-append ks ls)
+  where
+    go : (b : Bool) → verdict (ks ++ ls) ≡ andThen (verdict ks) (verdict ls)
+        → cond b (refused (k .number) (k .place)) (verdict (ks ++ ls)) ≡ andThen (cond b (refused (k .number) (k .place)) (verdict ks)) (verdict ls)
+    go true e = refl
+    go false e = e
+
+-- ---- what a verdict tells
+pub success-reports : {A : Type 0} {v : Verdict} (new old : A) → v ≡ accepted → onSuccess v new old ≡ new
+unfolding onSuccess
+success-reports new old e = rw e
+
+-- a number that is not 0 leaves what was there
+pub refusal-keeps : {A : Type 0} (v : Verdict) (new old : A) → (numberOf v ≡ 0 → ⊥) → onSuccess v new old ≡ old
+unfolding numberOf onSuccess
+refusal-keeps accepted new old h = absurd (h refl)
+refusal-keeps (refused n p) new old h = refl
+
+-- checks whose place is 0
+unfoldable pub NoPlace : List Check → Type 0
+NoPlace [] = Unit {0}
+NoPlace (k ∷ ks) = (k .place ≡ 0) × NoPlace ks
+
+pub no-place : (ks : List Check) → NoPlace ks → placeOf (verdict ks) ≡ 0
+unfolding NoPlace verdict placeOf
+no-place [] p = refl
+no-place (k ∷ ks) (e, p) = go (k .failed) (no-place ks p)
+  where
+    go : (b : Bool) → placeOf (verdict ks) ≡ 0 → placeOf (cond b (refused (k .number) (k .place)) (verdict ks)) ≡ 0
+    go true x = e
+    go false x = x

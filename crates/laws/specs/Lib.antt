@@ -6,3 +6,4 @@ pub mod FixedTerm
 pub mod ThirdDemand
 pub mod Bounds
 pub mod Walk
+pub mod Booking

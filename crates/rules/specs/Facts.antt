@@ -11,7 +11,7 @@ use borrow.Author.Tests.{lt-ltb, le-ltb}
 use lib.IntN.{ℤ, pos, negℤ}
 use Rattle.rules.specs.Date.{nextAccount, discounted, margin}
 use Rattle.rules.specs.Refusals.{Check, check, checkEach, numbers, termsChecks, recordChecks, listChecks}
-use Rattle.rules.specs.Operations.{valuingChecks, suppliedChecks, bookingChecks, walkChecks}
+use Rattle.rules.specs.Operations.{valuingChecks, suppliedChecks, amountChecks, bookingChecks, walkChecks}
 
 -- ---- "Checks run in the order of the table; an operation makes those for which it has the input."
 pub record-order : (bytes : List ℕ) → numbers (recordChecks bytes) ≡ 1 ∷ 2 ∷ 3 ∷ 4 ∷ 5 ∷ 6 ∷ []
@@ -30,7 +30,7 @@ supplied-order bytes list work table = refl
 
 pub booking-order : (bytes : List ℕ) (date w a t : ℕ) (buffer : List ℕ)
     → numbers (bookingChecks bytes date w a t buffer) ≡ 1 ∷ 2 ∷ 3 ∷ 4 ∷ 5 ∷ 6 ∷ 11 ∷ 12 ∷ 14 ∷ []
-unfolding numbers termsChecks recordChecks bookingChecks
+unfolding numbers termsChecks recordChecks amountChecks bookingChecks
 booking-order bytes date w a t buffer = refl
 
 pub walk-order : (bytes list table path cashes : List ℕ)

@@ -108,16 +108,15 @@ suppliedWork bytes list work table =
 
 -- ---- booking one withdrawal
 -- 12: "date not 1 to N−1, W above top or A above U"
-unfoldable pub bookingChecks : List ℕ → ℕ → ℕ → ℕ → ℕ → List ℕ → List Check
-bookingChecks bytes date w a t buffer =
-    let c = termsOf bytes in
-    recordChecks bytes
-    ++ (
+unfoldable pub amountChecks : Terms → ℕ → ℕ → ℕ → ℕ → List ℕ → List Check
+amountChecks c date w a t buffer =
     check 11 0 (not (eqb (length buffer) 16))
     ∷ check 12 0 (outside 1 (c .dates - 1) date || ltb (c .top) w || ltb (c .premium) a)
     ∷ check 14 0 (not (admits dynamic (freeAmount (c .level) a) w t))
     ∷ []
-    )
+
+unfoldable pub bookingChecks : List ℕ → ℕ → ℕ → ℕ → ℕ → List ℕ → List Check
+bookingChecks bytes date w a t buffer = recordChecks bytes ++ amountChecks (termsOf bytes) date w a t buffer
 
 unfoldable pub bookingVerdict : List ℕ → ℕ → ℕ → ℕ → ℕ → List ℕ → Verdict
 bookingVerdict bytes date w a t buffer = verdict (bookingChecks bytes date w a t buffer)

@@ -1,0 +1,66 @@
+-- What holds of a booking that is accepted, and how its checks follow those of the record. Assumes nothing.
+use mathlib.Core.Bool.{Bool, not, _||_}
+use mathlib.Core.List.{List, [], _∷_, _++_}
+use mathlib.Core.Path.{_≡_, refl, ap, _∙_}
+use Prim.Native.Nat.{ℕ, _-_, _≤_, max}
+use native.Mathlib.Nat.{le-trans, max-le, min-le-right}
+use native.Mathlib.Omega.{arith}
+use lib.Dec.{T, ltb, eqb, eqb→eq, nltb→le}
+use lib.ListN.{length}
+use Rattle.rules.specs.Contract.{Terms, termsOf, topMost}
+use Rattle.rules.specs.Date.{dynamic, freeAmount, admits}
+use Rattle.rules.specs.Refusals.{Verdict, accepted, refused, verdict, numbers, numberOf, outside, recordChecks}
+use Rattle.rules.specs.Operations.{amountChecks, bookingChecks, bookingVerdict}
+use Rattle.laws.specs.Accepted.{Valid, Positive, zero-accepts, NoPlace, AllPass, all-pass, nor-left, nor-right, not-not, andThen, verdict-append}
+use Rattle.laws.specs.Date.{dynamic-is}
+
+pub record Bookable (c : Terms) (w a t : ℕ) (buffer : List ℕ) : Type 0 where
+  pub sixteen : length buffer ≡ 16
+  pub account : w ≤ c .top
+  pub guarantee : a ≤ c .premium
+  pub amount : t ≤ max w (freeAmount (c .level) a)
+
+module _ (c : Terms) (date w a t : ℕ) (buffer : List ℕ) where
+  pub bookable : verdict (amountChecks c date w a t buffer) ≡ accepted → Bookable c w a t buffer
+  unfolding amountChecks AllPass
+  bookable e = go (all-pass _ e)
+    where
+      early : Bool
+      early = outside 1 (c .dates - 1) date || ltb (c .top) w
+
+      late : Bool
+      late = ltb (c .premium) a
+
+      go : AllPass (amountChecks c date w a t buffer) → Bookable c w a t buffer
+      go (sixteen, (state, (amount, done))) = record {
+        sixteen = eqb→eq (length buffer) 16 (not-not (eqb (length buffer) 16) sixteen);
+        account = nltb→le (c .top) w (nor-right (outside 1 (c .dates - 1) date) (ltb (c .top) w) (nor-left early late state));
+        guarantee = nltb→le (c .premium) a (nor-right early late state);
+        amount = dynamic-is (freeAmount (c .level) a) w t (not-not (admits dynamic (freeAmount (c .level) a) w t) amount);
+      }
+
+  -- number 0 is success, and no refusal has another place than 0
+  pub amount-accepts : numberOf (verdict (amountChecks c date w a t buffer)) ≡ 0 → verdict (amountChecks c date w a t buffer) ≡ accepted
+  unfolding amountChecks numbers Positive
+  amount-accepts e = zero-accepts (amountChecks c date w a t buffer) (omega arith) e
+
+  pub amount-places : NoPlace (amountChecks c date w a t buffer)
+  unfolding amountChecks NoPlace
+  amount-places = (refl, (refl, (refl, tt)))
+
+-- the record's checks come first
+pub booking-verdict : (bytes : List ℕ) (date w a t : ℕ) (buffer : List ℕ)
+    → bookingVerdict bytes date w a t buffer ≡ andThen (verdict (recordChecks bytes)) (verdict (amountChecks (termsOf bytes) date w a t buffer))
+unfolding bookingVerdict bookingChecks
+booking-verdict bytes date w a t buffer = verdict-append (recordChecks bytes) (amountChecks (termsOf bytes) date w a t buffer)
+
+-- account, guarantee and amount are at most 4,000
+pub bookable-small : {c : Terms} {w a t : ℕ} {buffer : List ℕ} → Valid c → Bookable c w a t buffer
+    → (w ≤ topMost) × (a ≤ topMost) × (t ≤ topMost)
+unfolding freeAmount
+bookable-small {c} {w} {a} {t} v b =
+    let l : a ≤ c .top = le-trans (b .guarantee) (v .premium) in (
+      le-trans (b .account) (v .top),
+      le-trans l (v .top),
+      le-trans (b .amount) (max-le (le-trans (b .account) (v .top)) (le-trans (min-le-right (c .level) a) (le-trans l (v .top)))),
+    )

@@ -1,0 +1,340 @@
+/*
+ * Helpers for the tests of the C interface: checks, slices to lend, random numbers, and packing of
+ * records and lists. The tests make each call on the engine (gmwb_*) and on the second program
+ * (second_*), with equal slices, and compare all that the two tell and leave.
+ */
+#ifndef HOST_TEST_H
+#define HOST_TEST_H
+
+#include <inttypes.h>
+#include <stdarg.h>
+#include <stdbool.h>
+#include <stdio.h>
+#include <stdlib.h>
+#include <string.h>
+
+#include "gmwb.h"
+
+/* ---- The second program (second/c.rs) --------------------------------------------------------- */
+
+uint32_t second_check(const uint8_t *record, size_t record_len);
+uint32_t second_book(const uint8_t *record, size_t record_len,
+                     uint64_t date, uint64_t account, uint64_t guarantee, uint64_t amount,
+                     uint8_t *out, size_t out_len);
+uint32_t second_value(const uint8_t *record, size_t record_len,
+                      const uint8_t *list, size_t list_len,
+                      uint64_t behaviour,
+                      uint32_t *work, size_t work_len,
+                      uint16_t *table, size_t table_len,
+                      uint64_t *place, uint32_t *value, int64_t *margin);
+uint32_t second_value_table(const uint8_t *record, size_t record_len,
+                            const uint8_t *list, size_t list_len,
+                            uint32_t *work, size_t work_len,
+                            const uint16_t *table, size_t table_len,
+                            uint64_t *place, uint32_t *value, int64_t *margin);
+uint32_t second_walk(const uint8_t *record, size_t record_len,
+                     const uint8_t *list, size_t list_len,
+                     const uint16_t *table, size_t table_len,
+                     const uint16_t *path, size_t path_len,
+                     uint32_t *cash, size_t cash_len,
+                     uint64_t *place);
+
+/* ---- Checks ----------------------------------------------------------------------------------- */
+
+enum { FAILURES_SHOWN = 20 };
+
+static uint64_t checks, failures;
+static char situation[1024]; /* the case under way, named in the line of a failure */
+
+__attribute__((format(printf, 1, 2)))
+static inline void about(const char *format, ...)
+{
+    va_list rest;
+    va_start(rest, format);
+    vsnprintf(situation, sizeof situation, format, rest);
+    va_end(rest);
+}
+
+/* Counts a check; true where a line is to be printed. */
+static inline bool fails(bool condition)
+{
+    checks++;
+    if (condition)
+        return false;
+    failures++;
+    return failures <= FAILURES_SHOWN;
+}
+
+static inline void holds(const char *name, bool condition)
+{
+    if (fails(condition))
+        fprintf(stderr, "failed: %s: %s\n", situation, name);
+}
+
+static inline void same(const char *name, uint64_t got, uint64_t expected)
+{
+    if (fails(got == expected))
+        fprintf(stderr, "failed: %s: %s: got %" PRIu64 ", expected %" PRIu64 "\n",
+                situation, name, got, expected);
+}
+
+static inline void same_signed(const char *name, int64_t got, int64_t expected)
+{
+    if (fails(got == expected))
+        fprintf(stderr, "failed: %s: %s: got %" PRId64 ", expected %" PRId64 "\n",
+                situation, name, got, expected);
+}
+
+/* The rounds to make: the program's argument, or the usual number. */
+static inline uint64_t rounds_from(int argc, char **argv, uint64_t usual)
+{
+    if (argc < 2)
+        return usual;
+    char *end;
+    unsigned long long rounds = strtoull(argv[1], &end, 10);
+    if (argc > 2 || argv[1][0] < '0' || argv[1][0] > '9' || *end != '\0') {
+        fprintf(stderr, "usage: %s [ROUNDS]\n", argv[0]);
+        exit(2);
+    }
+    return rounds;
+}
+
+/* Prints the last line; gives the exit status. */
+static inline int verdict(const char *name)
+{
+    printf("host %s: %" PRIu64 " checks, %" PRIu64 " failed\n", name, checks, failures);
+    return failures == 0 ? 0 : 1;
+}
+
+/* Random rounds show little where a call always answers the same: each number must have come. */
+static inline void all_came(const uint64_t *came, const uint32_t *numbers, size_t count)
+{
+    for (size_t i = 0; i < count; i++) {
+        about("random rounds");
+        if (fails(came[numbers[i]] > 0))
+            fprintf(stderr, "failed: random rounds: number %" PRIu32 " never came\n", numbers[i]);
+    }
+}
+
+/* ---- Slices to lend --------------------------------------------------------------------------- */
+
+/* Bytes on both sides of a slice that no call may touch; keeps the alignment of the widest entry. */
+enum { FENCE = 64 };
+
+struct lent {
+    uint8_t *block; /* fence, slice, then `after` bytes of fence */
+    size_t bytes, after;
+};
+
+/* What a block holds before a call: never 0, so that zeros written are seen. */
+static inline uint8_t filling(size_t i)
+{
+    return (uint8_t)(37 * i + 11) | 1;
+}
+
+static inline struct lent fenced(size_t bytes, size_t after)
+{
+    struct lent s = {malloc(FENCE + bytes + after), bytes, after};
+    if (s.block == NULL) {
+        fprintf(stderr, "no memory\n");
+        exit(2);
+    }
+    for (size_t i = 0; i < FENCE + bytes + after; i++)
+        s.block[i] = filling(i);
+    return s;
+}
+
+/* A slice that a call may change. */
+static inline struct lent lend(size_t entries, size_t width)
+{
+    return fenced(entries * width, FENCE);
+}
+
+/*
+ * A slice that a call reads: a copy of what is there, then zeros. Its end is the end of the block,
+ * so that valgrind sees a read beyond it; an empty one keeps its fence, to be an object's address.
+ */
+static inline struct lent lend_copy(const void *from, size_t there, size_t bytes)
+{
+    struct lent s = fenced(bytes, bytes == 0 ? FENCE : 0);
+    size_t copied = there < bytes ? there : bytes;
+    if (copied > 0)
+        memcpy(s.block + FENCE, from, copied);
+    memset(s.block + FENCE + copied, 0, bytes - copied);
+    return s;
+}
+
+static inline void *start(struct lent s)
+{
+    return s.block + FENCE;
+}
+
+static inline void take_back(struct lent s)
+{
+    free(s.block);
+}
+
+/* The fences, and the slice from its byte `from` on, are as they were lent. */
+static inline void untouched_from(const char *name, struct lent s, size_t from)
+{
+    bool kept = true;
+    for (size_t i = 0; i < FENCE + s.bytes + s.after; i++)
+        kept = kept && ((i >= FENCE && i < FENCE + from) || s.block[i] == filling(i));
+    holds(name, kept);
+}
+
+static inline void untouched(const char *name, struct lent s)
+{
+    untouched_from(name, s, 0);
+}
+
+/* Two slices of one length hold the same, fences included. */
+static inline void same_slice(const char *name, struct lent got, struct lent expected, size_t width)
+{
+    size_t size = FENCE + got.bytes + got.after;
+    if (!fails(memcmp(got.block, expected.block, size) == 0))
+        return;
+    size_t i = 0;
+    while (got.block[i] == expected.block[i])
+        i++;
+    fprintf(stderr, "failed: %s: %s: entry %ld of %lu differs\n", situation, name,
+            (long)(i / width) - (long)(FENCE / width), (unsigned long)(got.bytes / width));
+}
+
+/* What a call reports through pointers, with words around that it must not touch. */
+struct told {
+    uint64_t before, place, between;
+    uint32_t value, after_value;
+    int64_t margin;
+    uint64_t after;
+};
+
+static inline struct told untold(void)
+{
+    struct told t;
+    memset(&t, 0xA5, sizeof t);
+    return t;
+}
+
+static inline void same_told(struct told got, struct told expected)
+{
+    same("place against the second program", got.place, expected.place);
+    same("value against the second program", got.value, expected.value);
+    same_signed("margin against the second program", got.margin, expected.margin);
+    struct told u = untold();
+    holds("only place, value and margin written",
+          got.before == u.before && got.between == u.between && got.after_value == u.after_value &&
+              got.after == u.after);
+}
+
+/* ---- Random numbers --------------------------------------------------------------------------- */
+
+/* splitmix64, with the same seed on every run. */
+static inline uint64_t random64(void)
+{
+    static uint64_t state = 20240601;
+    uint64_t z = (state += UINT64_C(0x9E3779B97F4A7C15));
+    z = (z ^ (z >> 30)) * UINT64_C(0xBF58476D1CE4E5B9);
+    z = (z ^ (z >> 27)) * UINT64_C(0x94D049BB133111EB);
+    return z ^ (z >> 31);
+}
+
+/* A number from 0 to most. */
+static inline uint64_t upto(uint64_t most)
+{
+    return random64() % (most + 1);
+}
+
+static inline uint64_t between(uint64_t least, uint64_t most)
+{
+    return least + upto(most - least);
+}
+
+static inline bool one_in(uint64_t n)
+{
+    return upto(n - 1) == 0;
+}
+
+/* ---- Records and lists ------------------------------------------------------------------------ */
+
+struct terms {
+    uint16_t premium, level, top, dates, fee, penalty;
+    uint32_t discount;
+};
+
+struct fund_return {
+    uint16_t factor, weight;
+};
+
+static const struct terms P = {10, 5, 20, 2, 0, 1000, 1000000};
+static const struct terms Q = {10, 5, 20, 2, 2000, 0, 1000000};
+static const struct fund_return P_RETURNS[2] = {{5000, 5000}, {15000, 5000}};
+
+/* A record and a list. They are lent with zeros behind them where a length asks for more. */
+struct input {
+    struct terms terms; /* what the record was packed from */
+    uint8_t record[GMWB_RECORD_BYTES];
+    size_t record_len;
+    uint8_t list[GMWB_RETURN_BYTES * (GMWB_MOST_RETURNS + 1)]; /* room for one too many */
+    size_t list_len;
+};
+
+/* "fields are unsigned, low byte first" */
+static inline void put(uint8_t *at, size_t bytes, uint64_t number)
+{
+    for (size_t i = 0; i < bytes; i++)
+        at[i] = (uint8_t)(number >> (8 * i));
+}
+
+static inline uint64_t get(const uint8_t *at, size_t bytes)
+{
+    uint64_t number = 0;
+    for (size_t i = bytes; i > 0; i--)
+        number = number << 8 | at[i - 1];
+    return number;
+}
+
+static inline void pack_record(struct input *in, struct terms c)
+{
+    const uint16_t fields[6] = {c.premium, c.level, c.top, c.dates, c.fee, c.penalty};
+    for (size_t i = 0; i < 6; i++)
+        put(in->record + 2 * i, 2, fields[i]);
+    put(in->record + 12, 4, c.discount);
+    in->record_len = GMWB_RECORD_BYTES;
+    in->terms = c;
+}
+
+static inline void pack_list(struct input *in, const struct fund_return *returns, size_t count)
+{
+    for (size_t i = 0; i < count; i++) {
+        put(in->list + GMWB_RETURN_BYTES * i, 2, returns[i].factor);
+        put(in->list + GMWB_RETURN_BYTES * i + 2, 2, returns[i].weight);
+    }
+    in->list_len = GMWB_RETURN_BYTES * count;
+}
+
+static inline struct input input_of(struct terms c, const struct fund_return *returns, size_t count)
+{
+    struct input in;
+    memset(&in, 0, sizeof in);
+    pack_record(&in, c);
+    pack_list(&in, returns, count);
+    return in;
+}
+
+static inline struct input input_p(void)
+{
+    return input_of(P, P_RETURNS, 2);
+}
+
+static inline struct lent lend_record(const struct input *in)
+{
+    return lend_copy(in->record, sizeof in->record, in->record_len);
+}
+
+static inline struct lent lend_list(const struct input *in)
+{
+    return lend_copy(in->list, sizeof in->list, in->list_len);
+}
+
+#endif

@@ -1,0 +1,167 @@
+/*
+ * Valuation of guaranteed minimum withdrawal benefits: the calls of libgmwb.a for C hosts.
+ *
+ * Answers. Each call returns 0 on success, else the number of a refusal (enum gmwb_refusal). Checks
+ * run in the order of the numbers, each call makes those for which it has the input, and the first
+ * that fails is returned. A refusal changes no slice. What place, value and margin point to is
+ * always written: place is 0 on success, value and margin are 0 on refusal.
+ *
+ * Units. Accounts, guarantees and withdrawals are whole money units; values, margins, cash and
+ * penalties are ten-thousandths of a unit. Fields of records and buffers are unsigned, low byte
+ * first. Indexes and entries count from 0.
+ *
+ * Numbers. Date, account, guarantee, amount and behaviour are passed in 64 bits, more than any
+ * accepted one needs, so that what the caller passes is what is refused: 65,537 is not taken for 1.
+ *
+ * Slices. A slice is a pointer, aligned for its type, and the number of entries behind it (bytes
+ * for a record, a list and a booking buffer). Slices passed as const are only read. Slices must not
+ * overlap one another, nor the objects that place, value and margin point to; nor may these.
+ * A pointer must be valid even where its length is 0: pass the address of any object, not NULL.
+ */
+#ifndef GMWB_H
+#define GMWB_H
+
+#include <stddef.h>
+#include <stdint.h>
+
+#ifdef __cplusplus
+extern "C" {
+#endif
+
+/* The place is 0 unless one is named. */
+enum gmwb_refusal {
+    GMWB_SUCCESS = 0,
+    GMWB_REFUSED_RECORD_LENGTH = 1, /* record not 16 bytes */
+    GMWB_REFUSED_PREMIUM = 2,       /* top above 4,000, or premium not 1 to top */
+    GMWB_REFUSED_LEVEL = 3,         /* level not 1 to premium */
+    GMWB_REFUSED_DATES = 4,         /* dates not 1 to 40 */
+    GMWB_REFUSED_RATE = 5,          /* fee or penalty rate above 10,000 */
+    GMWB_REFUSED_DISCOUNT = 6,      /* discount not 1 to 1,000,000 */
+    GMWB_REFUSED_LIST_LENGTH = 7,   /* list empty, over 256 bytes, or not a multiple of 4 */
+    GMWB_REFUSED_RETURN = 8,        /* factor above 30,000, or weight not 1 to 10,000;
+                                       place: the first such record of the list */
+    GMWB_REFUSED_WEIGHTS = 9,       /* weights do not add to 10,000 */
+    GMWB_REFUSED_BEHAVIOUR = 10,    /* behaviour not 0 static, 1 mixed, 2 dynamic */
+    GMWB_REFUSED_SLICE = 11,        /* a slice shorter than needed; a booking buffer not 16 bytes */
+    GMWB_REFUSED_STATE = 12,        /* booking: date not 1 to N - 1, account above top, or guarantee
+                                       above the premium */
+    GMWB_REFUSED_PATH = 13,         /* walk: count of return numbers not N (looked at first), place
+                                       N; or no such return, place: the first such index */
+    GMWB_REFUSED_AMOUNT = 14        /* amount outside the dynamic set; place: supplied table, the
+                                       first such entry; walk, the date; booking, 0 */
+};
+
+/* ---- Checking a record, booking a withdrawal -------------------------------------------------
+ *
+ * A contract record has 16 bytes:
+ *
+ *     offset  bytes  field                             range
+ *          0      2  premium U                         1 to top
+ *          2      2  level G, per date                 1 to U
+ *          4      2  top, the largest account          up to 4,000
+ *          6      2  dates N                           1 to 40
+ *          8      2  fee per period, ten-thousandths   0 to 10,000
+ *         10      2  penalty rate, ten-thousandths     0 to 10,000
+ *         12      4  discount per period, millionths   1 to 1,000,000
+ *
+ * A state is an account W, 0 to top, and a guarantee A, 0 to U; m is the smaller of G and A.
+ * Decisions fall on dates 1 to N - 1, and date N is maturity. The dynamic set of a state holds the
+ * amounts from 0 to the larger of W and m.
+ *
+ * A booking buffer has 16 bytes:
+ *
+ *     offset  bytes  field
+ *          0      4  cash: 10,000 x amount less penalty
+ *          4      4  penalty: rate x (amount - m) where the amount is above m, else 0
+ *          8      2  balance after the withdrawal, before the return
+ *         10      2  guarantee after the withdrawal
+ *         12      4  zeros
+ */
+enum { GMWB_RECORD_BYTES = 16, GMWB_BOOKING_BYTES = 16 };
+
+/*
+ * Checks a contract record. Returns 0 where it is accepted, else a refusal from 1 to 6, whose place
+ * is 0.
+ */
+uint32_t gmwb_check(const uint8_t *record, size_t record_len);
+
+/*
+ * Books the withdrawal of an amount on a decision date from a state of the contract. Returns 0 with
+ * out filled as a booking buffer; else a refusal (1 to 6, 11, 12, 14), whose place is 0, with out
+ * untouched.
+ */
+uint32_t gmwb_book(const uint8_t *record, size_t record_len,
+                   uint64_t date, uint64_t account, uint64_t guarantee, uint64_t amount,
+                   uint8_t *out, size_t out_len);
+
+/* ---- Valuing a contract ----------------------------------------------------------------------
+ *
+ * A return list has 1 to 64 records of 4 bytes: factor (2 bytes, ten-thousandths, 0 to 30,000) and
+ * weight (2 bytes, 1 to 10,000). The weights add to 10,000.
+ *
+ * A layer has (top + 1) x (U + 1) entries; the entry of state (W, A) is W x (U + 1) + A.
+ *
+ * The working slice, work, needs two layers. After success the first holds the values of date 1
+ * (for N = 1 those of maturity), the second zeros.
+ *
+ * The table holds withdrawal amounts and needs N - 1 layers: the layer of date i, from 1 to N - 1,
+ * starts at entry (i - 1) x (top + 1) x (U + 1). For N = 1 its length may be 0.
+ *
+ * Either slice may be longer; entries beyond those needed play no part and are untouched.
+ */
+enum { GMWB_RETURN_BYTES = 4, GMWB_MOST_RETURNS = 64 };
+
+/* The amounts open to the holder. */
+enum gmwb_behaviour {
+    GMWB_STATIC = 0, /* m only */
+    GMWB_MIXED = 1,  /* m and, where W is above m, also W (surrender) */
+    GMWB_DYNAMIC = 2 /* the dynamic set */
+};
+
+/*
+ * Values a contract under a behaviour. Returns 0 with the contract's value, the margin (value less
+ * 10,000 x premium, negative where the contract is worth less than its premium), place 0, the
+ * working slice as above, and in each entry of the table the recorded amount: the smallest among
+ * the best. Else a refusal (1 to 11) and its place, with value 0, margin 0, work and table
+ * untouched.
+ */
+uint32_t gmwb_value(const uint8_t *record, size_t record_len,
+                    const uint8_t *list, size_t list_len,
+                    uint64_t behaviour,
+                    uint32_t *work, size_t work_len,
+                    uint16_t *table, size_t table_len,
+                    uint64_t *place, uint32_t *value, int64_t *margin);
+
+/* ---- Valuing a supplied table ----------------------------------------------------------------
+ *
+ * Values a contract whose holder withdraws what the table says; record, list, work and table as
+ * above. Every needed entry of the table is checked against the dynamic set of its state, reachable
+ * or not. Returns 0 with value, margin, place 0 and the working slice as gmwb_value does. Else a
+ * refusal (1 to 9, 11, 14) and its place, with value 0, margin 0 and work untouched.
+ */
+uint32_t gmwb_value_table(const uint8_t *record, size_t record_len,
+                          const uint8_t *list, size_t list_len,
+                          uint32_t *work, size_t work_len,
+                          const uint16_t *table, size_t table_len,
+                          uint64_t *place, uint32_t *value, int64_t *margin);
+
+/* ---- Walking a contract along a path ---------------------------------------------------------
+ *
+ * Follows a table along a path of N return numbers (from 0, by place in the list), the first return
+ * first; record, list and table as above. Only the table entries met are checked. Returns 0 with
+ * place 0 and cash filled with N amounts in order of date, the last being the maturity payment;
+ * entries of cash beyond N are untouched. Else a refusal (1 to 9, 11, 13, 14) and its place, with
+ * cash untouched.
+ */
+uint32_t gmwb_walk(const uint8_t *record, size_t record_len,
+                   const uint8_t *list, size_t list_len,
+                   const uint16_t *table, size_t table_len,
+                   const uint16_t *path, size_t path_len,
+                   uint32_t *cash, size_t cash_len,
+                   uint64_t *place);
+
+#ifdef __cplusplus
+}
+#endif
+
+#endif
