@@ -132,13 +132,20 @@ static inline uint8_t filling(size_t i)
     return (uint8_t)(37 * i + 11) | 1;
 }
 
-static inline struct lent fenced(size_t bytes, size_t after)
+/* Zeros; bytes is at least 1. */
+static inline void *allocate(size_t bytes)
 {
-    struct lent s = {malloc(FENCE + bytes + after), bytes, after};
-    if (s.block == NULL) {
+    void *memory = calloc(bytes, 1);
+    if (memory == NULL) {
         fprintf(stderr, "no memory\n");
         exit(2);
     }
+    return memory;
+}
+
+static inline struct lent fenced(size_t bytes, size_t after)
+{
+    struct lent s = {allocate(FENCE + bytes + after), bytes, after};
     for (size_t i = 0; i < FENCE + bytes + after; i++)
         s.block[i] = filling(i);
     return s;

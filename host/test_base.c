@@ -90,6 +90,8 @@ static void other_bookings(void)
 {
     about("m above the account");
     booked(P, (struct booking){1, 3, 10, 5, 16}, (struct figures){50000, 0, 0, 5, 0});
+    about("account at m, which is no surrender");
+    booked(P, (struct booking){1, 5, 10, 5, 16}, (struct figures){50000, 0, 0, 5, 0});
     about("nothing drawn from nothing");
     booked(P, (struct booking){1, 0, 10, 0, 16}, (struct figures){0, 0, 0, 10, 0});
     about("guarantee below the amount");

@@ -14,8 +14,8 @@
  * accepted one needs, so that what the caller passes is what is refused: 65,537 is not taken for 1.
  *
  * Slices. A slice is a pointer, aligned for its type, and the number of entries behind it (bytes
- * for a record, a list and a booking buffer). Slices passed as const are only read. Slices must not
- * overlap one another, nor the objects that place, value and margin point to; nor may these.
+ * for a record, a list and a booking buffer). Slices passed as const are only read. Slices, and the
+ * objects that place, value and margin point to, must not overlap one another.
  * A pointer must be valid even where its length is 0: pass the address of any object, not NULL.
  */
 #ifndef GMWB_H

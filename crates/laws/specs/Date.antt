@@ -7,7 +7,7 @@ use native.Mathlib.Nat.{le-refl, min-le-left}
 use native.Mathlib.Omega.{arith}
 use lib.Dec.{T, leb, ltb, eqb, eqb→eq, eqb-refl, leb→le, le→leb, ltb→lt}
 use Rattle.decision.specs.Choice.{and-left, and-right}
-use Rattle.rules.specs.Date.{Behaviour, static, mixed, dynamic, largestAmount, surrenders, admits, guaranteeAfter}
+use Rattle.rules.specs.Date.{Behaviour, static, mixed, dynamic, largestAmount, surrenders, admits, guaranteeAfter, nextAccount}
 
 -- ---- admissible amounts
 or-left : (a b : Bool) → T a → T (a || b)
@@ -81,3 +81,8 @@ guarantee-le m w a t = go (leb t m)
     go : (b : Bool) → cond b (a - t) (min (a - t) (a * (w - t) / w)) ≤ a - t
     go true = le-refl (a - t)
     go false = min-le-left (a - t) (a * (w - t) / w)
+
+-- an account is held at top
+pub account-le : (fee top balance factor : ℕ) → nextAccount fee top balance factor ≤ top
+unfolding nextAccount
+account-le fee top balance factor = min-le-left _ _

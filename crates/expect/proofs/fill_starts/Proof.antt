@@ -1,0 +1,77 @@
+use Rattle.laws.specs.Date.{account-le}
+use native.Mathlib.Nat.{mul-le-mul, le-trans}
+use Rattle.rules.specs.Date.{nextAccount}
+use Rattle.rules.specs.Contract.{returnsOf}
+use Rattle.slices.specs.Stored.{stored, stored-push, length-stored}
+use lib.ListN.{length, set}
+use native.Mathlib.Omega.{arith}
+use mathlib.Core.Path.{_≡_, refl, sym, ap, _∙_}
+use Prim.Native.Nat.{_-_, _*_, _≤_}
+use Rattle.expect.proofs.fill_starts.Statement.{statement}
+use Rattle.expect.proofs.fill_starts.Tie as tie
+use Rattle.expect.proofs.fill_starts.Reads as reads
+use Rattle.expect.proofs.fill_starts.Lts as lts
+use Rattle.contract.proofs.word.Reads as word-reads
+use Rattle.date.proofs.next_account.Reads as next-account-reads
+
+abbrev Inv-loop : tie.InvT-loop
+Inv-loop starts₀ list count c balance stride k₀ starts k = (k ≤ count) × (starts ≡ stored starts₀ 0 (λ j. nextAccount (c .fee) (c .top) balance (returnsOf list .factor j) * stride) k)
+
+abbrev μ-loop : tie.MeasureT-loop
+μ-loop starts₀ list count c balance stride k₀ starts k = count - k
+
+loop-holds : tie.Need-loop-holds Inv-loop μ-loop
+unfolding stored
+loop-holds c = (omega arith, refl)
+
+mul-word : tie.Need-mul-word Inv-loop μ-loop
+mul-word c = omega arith
+
+word-requires : tie.Need-word-requires Inv-loop μ-loop
+word-requires c κs = omega arith
+
+next-account-requires : tie.Need-next-account-requires Inv-loop μ-loop
+unfolding returnsOf
+next-account-requires c κs = (c .before .before .before .before .pre .1 .fee, c .before .before .before .before .pre .2, rw (c .word .ensures .0) (c .before .before .before .before .pre .0 .valid .factor (c .before .before .loop .k) (omega (arith, c .before .before .before .before .pre .0 .all))))
+
+mul-starts : tie.Need-mul-starts Inv-loop μ-loop
+mul-starts c = let x = c .before .before .before .before .before .args in let small : c .next-account .result ≤ 4000 = rw (c .next-account .ensures) (le-trans (account-le (x .c .fee) (x .c .top) (x .balance) (c .before .word .result)) (c .before .before .before .before .before .pre .1 .top)) in omega (arith, mul-le-mul small (c .before .before .before .before .before .pre .3))
+
+mul-starts-2 : tie.Need-mul-starts-2 Inv-loop μ-loop
+mul-starts-2 c = omega arith
+
+element-write-starts : tie.Need-element-write-starts Inv-loop μ-loop
+element-write-starts c = omega arith
+
+add-k : tie.Need-add-k Inv-loop μ-loop
+add-k c = omega arith
+
+loop-less : tie.Need-loop-less Inv-loop μ-loop
+loop-less c = omega arith
+
+loop-again : tie.Need-loop-again Inv-loop μ-loop
+unfolding returnsOf
+loop-again c =
+    let next = c .next-account .ensures ∙ ap (nextAccount (c .before .before .before .before .before .args .c .fee) (c .before .before .before .before .before .args .c .top) (c .before .before .before .before .before .args .balance)) (c .before .word .ensures .0) in
+    (omega arith, (λ i. set (c .before .before .before .loop .inv .1 i) (c .before .before .before .loop .k) (next i * c .before .before .before .before .before .args .stride)) ∙ stored-push _ _ _)
+
+returns : tie.Need-returns Inv-loop μ-loop
+returns c = let e : c .before .loop .k ≡ c .before .before .before .args .count = omega arith in rw (sym e) (c .before .loop .inv .1)
+
+pub fill-starts-spec : {M : Type 1} → statement M
+fill-starts-spec =
+    tie.close
+    (tie.spec
+    Inv-loop
+    μ-loop
+    loop-holds
+    mul-word
+    word-requires
+    next-account-requires
+    mul-starts
+    mul-starts-2
+    element-write-starts
+    add-k
+    loop-less
+    loop-again
+    returns)

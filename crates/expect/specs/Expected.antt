@@ -1,0 +1,52 @@
+-- The discounted sum for a balance and a guarantee, where v gives the next date's values. Assumes nothing.
+use mathlib.Core.List.{List}
+use mathlib.Core.Path.{_≡_}
+use Prim.Native.Nat.{ℕ, _+_, _*_, _≤_, _<_}
+use lib.ListN.{getD, length}
+use Rattle.decision.specs.Index.{sum}
+use Rattle.rules.specs.Contract.{Terms, Returns, returnsOf, discountMost, weightTotal, weightMost, returnsMost}
+use Rattle.rules.specs.Date.{nextAccount, discounted}
+use Rattle.rules.specs.FixedTerm.{layerSize}
+use Rattle.laws.specs.Accepted.{Valid, ValidReturns}
+
+-- the sum of weight × value reached
+unfoldable pub reachedSum : Terms → Returns → (ℕ → ℕ → ℕ) → ℕ → ℕ → ℕ
+reachedSum c rs v balance a = sum (λ k. rs .weight k * v (nextAccount (c .fee) (c .top) balance (rs .factor k)) a) (rs .count)
+
+unfoldable pub expected : Terms → Returns → (ℕ → ℕ → ℕ) → ℕ → ℕ → ℕ
+expected c rs v balance a = discounted (c .discount) (reachedSum c rs v balance a)
+
+-- ---- what the loops hand to each other
+-- weight × value in the row that starts at the k-th start
+abbrev pub term : List ℕ → List ℕ → List ℕ → ℕ → ℕ → ℕ
+term work starts weights a k = getD weights k 0 * getD work (getD starts k 0 + a) 0
+
+-- a row to be filled at `to`, from rows that lie before it
+pub record Row (work starts weights : List ℕ) (count discount to stride : ℕ) : Type 0 where
+  pub few : count ≤ returnsMost
+  pub discount-is : discount ≤ discountMost
+  pub total : sum (λ k. getD weights k 0) count ≡ weightTotal
+  pub light : (k : ℕ) → k < count → getD weights k 0 ≤ weightMost
+  pub below : (k : ℕ) → k < count → getD starts k 0 + stride ≤ to
+  pub room : to + stride ≤ length work
+
+-- what a list shows of its returns
+pub record Listing (list : List ℕ) (count : ℕ) : Type 0 where
+  pub few : count ≤ returnsMost
+  pub long : 4 * count ≤ length list
+  pub valid : ValidReturns (returnsOf list)
+  pub all : count ≡ returnsOf list .count
+
+-- a slice with room for two layers
+pub record Layers (c : Terms) (work : List ℕ) : Type 0 where
+  pub valid : Valid c
+  pub room : layerSize c + layerSize c ≤ length work
+
+-- a balance whose row is to be filled
+pub record Balance (c : Terms) (work list weights : List ℕ) (count balance stride size : ℕ) : Type 0 where
+  pub listing : Listing list count
+  pub layers : Layers c work
+  pub weights-are : (k : ℕ) → k < count → getD weights k 0 ≡ returnsOf list .weight k
+  pub balance-is : balance ≤ c .top
+  pub stride-is : stride ≡ c .premium + 1
+  pub size-is : size ≡ (c .top + 1) * stride

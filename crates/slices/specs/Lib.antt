@@ -1,0 +1,3 @@
+-- Facts about slices, whatever the width of their numbers.
+pub mod Stored
+pub mod Rows

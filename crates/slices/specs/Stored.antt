@@ -1,0 +1,102 @@
+-- A slice of which a run of entries is stored in order: what a loop that counts up leaves. Assumes nothing.
+use mathlib.Core.List.{List, [], _∷_, _++_}
+use mathlib.Core.Logic.{_⊎_, inl, inr}
+use mathlib.Core.Path.{_≡_, refl, ap, ap₂, sym, _∙_}
+use Prim.Native.Nat.{ℕ, zero, suc, _+_, _-_, _≤_, _<_}
+use native.Mathlib.Decide.{decLe}
+use native.Mathlib.Nat.{add-suc, add-assoc, add-zero, zero-add}
+use native.Mathlib.Numerals.{add-one}
+use native.Mathlib.Omega.{arith}
+use lib.ListN.{length, getD, set, drop, length-set, length-append, length-drop}
+use lib.Seq.{getD-set-same, getD-set-other, getD-append-add, getD-drop, ext-getD}
+use Rattle.decision.specs.Index.{tabulate, length-tabulate, getD-tabulate}
+
+-- l with f 0, f 1, .. f (n - 1) from index `at` on
+unfoldable pub stored : List ℕ → ℕ → (ℕ → ℕ) → ℕ → List ℕ
+stored l at f zero = l
+stored l at f (suc n) = set (stored l at f n) (at + n) (f n)
+
+pub length-stored : (l : List ℕ) (at : ℕ) (f : ℕ → ℕ) (n : ℕ) → length (stored l at f n) ≡ length l
+unfolding stored
+length-stored l at f zero = refl
+length-stored l at f (suc n) = length-set (stored l at f n) (at + n) (f n) ∙ length-stored l at f n
+
+-- one more
+pub stored-next : (l : List ℕ) (at : ℕ) (f : ℕ → ℕ) (n : ℕ) → set (stored l at f n) (at + n) (f n) ≡ stored l at f (n + 1)
+unfolding stored
+stored-next l at f n = rw add-one
+
+-- an entry of the run, and one outside it
+pub stored-in : (l : List ℕ) (at : ℕ) (f : ℕ → ℕ) (n k : ℕ) → at + n ≤ length l → k < n → getD (stored l at f n) (at + k) 0 ≡ f k
+unfolding stored
+stored-in l at f zero k h l' = absurd (omega arith)
+stored-in l at f (suc n) k h l' = go (decLe (suc k) n) (stored-in l at f n k (omega arith))
+  where
+    go : Dec (suc k ≤ n) → (k < n → getD (stored l at f n) (at + k) 0 ≡ f k) → getD (set (stored l at f n) (at + n) (f n)) (at + k) 0 ≡ f k
+    go (yes m) before = getD-set-other (stored l at f n) (at + n) (at + k) (f n) 0 (λ e. let z : at + k < at + n = omega arith in omega arith) ∙ before m
+    go (no m) before =
+        let e : k ≡ n = omega arith in
+        rw e (getD-set-same (stored l at f n) (at + n) (f n) 0 (rw (length-stored l at f n) (omega arith)))
+
+pub stored-out : (l : List ℕ) (at : ℕ) (f : ℕ → ℕ) (n j : ℕ) → (j < at) ⊎ (at + n ≤ j) → getD (stored l at f n) j 0 ≡ getD l j 0
+unfolding stored
+stored-out l at f zero j o = refl
+stored-out l at f (suc n) j o = getD-set-other (stored l at f n) (at + n) j (f n) 0 (apart o) ∙ stored-out l at f n j (less o)
+  where
+    apart : (j < at) ⊎ (at + suc n ≤ j) → j ≡ at + n → ⊥
+    apart (inl l) e = omega arith
+    apart (inr l) e = omega arith
+
+    less : (j < at) ⊎ (at + suc n ≤ j) → (j < at) ⊎ (at + n ≤ j)
+    less (inl l) = inl l
+    less (inr l) = inr (omega arith)
+
+-- two runs that meet
+pub stored-join : (l : List ℕ) (at : ℕ) (f g : ℕ → ℕ) (n m : ℕ) → ((k : ℕ) → k < m → g k ≡ f (n + k))
+    → stored (stored l at f n) (at + n) g m ≡ stored l at f (n + m)
+unfolding stored
+stored-join l at f g n zero h = ap (stored l at f) (sym (add-zero n))
+stored-join l at f g n (suc m) h =
+    let before = stored-join l at f g n m (λ k l. h k (omega arith)) in
+    let last = h m (omega arith) in
+    rw (add-suc n m) (λ i. set (before i) (add-assoc at n m i) (last i))
+
+-- a list is known by its length and its entries
+pub is-stored : (l l' : List ℕ) (at : ℕ) (f : ℕ → ℕ) (n : ℕ) → length l' ≡ length l → at + n ≤ length l
+    → ((k : ℕ) → k < n → getD l' (at + k) 0 ≡ f k) → ((j : ℕ) → (j < at) ⊎ (at + n ≤ j) → getD l' j 0 ≡ getD l j 0)
+    → l' ≡ stored l at f n
+is-stored l l' at f n same fits inside outside =
+    ext-getD 0 l' (stored l at f n) (same ∙ sym (length-stored l at f n)) (λ j h. go j (decLe (suc j) at) (decLe (at + n) j))
+  where
+    go : (j : ℕ) → Dec (suc j ≤ at) → Dec (at + n ≤ j) → getD l' j 0 ≡ getD (stored l at f n) j 0
+    go j (yes h) d = outside j (inl h) ∙ sym (stored-out l at f n j (inl h))
+    go j (no h) (yes d) = outside j (inr d) ∙ sym (stored-out l at f n j (inr d))
+    go j (no h) (no d) =
+        let e : j ≡ at + (j - at) = omega arith in
+        rw e (inside (j - at) (omega arith) ∙ sym (stored-in l at f n (j - at) fits (omega arith)))
+
+-- a run from the start
+pub stored-front : (l : List ℕ) (f : ℕ → ℕ) (n : ℕ) → n ≤ length l → stored l 0 f n ≡ tabulate n f ++ drop n l
+stored-front l f n fits =
+    sym (is-stored l (tabulate n f ++ drop n l) 0 f n
+    (length-append (tabulate n f) (drop n l) ∙ ap₂ _+_ (length-tabulate n f) (length-drop n l) ∙ omega arith)
+    (omega arith)
+    (λ k h. rw (zero-add k) (getD-tabulate n k f (drop n l) h))
+    outside)
+  where
+    outside : (j : ℕ) → (j < 0) ⊎ (0 + n ≤ j) → getD (tabulate n f ++ drop n l) j 0 ≡ getD l j 0
+    outside j (inl h) = absurd (omega arith)
+    outside j (inr h) =
+        let e : j ≡ length (tabulate n f) + (j - n) = rw (length-tabulate n f) (omega arith) in
+        let d : n + (j - n) ≡ j = omega arith in
+        ap (λ (x : ℕ). getD (tabulate n f ++ drop n l) x 0) e
+        ∙ getD-append-add (tabulate n f) (drop n l) (j - n) 0
+        ∙ getD-drop n l (j - n) 0
+        ∙ ap (λ (x : ℕ). getD l x 0) d
+
+-- an entry of a run from the start
+pub stored-first : (l : List ℕ) (f : ℕ → ℕ) (n k : ℕ) → n ≤ length l → k < n → getD (stored l 0 f n) k 0 ≡ f k
+stored-first l f n k fits h = ap (λ (j : ℕ). getD (stored l 0 f n) j 0) (sym (zero-add k)) ∙ stored-in l 0 f n k (omega arith) h
+
+pub stored-push : (l : List ℕ) (f : ℕ → ℕ) (n : ℕ) → set (stored l 0 f n) n (f n) ≡ stored l 0 f (n + 1)
+stored-push l f n = ap (λ (j : ℕ). set (stored l 0 f n) j (f n)) (sym (zero-add n)) ∙ stored-next l 0 f n

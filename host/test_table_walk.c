@@ -1,0 +1,589 @@
+/*
+ * gmwb_value_table and gmwb_walk: their refusals on both sides of each boundary, what is left in the
+ * slices, the value of a table against walks along every path, and random tables and walks against
+ * the second program.
+ */
+#include "contracts.h"
+
+__extension__ typedef unsigned __int128 wide;
+
+/* ---- The calls -------------------------------------------------------------------------------- */
+
+/* The room holds table and path whatever the lengths lent are. */
+struct followed {
+    struct input in;
+    const uint16_t *table;
+    size_t table_room, table_len;
+    const uint16_t *path;
+    size_t path_room, path_len;
+    size_t work_len, cash_len;
+};
+
+static struct lent lend_table(const struct followed *f)
+{
+    return lend_copy(f->table, f->table_room * sizeof(uint16_t), f->table_len * sizeof(uint16_t));
+}
+
+static struct lent lend_path(const struct followed *f)
+{
+    return lend_copy(f->path, f->path_room * sizeof(uint16_t), f->path_len * sizeof(uint16_t));
+}
+
+/* Slices as long as needed, a table of the contract's length and a path of one number a date. */
+static struct followed exact(struct input in, const uint16_t *table, const uint16_t *path)
+{
+    size_t entries = table_of(in.terms), dates = in.terms.dates;
+    struct followed f = {in, table, entries, entries, path, dates, dates, work_of(in.terms), dates};
+    return f;
+}
+
+/* Makes the call on both programs. Gives the number; told and work are the engine's. */
+static uint32_t value_table(const struct followed *f, struct told *told, struct lent *work)
+{
+    struct lent record = lend_record(&f->in), list = lend_list(&f->in), table = lend_table(f);
+    struct lent w = lend(f->work_len, sizeof(uint32_t)), x = lend(f->work_len, sizeof(uint32_t));
+    struct told t = untold(), s = untold();
+    uint32_t number =
+        gmwb_value_table(start(record), f->in.record_len, start(list), f->in.list_len, start(w),
+                         f->work_len, start(table), f->table_len, &t.place, &t.value, &t.margin);
+    uint32_t expected =
+        second_value_table(start(record), f->in.record_len, start(list), f->in.list_len, start(x),
+                           f->work_len, start(table), f->table_len, &s.place, &s.value, &s.margin);
+    same("value_table: number against the second program", number, expected);
+    same_told(t, s);
+    same_slice("value_table: working slice against the second program", w, x, sizeof(uint32_t));
+    if (number != 0) {
+        same("value_table: value after a refusal", t.value, 0);
+        same_signed("value_table: margin after a refusal", t.margin, 0);
+        untouched("value_table: working slice after a refusal", w);
+    }
+    take_back(record);
+    take_back(list);
+    take_back(table);
+    take_back(x);
+    *told = t;
+    *work = w;
+    return number;
+}
+
+/* The same for a walk; cash is the engine's. */
+static uint32_t walk(const struct followed *f, uint64_t *place, struct lent *cash)
+{
+    struct lent record = lend_record(&f->in), list = lend_list(&f->in), table = lend_table(f);
+    struct lent path = lend_path(f);
+    struct lent c = lend(f->cash_len, sizeof(uint32_t)), d = lend(f->cash_len, sizeof(uint32_t));
+    struct told t = untold(), s = untold();
+    uint32_t number =
+        gmwb_walk(start(record), f->in.record_len, start(list), f->in.list_len, start(table),
+                  f->table_len, start(path), f->path_len, start(c), f->cash_len, &t.place);
+    uint32_t expected =
+        second_walk(start(record), f->in.record_len, start(list), f->in.list_len, start(table),
+                    f->table_len, start(path), f->path_len, start(d), f->cash_len, &s.place);
+    same("walk: number against the second program", number, expected);
+    same_told(t, s);
+    same_slice("walk: cash against the second program", c, d, sizeof(uint32_t));
+    if (number != 0)
+        untouched("walk: cash after a refusal", c);
+    else
+        same("walk: place after success", t.place, 0);
+    take_back(record);
+    take_back(list);
+    take_back(table);
+    take_back(path);
+    take_back(d);
+    *place = t.place;
+    *cash = c;
+    return number;
+}
+
+static void table_answered(const struct followed *f, uint32_t number, uint64_t place)
+{
+    struct told t;
+    struct lent work;
+    same("value_table: number", value_table(f, &t, &work), number);
+    same("value_table: place", t.place, place);
+    take_back(work);
+}
+
+static void walk_answered(const struct followed *f, uint32_t number, uint64_t place)
+{
+    uint64_t p;
+    struct lent cash;
+    same("walk: number", walk(f, &p, &cash), number);
+    same("walk: place", p, place);
+    take_back(cash);
+}
+
+/* ---- Tables ----------------------------------------------------------------------------------- */
+
+/* For the contracts of this part: P with up to 5 dates. */
+enum { TABLE_ROOM = 4 * 21 * 11 + 9, PATH_ROOM = 6 };
+
+static const struct terms P3 = {10, 5, 20, 3, 0, 1000, 1000000};
+static const uint16_t ZEROS[TABLE_ROOM];
+static const uint16_t FIRST_RETURN[PATH_ROOM];
+
+static struct followed zeros_on(struct terms c)
+{
+    return exact(input_of(c, P_RETURNS, 2), ZEROS, FIRST_RETURN);
+}
+
+/* Every entry as large as allowed; then one of them larger by 1, reachable or not. */
+static void bad_entries(void)
+{
+    uint16_t table[TABLE_ROOM];
+    size_t entries = table_of(P3);
+    for (size_t i = 0; i < entries; i++)
+        table[i] = largest_at(P3, i);
+    struct followed f = zeros_on(P3);
+    f.table = table;
+    about("largest amounts");
+    table_answered(&f, GMWB_SUCCESS, 0);
+    for (size_t i = 0; i < entries; i++) {
+        about("entry %lu of %lu too large", (unsigned long)i, (unsigned long)entries);
+        table[i]++;
+        table_answered(&f, GMWB_REFUSED_AMOUNT, i);
+        table[i]--;
+    }
+    about("entries 300 and 17 bad");
+    table[300] = 65535;
+    table[17] = 65535;
+    table_answered(&f, GMWB_REFUSED_AMOUNT, 17);
+}
+
+static void bad_entry_beyond(void)
+{
+    uint16_t table[TABLE_ROOM] = {0};
+    size_t entries = table_of(P3);
+    table[entries] = 65535;
+    struct followed f = zeros_on(P3);
+    f.table = table;
+    f.table_room = f.table_len = entries + 1;
+    about("bad entry beyond the table's layers");
+    table_answered(&f, GMWB_SUCCESS, 0);
+    walk_answered(&f, GMWB_SUCCESS, 0);
+}
+
+static void slice_lengths(void)
+{
+    struct followed f = zeros_on(P3);
+    size_t work = f.work_len, table = f.table_len;
+    /* The longest would be too short in 16 bits. */
+    const size_t works[] = {0, work / 2, work - 1, work, work + 1, 65536};
+    const size_t tables[] = {0, table / 2, table - 1, table, table + 1, 65536};
+    const size_t cashes[] = {0, 1, 2, 3, 4, 65536};
+    for (size_t i = 0; i < 6; i++) {
+        for (size_t k = 0; k < 6; k++) {
+            f.table_len = tables[i];
+            f.work_len = works[k];
+            f.cash_len = cashes[k];
+            about("table of %lu, working slice of %lu, cash of %lu", (unsigned long)f.table_len,
+                  (unsigned long)f.work_len, (unsigned long)f.cash_len);
+            bool fits = tables[i] >= table && works[k] >= work;
+            table_answered(&f, fits ? GMWB_SUCCESS : GMWB_REFUSED_SLICE, 0);
+            fits = tables[i] >= table && cashes[k] >= 3;
+            walk_answered(&f, fits ? GMWB_SUCCESS : GMWB_REFUSED_SLICE, 0);
+        }
+    }
+}
+
+/* The table that gmwb_value leaves. */
+static uint16_t *recorded(const struct input *in, uint64_t behaviour, struct told *told,
+                          struct lent *work)
+{
+    size_t entries = table_of(in->terms);
+    uint16_t *table = allocate((entries + 1) * sizeof *table);
+    struct told t = untold();
+    *work = lend(work_of(in->terms), sizeof(uint32_t));
+    uint32_t number = gmwb_value(in->record, in->record_len, in->list, in->list_len, behaviour,
+                                 start(*work), work_of(in->terms), table, entries,
+                                 &t.place, &t.value, &t.margin);
+    same("value: number", number, GMWB_SUCCESS);
+    *told = t;
+    return table;
+}
+
+/* Supplied back, it earns the same, and leaves the same working slice. */
+static void supplied_back(const struct input *in)
+{
+    for (uint64_t behaviour = 0; behaviour <= 2; behaviour++) {
+        struct told t, s;
+        struct lent work, again;
+        uint16_t *table = recorded(in, behaviour, &t, &work);
+        struct followed f = exact(*in, table, FIRST_RETURN);
+        same("value_table: number", value_table(&f, &s, &again), GMWB_SUCCESS);
+        same("value_table: value of the recorded table", s.value, t.value);
+        same_signed("value_table: margin of the recorded table", s.margin, t.margin);
+        same_slice("value_table: working slice as after gmwb_value", again, work, 4);
+        take_back(work);
+        take_back(again);
+        free(table);
+    }
+}
+
+static void recorded_tables(void)
+{
+    struct input p = input_p(), q = input_of(Q, P_RETURNS, 2), p3 = input_of(P3, P_RETURNS, 2);
+    about("tables of P");
+    supplied_back(&p);
+    about("tables of Q");
+    supplied_back(&q);
+    about("tables of P with 3 dates");
+    supplied_back(&p3);
+}
+
+/*
+ * Close to the largest values there are: an account of 4,000 triples, 2,666 are drawn on each of 39
+ * dates, and 4,000 remain. The discounted sum passes 2^63 on the way.
+ */
+static void large_values(void)
+{
+    const struct terms c = {1, 1, 4000, 40, 0, 0, 1000000};
+    const struct fund_return triple[1] = {{30000, 10000}};
+    size_t entries = table_of(c);
+    uint16_t *table = allocate(entries * sizeof *table);
+    for (size_t i = 0; i < entries; i++) {
+        size_t account = i % layer_of(c) / 2;
+        table[i] = (uint16_t)(account - (account + 2) / 3);
+    }
+    struct followed f = exact(input_of(c, triple, 1), table, NULL);
+    struct told t;
+    struct lent work;
+    about("large values");
+    same("value_table: number", value_table(&f, &t, &work), GMWB_SUCCESS);
+    same("value of (4,000, 0)", ((uint32_t *)start(work))[entry_of(c, 4000, 0)],
+         UINT32_C(39) * 26660000 + 40000000);
+    take_back(work);
+    free(table);
+}
+
+/* ---- Records and lists refused ---------------------------------------------------------------- */
+
+/* Slices for a record that is refused are those of P: they are not sized by what is wrong. */
+static void input_answered(const struct input *in, uint32_t number, uint64_t place)
+{
+    struct terms c = number == 0 ? in->terms : P;
+    struct followed f = exact(input_of(c, P_RETURNS, 2), NULL, NULL);
+    f.table_room = f.path_room = 0;
+    f.in = *in;
+    table_answered(&f, number, place);
+    walk_answered(&f, number, place);
+}
+
+/* Here all else about the call is wrong too. */
+static void ordered_case(const struct input *in, uint32_t number, uint64_t place)
+{
+    struct followed f = {*in, NULL, 0, 0, NULL, 0, 0, 0, 0};
+    table_answered(&f, number, place);
+    walk_answered(&f, number, place);
+}
+
+static void later_checks_in_order(void)
+{
+    uint16_t table[TABLE_ROOM], path[3] = {2, 65535, 0};
+    for (size_t i = 0; i < TABLE_ROOM; i++)
+        table[i] = 65535;
+    struct followed f = exact(input_p(), table, path);
+    f.path_room = f.path_len = 3;
+    f.table_len--;
+    about("order: table, path, entries");
+    table_answered(&f, GMWB_REFUSED_SLICE, 0);
+    walk_answered(&f, GMWB_REFUSED_SLICE, 0);
+    about("order: cash, path, entries");
+    f.table_len++;
+    f.cash_len--;
+    table_answered(&f, GMWB_REFUSED_AMOUNT, 0);
+    walk_answered(&f, GMWB_REFUSED_SLICE, 0);
+    about("order: count, numbers, entries");
+    f.cash_len++;
+    walk_answered(&f, GMWB_REFUSED_PATH, 2);
+    about("order: numbers, entries");
+    f.path_len = 2;
+    walk_answered(&f, GMWB_REFUSED_PATH, 0);
+    path[0] = 0;
+    walk_answered(&f, GMWB_REFUSED_PATH, 1);
+    about("order: entries");
+    path[1] = 1;
+    walk_answered(&f, GMWB_REFUSED_AMOUNT, 1);
+}
+
+/* ---- Walks ------------------------------------------------------------------------------------ */
+
+static void cash_along(struct terms c, const uint16_t *table, const uint16_t *path,
+                       const uint32_t *expected)
+{
+    struct followed f = exact(input_of(c, P_RETURNS, 2), table, path);
+    f.cash_len += 2;
+    uint64_t place;
+    struct lent cash;
+    same("walk: number", walk(&f, &place, &cash), GMWB_SUCCESS);
+    for (size_t i = 0; i < c.dates; i++)
+        same("walk: cash", ((uint32_t *)start(cash))[i], expected[i]);
+    untouched_from("walk: cash beyond the dates", cash, c.dates * sizeof(uint32_t));
+    take_back(cash);
+}
+
+/*
+ * P's dynamic table draws 0 at (5, 10) and 1 at (15, 10), where 14 stay and reach 7 or 21, held at
+ * 20, beside guarantee 9. With one date there is only the maturity payment.
+ */
+static void cash_by_hand(void)
+{
+    struct told t;
+    struct lent work;
+    about("walks of P");
+    struct input in = input_p();
+    uint16_t *table = recorded(&in, GMWB_DYNAMIC, &t, &work);
+    cash_along(P, table, (uint16_t[]){0, 0}, (uint32_t[]){0, 100000});
+    cash_along(P, table, (uint16_t[]){0, 1}, (uint32_t[]){0, 100000});
+    cash_along(P, table, (uint16_t[]){1, 0}, (uint32_t[]){10000, 90000});
+    cash_along(P, table, (uint16_t[]){1, 1}, (uint32_t[]){10000, 200000});
+    take_back(work);
+    free(table);
+    about("walks of one date");
+    const struct terms c = {10, 5, 20, 1, 0, 1000, 1000000};
+    cash_along(c, NULL, (uint16_t[]){0}, (uint32_t[]){100000});
+    cash_along(c, NULL, (uint16_t[]){1}, (uint32_t[]){150000});
+}
+
+static void path_counts(void)
+{
+    const struct terms c = {10, 5, 20, 5, 0, 1000, 1000000};
+    /* The last two would be 5 in 8 and in 16 bits. */
+    static const size_t counts[] = {0, 1, 4, 5, 6, 10, 261, 65541};
+    for (size_t i = 0; i < COUNT(counts); i++) {
+        struct followed f = zeros_on(c);
+        f.path_len = counts[i];
+        about("path of %lu numbers", (unsigned long)counts[i]);
+        bool right = counts[i] == 5;
+        walk_answered(&f, right ? GMWB_SUCCESS : GMWB_REFUSED_PATH, right ? 0 : 5);
+    }
+}
+
+static void path_numbers(void)
+{
+    const struct terms c = {10, 5, 20, 5, 0, 1000, 1000000};
+    uint16_t path[5] = {0};
+    struct followed f = zeros_on(c);
+    f.path = path;
+    static const uint16_t none[] = {2, 3, 256, 257, 65535};
+    for (size_t i = 0; i < 5; i++) {
+        about("return number at index %lu", (unsigned long)i);
+        path[i] = 1;
+        walk_answered(&f, GMWB_SUCCESS, 0);
+        for (size_t k = 0; k < COUNT(none); k++) {
+            path[i] = none[k];
+            walk_answered(&f, GMWB_REFUSED_PATH, i);
+        }
+        path[i] = 0;
+    }
+    about("return numbers at indexes 1 and 3");
+    path[1] = path[3] = 2;
+    walk_answered(&f, GMWB_REFUSED_PATH, 1);
+}
+
+/* A return that changes nothing and a table of zeros keep the walk in state (10, 10). */
+static void bad_entries_met(void)
+{
+    const struct terms c = {10, 5, 20, 5, 0, 1000, 1000000};
+    const struct fund_return still[1] = {{10000, 10000}};
+    uint16_t table[TABLE_ROOM] = {0};
+    struct followed f = exact(input_of(c, still, 1), table, FIRST_RETURN);
+    for (uint64_t date = 1; date < c.dates; date++) {
+        size_t met = (size_t)(date - 1) * layer_of(c) + entry_of(c, 10, 10);
+        about("walk on date %" PRIu64, date);
+        table[met] = 11;
+        walk_answered(&f, GMWB_REFUSED_AMOUNT, date);
+        table[met] = 0;
+        /* Entries beside it are not met, and not checked. */
+        table[met - 1] = table[met + 1] = 65535;
+        walk_answered(&f, GMWB_SUCCESS, 0);
+        table[met - 1] = table[met + 1] = 0;
+    }
+    about("walk on dates 2 and 4");
+    table[layer_of(c) + entry_of(c, 10, 10)] = 65535;
+    table[3 * layer_of(c) + entry_of(c, 10, 10)] = 65535;
+    walk_answered(&f, GMWB_REFUSED_AMOUNT, 2);
+}
+
+/* ---- Every path ------------------------------------------------------------------------------- */
+
+enum { STEPS = 3, BRANCHES = 3, PATHS = 27 };
+
+static wide power(wide base, size_t exponent)
+{
+    wide result = 1;
+    for (size_t i = 0; i < exponent; i++)
+        result *= base;
+    return result;
+}
+
+/* One path's part in the expected cash, times 10^30. */
+static wide weighed(const struct input *in, const uint16_t *path, const uint32_t *cash)
+{
+    wide chance = 1, sum = 0, discount = get(in->record + 12, 4);
+    for (size_t i = 0; i < STEPS; i++) {
+        chance *= get(in->list + GMWB_RETURN_BYTES * path[i] + 2, 2);
+        sum += cash[i] * power(discount, i + 1) * power(1000000, STEPS - 1 - i);
+    }
+    return chance * sum;
+}
+
+/*
+ * The value of a table is the expected discounted cash of its walks, but for rounding: down, once on
+ * each of N dates, by less than one ten-thousandth each time. So the exact expectation lies at or
+ * above the value and less than N above it.
+ *
+ * It is exact here in whole numbers: a chance is a product of 3 weights over 10^12, a discount one of
+ * up to 3 discounts over 10^18, and all is kept times 10^30. With accounts up to 30 a walk pays at
+ * most 3 x 300,000, so that no sum passes 9 x 10^35, below 2^127.
+ */
+static void every_path(const struct input *in, const uint16_t *table)
+{
+    struct told t;
+    struct lent work, cash;
+    wide sum = 0;
+    uint16_t path[STEPS];
+    struct followed f = exact(*in, table, path);
+    same("value_table: number", value_table(&f, &t, &work), GMWB_SUCCESS);
+    take_back(work);
+    for (unsigned k = 0; k < PATHS; k++) {
+        uint64_t place;
+        path[0] = (uint16_t)(k / 9);
+        path[1] = (uint16_t)(k / 3 % 3);
+        path[2] = (uint16_t)(k % 3);
+        same("walk: number", walk(&f, &place, &cash), GMWB_SUCCESS);
+        sum += weighed(in, path, start(cash));
+        take_back(cash);
+    }
+    wide one = power(10, 30);
+    holds("expected cash at or above the value", sum >= t.value * one);
+    holds("expected cash less than N above the value", sum < (t.value + (wide)STEPS) * one);
+}
+
+/* A table of any amounts from the dynamic sets. */
+static void fill_table(struct terms c, uint16_t *table)
+{
+    for (size_t i = 0; i < table_of(c); i++)
+        table[i] = one_in(8) ? largest_at(c, i) : (uint16_t)upto(largest_at(c, i));
+}
+
+static void every_path_by_hand(void)
+{
+    const struct terms c = {10, 4, 20, STEPS, 150, 800, 970000};
+    const struct fund_return returns[BRANCHES] = {{6000, 2500}, {10500, 4500}, {16000, 3000}};
+    struct input in = input_of(c, returns, BRANCHES);
+    about("every path of a contract");
+    for (uint64_t behaviour = 0; behaviour <= 2; behaviour++) {
+        struct told t;
+        struct lent work;
+        uint16_t *table = recorded(&in, behaviour, &t, &work);
+        every_path(&in, table);
+        take_back(work);
+        free(table);
+    }
+}
+
+/* ---- Random rounds ---------------------------------------------------------------------------- */
+
+enum { TOP = 30, DATES = 6, RETURNS = 8, RANDOM_ROOM = (DATES - 1) * 31 * 31 };
+
+static void every_path_at_random(uint64_t round)
+{
+    uint16_t table[RANDOM_ROOM];
+    struct terms c = random_terms(TOP, TOP, DATES);
+    c.dates = STEPS;
+    struct input in = random_input(c, BRANCHES);
+    fill_table(c, table);
+    about("every path, round %" PRIu64, round);
+    every_path(&in, table);
+}
+
+static size_t random_length(size_t needed)
+{
+    if (one_in(16))
+        return needed == 0 ? 0 : (size_t)upto(needed - 1);
+    return needed + (size_t)(one_in(2) ? 0 : upto(9));
+}
+
+/* A few entries get any number; a walk seldom meets one, so some tables are bad throughout. */
+static void damage_table(struct terms c, uint16_t *table)
+{
+    size_t entries = table_of(c);
+    if (entries > 0 && one_in(6)) {
+        size_t entry = (size_t)upto(entries - 1);
+        table[entry] = (uint16_t)(one_in(2) ? largest_at(c, entry) + UINT64_C(1) : upto(65535));
+    }
+    if (one_in(8))
+        for (size_t i = 0; i < entries; i++)
+            table[i] = (uint16_t)(table[i] + (one_in(3) ? upto(TOP) : 0));
+}
+
+static void random_round(uint64_t round, uint64_t *tables, uint64_t *walks)
+{
+    uint16_t table[RANDOM_ROOM], path[DATES];
+    char record[HEX_ROOM], list[HEX_ROOM];
+    struct terms c = random_terms(TOP, TOP, DATES);
+    size_t count = (size_t)between(1, RETURNS);
+    fill_table(c, table);
+    damage_table(c, table);
+    for (size_t i = 0; i < c.dates; i++)
+        path[i] = (uint16_t)(one_in(64) ? upto(count + 2) : upto(count - 1));
+    struct followed f = exact(random_input(c, count), table, path);
+    f.table_len = random_length(f.table_len);
+    f.work_len = random_length(f.work_len);
+    f.cash_len = random_length(f.cash_len);
+    if (one_in(16))
+        f.path_len = (size_t)upto(DATES + 1);
+    damage_some(&f.in);
+    about("round %" PRIu64 ": record %s of %lu bytes, list %s of %lu, table of %lu, path of %lu",
+          round, hex(record, f.in.record, sizeof f.in.record), (unsigned long)f.in.record_len,
+          hex(list, f.in.list, f.in.list_len), (unsigned long)f.in.list_len,
+          (unsigned long)f.table_len, (unsigned long)f.path_len);
+    struct told t;
+    struct lent work, cash;
+    uint64_t place;
+    uint32_t number = value_table(&f, &t, &work);
+    tables[number <= GMWB_REFUSED_AMOUNT ? number : 0]++;
+    take_back(work);
+    number = walk(&f, &place, &cash);
+    walks[number <= GMWB_REFUSED_AMOUNT ? number : 0]++;
+    take_back(cash);
+}
+
+static void random_rounds(uint64_t rounds)
+{
+    uint64_t tables[GMWB_REFUSED_AMOUNT + 1] = {0}, walks[GMWB_REFUSED_AMOUNT + 1] = {0};
+    for (uint64_t round = 0; round < rounds; round++)
+        random_round(round, tables, walks);
+    for (uint64_t round = 0; round < rounds / 20; round++)
+        every_path_at_random(round);
+    static const uint32_t by_table[] = {0, 1, 2, 3, 4, 5, 6, 7, 8, 9, 11, 14};
+    static const uint32_t by_walk[] = {0, 1, 2, 3, 4, 5, 6, 7, 8, 9, 11, 13, 14};
+    if (rounds >= 2000) {
+        all_came(tables, by_table, COUNT(by_table));
+        all_came(walks, by_walk, COUNT(by_walk));
+    }
+}
+
+int main(int argc, char **argv)
+{
+    uint64_t rounds = rounds_from(argc, argv, 2000);
+    bad_entries();
+    bad_entry_beyond();
+    slice_lengths();
+    recorded_tables();
+    large_values();
+    each_record(input_answered);
+    each_list(input_answered);
+    record_faults_in_order(ordered_case);
+    list_faults_in_order(ordered_case);
+    later_checks_in_order();
+    cash_by_hand();
+    path_counts();
+    path_numbers();
+    bad_entries_met();
+    every_path_by_hand();
+    random_rounds(rounds);
+    return verdict("table_walk");
+}
