@@ -1,16 +1,20 @@
 -- A row of discounted sums: what is read is not what is written, and every sum fits. Assumes nothing.
 use mathlib.Core.List.{List}
 use mathlib.Core.Logic.{inl}
-use mathlib.Core.Path.{_≡_, ap, _∙_}
+use mathlib.Core.Path.{_≡_, ap, ap₂, sym, _∙_}
 use Prim.Native.Nat.{ℕ, _+_, _*_, _≤_, _<_}
-use native.Mathlib.Nat.{le-trans, le-of-eq, mul-le-mul-left}
+use native.Mathlib.Nat.{le-trans, le-of-eq, mul-le-mul-left, zero-add}
 use native.Mathlib.Omega.{arith}
 use lib.ListN.{getD, length}
 use Rattle.decision.specs.Index.{sum, sum-le, sum-eq, sum-times}
-use Rattle.slices.specs.Stored.{stored, stored-out}
-use Rattle.rules.specs.Date.{discounted}
+use Rattle.slices.specs.Stored.{stored, stored-out, stored-join}
+use Rattle.slices.specs.Rows.{cells, flat, flat-at, within-rows, rows-le, rows-step}
+use Rattle.rules.specs.Contract.{Terms, Returns, returnsOf}
+use Rattle.rules.specs.Date.{nextAccount, discounted}
+use Rattle.rules.specs.FixedTerm.{layerSize}
 use Rattle.laws.specs.Bounds.{discounted-average}
-use Rattle.expect.specs.Expected.{term, Row}
+use Rattle.laws.specs.Date.{account-le}
+use Rattle.expect.specs.Expected.{reachedSum, expected, term, Row, Balance}
 
 module _ {work starts weights : List ℕ} {count discount to stride : ℕ} (r : Row work starts weights count discount to stride) where
   -- the rows that are read lie before the row that is written
@@ -28,3 +32,65 @@ module _ {work starts weights : List ℕ} {count discount to stride : ℕ} (r : 
       (le-trans
       (sum-le (term work starts weights a) (λ k. getD weights k 0 * 4294967295) count (λ k m. mul-le-mul-left (getD weights k 0) (let s = small (getD starts k 0 + a) in omega arith)))
       (le-of-eq (sum-times (λ k. getD weights k 0) 4294967295 count ∙ ap (λ (x : ℕ). x * 4294967295) (r .total))))
+
+-- ---- the row of one balance
+module _ {c : Terms} {work list weights : List ℕ} {count balance stride size : ℕ} (b : Balance c work list weights count balance stride size) where
+  -- a row of the first layer ends within it
+  reached-within : (x : ℕ) → x ≤ c .top → x * stride + stride ≤ size
+  reached-within x l = let m = rows-le stride (x + 1) (c .top + 1) (omega arith) in omega (arith, rows-step stride x, b .size-is)
+
+  pub balance-room : size + balance * stride + stride ≤ length work
+  unfolding layerSize
+  balance-room =
+      let l = reached-within balance (b .balance-is) in
+      let s : (c .top + 1) * (c .premium + 1) ≡ size = rw (sym (b .stride-is)) (sym (b .size-is)) in
+      let r = b .layers .room in
+      omega arith
+
+  pub stride-small : stride ≤ 4001
+  stride-small = omega (arith, b .stride-is, b .layers .valid .premium, b .layers .valid .top)
+
+  module _ (starts : List ℕ)
+      (starts-are : (k : ℕ) → k < count → getD starts k 0 ≡ nextAccount (c .fee) (c .top) balance (returnsOf list .factor k) * stride)
+    where
+      pub balance-row : Row work starts weights count (c .discount) (size + balance * stride) stride
+      balance-row = record {
+        few = b .listing .few;
+        discount-is = b .layers .valid .discount;
+        total = sum-eq _ _ count (b .weights-are) ∙ ap (sum (returnsOf list .weight)) (b .listing .all) ∙ b .listing .valid .total;
+        light = λ k l. rw (b .weights-are k l) (b .listing .valid .weight k (omega (arith, b .listing .all)));
+        below = λ k l.
+            let m = reached-within _ (account-le (c .fee) (c .top) balance (returnsOf list .factor k)) in
+            rw (starts-are k l) (omega arith);
+        room = balance-room;
+      }
+
+      pub balance-cells : (a : ℕ) → discounted (c .discount) (sum (term work starts weights a) count) ≡ expected c (returnsOf list) (cells work 0 stride) balance a
+      unfolding expected reachedSum
+      balance-cells a =
+          ap (discounted (c .discount))
+          (sum-eq _ _ count (λ k l. ap₂ (λ (x y : ℕ). x * getD work y 0) (b .weights-are k l) (ap (λ (x : ℕ). x + a) (starts-are k l) ∙ sym (zero-add _)))
+          ∙ ap (sum _) (b .listing .all))
+
+-- ---- row after row
+module _ (c : Terms) (rs : Returns) (work : List ℕ) (stride size : ℕ) (size-is : size ≡ (c .top + 1) * stride) where
+  sums : ℕ → ℕ
+  sums = flat stride (expected c rs (cells work 0 stride))
+
+  -- the rows filled so far are not read
+  kept : (n b a : ℕ) → a < stride → expected c rs (cells (stored work size sums n) 0 stride) b a ≡ expected c rs (cells work 0 stride) b a
+  unfolding expected reachedSum
+  kept n b a l =
+      ap (discounted (c .discount)) (sum-eq _ _ (rs .count) (λ k m.
+      let x = nextAccount (c .fee) (c .top) b (rs .factor k) in
+      let h = account-le (c .fee) (c .top) b (rs .factor k) in
+      let i = within-rows stride (c .top + 1) x a (omega arith) l in
+      ap (λ (y : ℕ). rs .weight k * y) (stored-out work size sums n (0 + (x * stride + a)) (inl (omega arith)))))
+
+  pub expect-step : (b : ℕ)
+      → stored (stored work size (flat stride (expected c rs (cells work 0 stride))) (b * stride)) (size + b * stride) (expected c rs (cells (stored work size (flat stride (expected c rs (cells work 0 stride))) (b * stride)) 0 stride) b) stride
+      ≡ stored work size (flat stride (expected c rs (cells work 0 stride))) ((b + 1) * stride)
+  unfolding sums
+  expect-step b =
+      stored-join work size sums _ (b * stride) stride (λ k l. kept (b * stride) b k l ∙ sym (flat-at stride (expected c rs (cells work 0 stride)) b k l))
+      ∙ ap (stored work size sums) (rows-step stride b)

@@ -122,16 +122,6 @@ pub fn expect_layer(work: &mut [u32], list: &[u8], count: usize, c: Contract)
     fill_weights(&mut weights, list, count);
     let end = c.top + 1;
     for balance in 0..end {
-        let mut starts = [0usize; 64];
-        fill_starts(&mut starts, list, count, c, balance, stride);
-        expect_row(
-            work,
-            &starts,
-            &weights,
-            count,
-            c.discount,
-            size + balance * stride,
-            stride,
-        );
+        expect_balance(work, list, &weights, count, c, balance, stride, size);
     }
 }

@@ -4,7 +4,7 @@ use mathlib.Core.Logic.{_⊎_, inl, inr}
 use mathlib.Core.Path.{_≡_, refl, ap, ap₂, sym, _∙_}
 use Prim.Native.Nat.{ℕ, zero, suc, _+_, _-_, _≤_, _<_}
 use native.Mathlib.Decide.{decLe}
-use native.Mathlib.Nat.{add-suc, add-assoc, add-zero, zero-add}
+use native.Mathlib.Nat.{add-suc, add-assoc, add-zero, zero-add, zero-mul}
 use native.Mathlib.Numerals.{add-one}
 use native.Mathlib.Omega.{arith}
 use lib.ListN.{length, getD, set, drop, length-set, length-append, length-drop}
@@ -100,3 +100,17 @@ stored-first l f n k fits h = ap (λ (j : ℕ). getD (stored l 0 f n) j 0) (sym 
 
 pub stored-push : (l : List ℕ) (f : ℕ → ℕ) (n : ℕ) → set (stored l 0 f n) n (f n) ≡ stored l 0 f (n + 1)
 stored-push l f n = ap (λ (j : ℕ). set (stored l 0 f n) j (f n)) (sym (zero-add n)) ∙ stored-next l 0 f n
+
+-- the same entries, the same list
+pub stored-eq : (l : List ℕ) (at : ℕ) (f g : ℕ → ℕ) (n : ℕ) → ((k : ℕ) → k < n → f k ≡ g k) → stored l at f n ≡ stored l at g n
+unfolding stored
+stored-eq l at f g zero h = refl
+stored-eq l at f g (suc n) h =
+    let before = stored-eq l at f g n (λ k m. h k (omega arith)) in
+    let last = h n (omega arith) in
+    λ i. set (before i) (at + n) (last i)
+
+-- nothing yet, of a run of rows
+pub stored-none : (l : List ℕ) (at : ℕ) (f : ℕ → ℕ) (stride : ℕ) → l ≡ stored l at f (0 * stride)
+unfolding stored
+stored-none l at f stride = rw (zero-mul stride)

@@ -1,34 +1,39 @@
+-- `expect::expect_balance` meets its contract. Assumes nothing.
+use Prim.Native.Nat.{ℕ, _*_, _<_}
 use borrow.Author.Needs.{needs}
+use lib.ListN.{getD}
+use mathlib.Core.List.{List}
+use mathlib.Core.Path.{_≡_, ap, _∙_}
+use native.Mathlib.Nat.{le-trans}
+use native.Mathlib.Omega.{arith}
+use Rattle.rules.specs.Contract.{returnsOf}
+use Rattle.rules.specs.Date.{nextAccount}
+use Rattle.slices.specs.Stored.{stored-first, stored-eq}
+use Rattle.expect.proofs.Laws.{balance-room, stride-small, balance-row, balance-cells}
 use Rattle.expect.proofs.expect_balance.Statement.{statement}
 use Rattle.expect.proofs.expect_balance.Tie as tie
-use Rattle.expect.proofs.expect_balance.Reads as reads
-use Rattle.expect.proofs.expect_balance.Lts as lts
-use Rattle.expect.proofs.expect_row.Reads as expect-row-reads
-use Rattle.expect.proofs.fill_starts.Reads as fill-starts-reads
 
--- src/lib.rt:102:5
+starts-are : (c : tie.After-starts2) (k : ℕ) → k < c .before .before .before .before .before .before .args .count
+    → getD (c .before .before .fill-starts .last .0) k 0 ≡ nextAccount (c .before .before .before .before .before .before .args .c .fee) (c .before .before .before .before .before .before .args .c .top) (c .before .before .before .before .before .before .args .balance) (returnsOf (c .before .before .before .before .before .before .args .list .now) .factor k) * c .before .before .before .before .before .before .args .stride
+starts-are c k l = ap (λ (xs : List ℕ). getD xs k 0) (c .before .before .fill-starts .ensures) ∙ stored-first _ _ _ k (c .before .before .before .before .before .before .pre .listing .few) l
+
 fill-starts-requires : tie.Need-fill-starts-requires
-fill-starts-requires c κs = search needs
+fill-starts-requires c κs = let b = c .before .before .before .pre in (b .listing, b .layers .valid, le-trans (b .balance-is) (b .layers .valid .top), stride-small b)
 
--- src/lib.rt:109:16
 mul-expect-row : tie.Need-mul-expect-row
-mul-expect-row c = ?
+mul-expect-row c = let r = balance-room (c .before .before .before .before .before .before .pre) in omega arith
 
--- src/lib.rt:109:9
 add-expect-row : tie.Need-add-expect-row
-add-expect-row c = ?
+add-expect-row c = let r = balance-room (c .before .before .before .before .before .before .pre) in omega arith
 
--- src/lib.rt:103:5
 expect-row-requires : tie.Need-expect-row-requires
-expect-row-requires c κs = ?
+expect-row-requires c κs = balance-row (c .before .before .before .before .before .before .pre) _ (starts-are c)
 
--- src/lib.rt:88:1
 same-length : tie.Need-same-length
 same-length c = search needs
 
--- src/lib.rt:88:1
 returns : tie.Need-returns
-returns c = ?
+returns c = c .before .before .expect-row .ensures ∙ stored-eq _ _ _ _ (c .before .before .before .before .before .before .before .before .before .args .stride) (λ k l. balance-cells (c .before .before .before .before .before .before .before .before .before .pre) (c .before .before .before .before .before .fill-starts .last .0) (starts-are (c .before .before .before)) k)
 
 pub expect-balance-spec : {M : Type 1} → statement M
 expect-balance-spec =

@@ -1,76 +1,72 @@
+-- `expect::expect_layer` meets its contract. Assumes nothing.
+use Prim.Native.Nat.{ℕ, _+_, _*_, _-_, _≤_}
+use lib.ListN.{length, getD}
+use mathlib.Core.List.{List}
+use mathlib.Core.Path.{_≡_, refl, ap, _∙_}
+use native.Mathlib.Omega.{arith}
+use Rattle.contract.specs.Reading.{termsIn}
+use Rattle.expect.specs.Expected.{expected}
+use Rattle.rules.specs.Contract.{returnsOf}
+use Rattle.rules.specs.FixedTerm.{layerSize}
+use Rattle.slices.specs.Rows.{cells, flat}
+use Rattle.expect.proofs.Laws.{expect-step}
 use Rattle.expect.proofs.expect_layer.Statement.{statement}
 use Rattle.expect.proofs.expect_layer.Tie as tie
-use Rattle.expect.proofs.expect_layer.Reads as reads
-use Rattle.expect.proofs.expect_layer.Lts as lts
-use Rattle.expect.proofs.expect_row.Reads as expect-row-reads
-use Rattle.expect.proofs.fill_starts.Reads as fill-starts-reads
-use Rattle.expect.proofs.fill_weights.Reads as fill-weights-reads
 
 abbrev Inv-loop : tie.InvT-loop
-Inv-loop work₀ list count c stride size weights end balance₀ work balance = ?
+Inv-loop work₀ list count c stride size weights end balance₀ work balance = (balance ≤ end) × (work ≡ stored work₀ size (flat stride (expected (termsIn c) (returnsOf list) (cells work₀ 0 stride))) (balance * stride))
 
 abbrev μ-loop : tie.MeasureT-loop
-μ-loop work₀ list count c stride size weights end balance₀ work balance = ?
+μ-loop work₀ list count c stride size weights end balance₀ work balance = end - balance
 
--- src/lib.rt:119:18
 add-stride : tie.Need-add-stride Inv-loop μ-loop
-add-stride c = ?
+add-stride c = omega (arith, c .before .before .before .pre .1 .valid .premium, c .before .before .before .pre .1 .valid .top)
 
--- src/lib.rt:120:17
 add-size : tie.Need-add-size Inv-loop μ-loop
-add-size c = ?
+add-size c = omega (arith, c .before .before .before .before .pre .1 .valid .top)
 
--- src/lib.rt:120:16
 mul-size : tie.Need-mul-size Inv-loop μ-loop
-mul-size c = ?
+unfolding layerSize
+mul-size c = omega (arith, c .before .before .before .before .pre .1 .room)
 
--- src/lib.rt:122:5
 fill-weights-requires : tie.Need-fill-weights-requires Inv-loop μ-loop
-fill-weights-requires c κs = ?
+fill-weights-requires c κs = c .before .before .before .before .before .pre .0
 
--- src/lib.rt:123:15
 add-end : tie.Need-add-end Inv-loop μ-loop
-add-end c = ?
+add-end c = omega (arith, c .before .before .before .before .before .before .before .pre .1 .valid .top)
 
--- src/lib.rt:124:5
 loop-holds : tie.Need-loop-holds Inv-loop μ-loop
-loop-holds c = ?
+unfolding stored
 
--- src/lib.rt:126:9
-fill-starts-requires : tie.Need-fill-starts-requires Inv-loop μ-loop
-fill-starts-requires c κs = ?
+expect-balance-requires : tie.Need-expect-balance-requires Inv-loop μ-loop
+unfolding layerSize
+expect-balance-requires c κs = record {
+  listing = c .before .before .before .before .before .before .before .before .before .before .before .pre .0;
+  layers = record { valid = c .before .before .before .before .before .before .before .before .before .before .before .pre .1 .valid; room = let e : length (c .before .before .before .loop .work) ≡ length (c .before .before .before .before .before .before .before .before .before .before .before .args .work .now) = ap length (c .before .before .before .loop .inv .1) ∙ length-stored _ _ _ _ in omega (arith, c .before .before .before .before .before .before .before .before .before .before .before .pre .1 .room) };
+  weights-are = λ k l. ap (λ (xs : List ℕ). getD xs k 0) (c .before .before .before .before .before .fill-weights .ensures) ∙ stored-first _ _ _ k (c .before .before .before .before .before .before .before .before .before .before .before .pre .0 .few) l;
+  balance-is = omega arith;
+  stride-is = refl;
+  size-is = refl;
+}
 
--- src/lib.rt:133:20
-mul-expect-row : tie.Need-mul-expect-row Inv-loop μ-loop
-mul-expect-row c = ?
-
--- src/lib.rt:133:13
-add-expect-row : tie.Need-add-expect-row Inv-loop μ-loop
-add-expect-row c = ?
-
--- src/lib.rt:127:9
-expect-row-requires : tie.Need-expect-row-requires Inv-loop μ-loop
-expect-row-requires c κs = ?
-
--- src/lib.rt:124:9
 add-balance : tie.Need-add-balance Inv-loop μ-loop
-add-balance c = ?
+add-balance c = omega (arith, c .before .before .before .before .before .before .before .before .before .before .before .before .before .before .pre .1 .valid .top)
 
--- src/lib.rt:124:5
 loop-less : tie.Need-loop-less Inv-loop μ-loop
-loop-less c = ?
+loop-less c = omega arith
 
--- src/lib.rt:124:5
 loop-again : tie.Need-loop-again Inv-loop μ-loop
-loop-again c = ?
+loop-again c =
+    let step = expect-step (termsIn (c .before .before .before .before .before .before .before .before .before .before .before .before .before .before .args .c)) (returnsOf (c .before .before .before .before .before .before .before .before .before .before .before .before .before .before .args .list .now)) (c .before .before .before .before .before .before .before .before .before .before .before .before .before .before .args .work .now) (c .before .before .before .before .before .before .before .before .before .before .before .before .before .before .args .c .premium + 1) ((c .before .before .before .before .before .before .before .before .before .before .before .before .before .before .args .c .top + 1) * (c .before .before .before .before .before .before .before .before .before .before .before .before .before .before .args .c .premium + 1)) refl (c .before .before .before .before .before .before .loop .balance) in
+    let moved = ap (λ (xs : List ℕ). stored xs (((c .before .before .before .before .before .before .before .before .before .before .before .before .before .before .args .c .top + 1) * (c .before .before .before .before .before .before .before .before .before .before .before .before .before .before .args .c .premium + 1)) + c .before .before .before .before .before .before .loop .balance * (c .before .before .before .before .before .before .before .before .before .before .before .before .before .before .args .c .premium + 1)) (expected (termsIn (c .before .before .before .before .before .before .before .before .before .before .before .before .before .before .args .c)) (returnsOf (c .before .before .before .before .before .before .before .before .before .before .before .before .before .before .args .list .now)) (cells xs 0 (c .before .before .before .before .before .before .before .before .before .before .before .before .before .before .args .c .premium + 1)) (c .before .before .before .before .before .before .loop .balance)) (c .before .before .before .before .before .before .before .before .before .before .before .before .before .before .args .c .premium + 1)) (c .before .before .before .before .before .before .loop .inv .1) in
+    (omega arith, c .before .before .expect-balance .ensures ∙ moved ∙ step)
 
--- src/lib.rt:115:1
 same-length : tie.Need-same-length Inv-loop μ-loop
-same-length c = ?
+same-length c = ap length (c .before .loop .inv .1) ∙ length-stored _ _ _ _
 
--- src/lib.rt:115:1
 returns : tie.Need-returns Inv-loop μ-loop
-returns c = ?
+unfolding layerSize
+returns c = let e : c .before .loop .balance ≡ c .before .before .before .before .before .before .before .before .before .args .c .top + 1 = omega arith in c .before .loop .inv .1 ∙ ap (λ (b : ℕ). stored (c .before .before .before .before .before .before .before .before .before .args .work .now) ((c .before .before .before .before .before .before .before .before .before .args .c .top + 1) * (c .before .before .before .before .before .before .before .before .before .args .c .premium + 1)) (flat (c .before .before .before .before .before .before .before .before .before .args .c .premium + 1) (expected (termsIn (c .before .before .before .before .before .before .before .before .before .args .c)) (returnsOf (c .before .before .before .before .before .before .before .before .before .args .list .now)) (cells (c .before .before .before .before .before .before .before .before .before .args .work .now) 0 (c .before .before .before .before .before .before .before .before .before .args .c .premium + 1)))) (b * (c .before .before .before .before .before .before .before .before .before .args .c .premium + 1))) e
 
 pub expect-layer-spec : {M : Type 1} → statement M
 expect-layer-spec =
@@ -84,10 +80,7 @@ expect-layer-spec =
     fill-weights-requires
     add-end
     loop-holds
-    fill-starts-requires
-    mul-expect-row
-    add-expect-row
-    expect-row-requires
+    expect-balance-requires
     add-balance
     loop-less
     loop-again

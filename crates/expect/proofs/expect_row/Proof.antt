@@ -1,19 +1,16 @@
+-- `expect::expect_row` meets its contract. Assumes nothing.
+use Prim.Native.Nat.{ℕ, _+_, _-_, _≤_}
 use lib.ListN.{length, set}
 use mathlib.Core.List.{List}
-use Rattle.expect.proofs.Laws.{row-sum, row-read, row-small}
+use mathlib.Core.Path.{_≡_, refl, sym, ap, _∙_}
+use native.Mathlib.Omega.{arith}
+use Rattle.decision.specs.Index.{sum}
 use Rattle.expect.specs.Expected.{term}
 use Rattle.rules.specs.Date.{discounted}
 use Rattle.slices.specs.Stored.{stored, length-stored, stored-next}
-use Rattle.decision.specs.Index.{sum}
-use native.Mathlib.Omega.{arith}
-use mathlib.Core.Path.{_≡_, refl, sym, ap, _∙_}
-use Prim.Native.Nat.{ℕ, _+_, _-_, _≤_}
+use Rattle.expect.proofs.Laws.{row-sum, row-read, row-small}
 use Rattle.expect.proofs.expect_row.Statement.{statement}
 use Rattle.expect.proofs.expect_row.Tie as tie
-use Rattle.expect.proofs.expect_row.Reads as reads
-use Rattle.expect.proofs.expect_row.Lts as lts
-use Rattle.date.proofs.discounted.Reads as discounted-reads
-use Rattle.expect.proofs.reached_sum.Reads as reached-sum-reads
 
 abbrev Inv-loop : tie.InvT-loop
 Inv-loop work₀ starts weights count discount to stride a₀ work a = (a ≤ stride) × (work ≡ stored work₀ to (λ x. discounted discount (sum (term work₀ starts weights x) count)) a)

@@ -1,18 +1,15 @@
-use Rattle.laws.specs.Date.{account-le}
-use native.Mathlib.Nat.{mul-le-mul, le-trans}
-use Rattle.rules.specs.Date.{nextAccount}
-use Rattle.rules.specs.Contract.{returnsOf}
-use Rattle.slices.specs.Stored.{stored, stored-push, length-stored}
-use lib.ListN.{length, set}
-use native.Mathlib.Omega.{arith}
-use mathlib.Core.Path.{_≡_, refl, sym, ap, _∙_}
+-- `expect::fill_starts` meets its contract. Assumes nothing.
 use Prim.Native.Nat.{_-_, _*_, _≤_}
+use lib.ListN.{set}
+use mathlib.Core.Path.{_≡_, refl, sym, ap, _∙_}
+use native.Mathlib.Nat.{mul-le-mul, le-trans}
+use native.Mathlib.Omega.{arith}
+use Rattle.laws.specs.Date.{account-le}
+use Rattle.rules.specs.Contract.{returnsOf}
+use Rattle.rules.specs.Date.{nextAccount}
+use Rattle.slices.specs.Stored.{stored, stored-push}
 use Rattle.expect.proofs.fill_starts.Statement.{statement}
 use Rattle.expect.proofs.fill_starts.Tie as tie
-use Rattle.expect.proofs.fill_starts.Reads as reads
-use Rattle.expect.proofs.fill_starts.Lts as lts
-use Rattle.contract.proofs.word.Reads as word-reads
-use Rattle.date.proofs.next_account.Reads as next-account-reads
 
 abbrev Inv-loop : tie.InvT-loop
 Inv-loop starts₀ list count c balance stride k₀ starts k = (k ≤ count) × (starts ≡ stored starts₀ 0 (λ j. nextAccount (c .fee) (c .top) balance (returnsOf list .factor j) * stride) k)

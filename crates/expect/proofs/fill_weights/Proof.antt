@@ -1,14 +1,12 @@
-use Rattle.rules.specs.Contract.{returnsOf}
-use Rattle.slices.specs.Stored.{stored, stored-push, length-stored}
-use lib.ListN.{length, set}
-use native.Mathlib.Omega.{arith}
-use mathlib.Core.Path.{_≡_, refl, sym, ap, _∙_}
+-- `expect::fill_weights` meets its contract. Assumes nothing.
 use Prim.Native.Nat.{_-_, _≤_}
+use lib.ListN.{set}
+use mathlib.Core.Path.{_≡_, refl, sym, _∙_}
+use native.Mathlib.Omega.{arith}
+use Rattle.rules.specs.Contract.{returnsOf}
+use Rattle.slices.specs.Stored.{stored, stored-push}
 use Rattle.expect.proofs.fill_weights.Statement.{statement}
 use Rattle.expect.proofs.fill_weights.Tie as tie
-use Rattle.expect.proofs.fill_weights.Reads as reads
-use Rattle.expect.proofs.fill_weights.Lts as lts
-use Rattle.contract.proofs.word.Reads as word-reads
 
 abbrev Inv-loop : tie.InvT-loop
 Inv-loop weights₀ list count k₀ weights k = (k ≤ count) × (weights ≡ stored weights₀ 0 (returnsOf list .weight) k)

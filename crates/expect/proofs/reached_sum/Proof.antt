@@ -1,16 +1,14 @@
-use lib.ListN.{getD}
+-- `expect::reached_sum` meets its contract. Assumes nothing.
 use Prim.Native.Nat.{ℕ, _+_, _*_, _-_, _≤_}
-use Rattle.expect.specs.Expected.{term}
-use Rattle.decision.specs.Index.{sum, sum-next}
 use borrow.Author.Needs.{needs}
+use lib.ListN.{getD}
+use mathlib.Core.Path.{_≡_, refl, sym, ap, _∙_}
 use native.Mathlib.Nat.{mul-le-mul, le-of-lt}
 use native.Mathlib.Omega.{arith}
-use mathlib.Core.Path.{_≡_, refl, sym, ap, _∙_}
+use Rattle.decision.specs.Index.{sum, sum-next}
+use Rattle.expect.specs.Expected.{term}
 use Rattle.expect.proofs.reached_sum.Statement.{statement}
 use Rattle.expect.proofs.reached_sum.Tie as tie
-use Rattle.expect.proofs.reached_sum.Reads as reads
-use Rattle.expect.proofs.reached_sum.Lts as lts
-use Rattle.expect.proofs.wide.Reads as wide-reads
 
 abbrev Inv-loop : tie.InvT-loop
 Inv-loop work starts weights count a s₀ k₀ s k = (k ≤ count) × (s ≡ sum (term work starts weights a) k) × (s ≤ 42949672960000 * k)
