@@ -1,8 +1,4 @@
 -- `expect::expect_layer` meets its contract. Assumes nothing.
-use mathlib.Core.Path.{_≡_, refl, ap, _∙_}
-use Rattle.slices.specs.Stored.{stored, stored-first, length-stored}
-
--- `expect::expect_layer` meets its contract. Assumes nothing.
 use Prim.Native.Nat.{ℕ, _+_, _*_, _-_, _≤_}
 use lib.ListN.{length, getD}
 use mathlib.Core.List.{List}
@@ -13,6 +9,8 @@ use Rattle.expect.specs.Expected.{expected}
 use Rattle.rules.specs.Contract.{returnsOf}
 use Rattle.rules.specs.FixedTerm.{layerSize}
 use Rattle.slices.specs.Rows.{cells, flat}
+use Rattle.slices.specs.Stored.{stored, stored-first, length-stored}
+use Rattle.slices.specs.Stored.{stored, stored-first, stored-none, length-stored}
 use Rattle.expect.proofs.Laws.{expect-step}
 use Rattle.expect.proofs.expect_layer.Statement.{statement}
 use Rattle.expect.proofs.expect_layer.Tie as tie
@@ -40,18 +38,17 @@ add-end : tie.Need-add-end Inv-loop μ-loop
 add-end c = omega (arith, c .before .before .before .before .before .before .before .pre .1 .valid .top)
 
 loop-holds : tie.Need-loop-holds Inv-loop μ-loop
-unfolding stored
+loop-holds c = (omega arith, stored-none _ _ _ _)
 
 expect-balance-requires : tie.Need-expect-balance-requires Inv-loop μ-loop
 unfolding layerSize
 expect-balance-requires c κs = record {
-      listing = c .before .before .before .before .before .before .before .before .before .before .before .pre .0;
-      layers = record { valid = c .before .before .before .before .before .before .before .before .before .before .before .pre .1 .valid; room = let e : length (c .before .before .before .loop .work) ≡ length (c .before .before .before .before .before .before .before .before .before .before .before .args .work .now) = ap length (c .before .before .before .loop .inv .1) ∙ length-stored _ _ _ _ in omega (arith, c .before .before .before .before .before .before .before .before .before .before .before .pre .1 .room) };
-      weights-are = λ k l. ap (λ (xs : List ℕ). getD xs k 0) (c .before .before .before .before .before .fill-weights .ensures) ∙ stored-first _ _ _ k (c .before .before .before .before .before .before .before .before .before .before .before .pre .0 .few) l;
-      balance-is = omega arith;
-      stride-is = refl;
-      size-is = refl;
-    }
+  listing = c .before .before .before .before .before .before .before .before .before .before .before .pre .0;
+  layers = record { valid = c .before .before .before .before .before .before .before .before .before .before .before .pre .1 .valid; room = let e : length (c .before .before .before .loop .work) ≡ length (c .before .before .before .before .before .before .before .before .before .before .before .args .work .now) = ap length (c .before .before .before .loop .inv .1) ∙ length-stored _ _ _ _ in omega (arith, c .before .before .before .before .before .before .before .before .before .before .before .pre .1 .room) };
+  weights-are = λ k l. ap (λ (xs : List ℕ). getD xs k 0) (c .before .before .before .before .before .fill-weights .ensures) ∙ stored-first _ _ _ k (c .before .before .before .before .before .before .before .before .before .before .before .pre .0 .few) l;
+  balance-is = omega arith;
+  stride-is = refl;
+  size-is = refl;
 }
 
 add-balance : tie.Need-add-balance Inv-loop μ-loop
@@ -61,7 +58,7 @@ loop-less : tie.Need-loop-less Inv-loop μ-loop
 loop-less c = omega arith
 
 loop-again : tie.Need-loop-again Inv-loop μ-loop
-loop-again c = 
+loop-again c =
     let step = expect-step (termsIn (c .before .before .before .before .before .before .before .before .before .before .before .before .before .before .args .c)) (returnsOf (c .before .before .before .before .before .before .before .before .before .before .before .before .before .before .args .list .now)) (c .before .before .before .before .before .before .before .before .before .before .before .before .before .before .args .work .now) (c .before .before .before .before .before .before .before .before .before .before .before .before .before .before .args .c .premium + 1) ((c .before .before .before .before .before .before .before .before .before .before .before .before .before .before .args .c .top + 1) * (c .before .before .before .before .before .before .before .before .before .before .before .before .before .before .args .c .premium + 1)) refl (c .before .before .before .before .before .before .loop .balance) in
     let moved = ap (λ (xs : List ℕ). stored xs (((c .before .before .before .before .before .before .before .before .before .before .before .before .before .before .args .c .top + 1) * (c .before .before .before .before .before .before .before .before .before .before .before .before .before .before .args .c .premium + 1)) + c .before .before .before .before .before .before .loop .balance * (c .before .before .before .before .before .before .before .before .before .before .before .before .before .before .args .c .premium + 1)) (expected (termsIn (c .before .before .before .before .before .before .before .before .before .before .before .before .before .before .args .c)) (returnsOf (c .before .before .before .before .before .before .before .before .before .before .before .before .before .before .args .list .now)) (cells xs 0 (c .before .before .before .before .before .before .before .before .before .before .before .before .before .before .args .c .premium + 1)) (c .before .before .before .before .before .before .loop .balance)) (c .before .before .before .before .before .before .before .before .before .before .before .before .before .before .args .c .premium + 1)) (c .before .before .before .before .before .before .loop .inv .1) in
     (omega arith, c .before .before .expect-balance .ensures ∙ moved ∙ step)
