@@ -1,13 +1,13 @@
 -- Layers of rows in a slice: the entry of (w, a) stands at base + (w × stride + a). Assumes nothing.
 use mathlib.Core.List.{List}
 use mathlib.Core.Logic.{_⊎_, inl, inr}
-use mathlib.Core.Path.{_≡_, ap, ap₂, sym, _∙_}
-use Prim.Native.Nat.{ℕ, suc, _+_, _-_, _*_, _/_, _%_, _≤_, _<_}
-use native.Mathlib.Nat.{mul-le-mul-right, mod-lt, div-add-mod', div-lt-iff-lt-mul}
+use mathlib.Core.Path.{_≡_, ap, ap₂, sym, _∙_, fun-ext}
+use Prim.Native.Nat.{ℕ, zero, suc, _+_, _-_, _*_, _/_, _%_, _≤_, _<_}
+use native.Mathlib.Nat.{zero-add, mul-le-mul-right, mod-lt, div-add-mod', div-lt-iff-lt-mul}
 use native.Mathlib.Omega.{arith}
 use lib.ListN.{length, getD}
 use Rattle.decision.specs.Layers.{low-digit, high-digit, two-digits}
-use Rattle.slices.specs.Stored.{stored, stored-in, stored-out}
+use Rattle.slices.specs.Stored.{stored, stored-in, stored-out, stored-join}
 
 -- the layer at base holds f w a in the entry of (w, a), in the rows below n
 pub record Layer (xs : List ℕ) (base stride n : ℕ) (f : ℕ → ℕ → ℕ) : Type 0 where
@@ -60,3 +60,20 @@ unfolding flat
 layer-flat xs stride n f pos x e h =
     let i : 0 + (e / stride * stride + e % stride) ≡ e = let d = div-add-mod' e stride in omega arith in
     ap (λ (j : ℕ). getD xs j 0) (sym i) ∙ x .cell (e / stride) (e % stride) (div-lt-iff-lt-mul pos .1 h) (mod-lt e pos)
+
+-- a store before a layer leaves every entry of it
+pub cells-kept : (xs : List ℕ) (at n base stride : ℕ) (f : ℕ → ℕ) → at + n ≤ base → cells (stored xs at f n) base stride ≡ cells xs base stride
+cells-kept xs at n base stride f h = fun-ext (λ w. fun-ext (λ a. stored-out xs at f n (base + (w * stride + a)) (inr (omega arith))))
+
+-- the row before
+pub rows-before : (stride w : ℕ) → 1 ≤ w → w * stride ≡ (w - 1) * stride + stride
+rows-before stride zero h = absurd (omega arith)
+rows-before stride (suc w) h = let e : suc w - 1 ≡ w = omega arith in rw e (omega arith)
+
+-- one more row of a layer at the start of a slice
+pub row-next : (xs : List ℕ) (stride b : ℕ) (f : ℕ → ℕ → ℕ) (g : ℕ → ℕ) → ((a : ℕ) → a < stride → g a ≡ f b a)
+    → stored (stored xs 0 (flat stride f) (b * stride)) (b * stride) g stride ≡ stored xs 0 (flat stride f) ((b + 1) * stride)
+row-next xs stride b f g h =
+    ap (λ (at : ℕ). stored (stored xs 0 (flat stride f) (b * stride)) at g stride) (sym (zero-add (b * stride)))
+    ∙ stored-join xs 0 (flat stride f) g (b * stride) stride (λ a l. h a l ∙ sym (flat-at stride f b a l))
+    ∙ ap (stored xs 0 (flat stride f)) (rows-step stride b)
