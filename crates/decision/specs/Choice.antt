@@ -1,13 +1,13 @@
 -- The largest worth among the amounts from 0 to a limit that pass a test, and the smallest amount that has it.
 -- Assumes nothing.
-use mathlib.Core.Bool.{Bool, true, false, cond, _&&_}
+use mathlib.Core.Bool.{Bool, true, false, cond, not, _&&_}
 use mathlib.Core.Logic.{_⊎_, inl, inr, _≢_}
-use mathlib.Core.Path.{_≡_, refl, ap, sym, _∙_, subst}
+use mathlib.Core.Path.{_≡_, refl, ap, sym, _∙_, subst, subst₃}
 use Prim.Native.Nat.{ℕ, zero, suc, _+_, _-_, max, _≤_, _<_, zero-le}
 use native.Mathlib.Decide.{decLe}
 use native.Mathlib.Nat.{le-of-eq, le-trans, le-refl, le-step, le-antisymm, le-max-left, le-max-right, le-suc-iff}
 use native.Mathlib.Omega.{arith}
-use lib.Dec.{T, eqb, eqb→eq, eqb-refl}
+use lib.Dec.{T, ltb, ltb→lt, nltb→le, eqb, eqb→eq, eqb-refl}
 use Rattle.decision.specs.Index.{first, firstFrom, First, first-is, first-least}
 
 -- both tests, taken apart and put together
@@ -207,3 +207,26 @@ leading-shift {f} {g} {hi} {s} {v} base extra same x = record {
     moved t l m =
         let e : t ≡ base + (t - base) = omega arith in
         ap f e ∙ same (t - base) (omega arith)
+
+-- the same worths, the same lead
+pub leading-eq : {f g : ℕ → ℕ} {lo hi c v : ℕ} → ((t : ℕ) → lo ≤ t → t ≤ hi → f t ≡ g t) → Leading f lo hi c v → Leading g lo hi c v
+leading-eq {f} {g} {lo} {hi} {c} {v} same x = record {
+  from = x .from;
+  to = x .to;
+  worth = sym (same c (x .from) (x .to)) ∙ x .worth;
+  most = λ t l m. let p = x .most t l m in let e = same t l m in omega arith;
+  smallest = λ t l m. let p = x .smallest t l m in let e = same t l (omega (arith, x .to)) in omega arith;
+}
+
+-- what a search that compares two holds afterwards
+pub leading-join : {f : ℕ → ℕ} {lo mid hi c v d u : ℕ} → Leading f lo mid c v → Leading f (mid + 1) hi d u
+    → Leading f lo hi (cond (ltb v u) d c) (cond (ltb v u) u v)
+leading-join {f} {lo} {mid} {hi} {c} {v} {d} {u} x y = go (ltb v u) (ltb→lt v u) (nltb→le v u)
+  where
+    go : (b : Bool) → (T b → v < u) → (T (not b) → u ≤ v) → Leading f lo hi (cond b d c) (cond b u v)
+    go true more less = leading-second x y (more tt)
+    go false more less = leading-first x y (less tt)
+
+-- the same end, amount and worth by other names
+pub leading-as : {f : ℕ → ℕ} {lo hi hi' c c' v v' : ℕ} → hi ≡ hi' → c ≡ c' → v ≡ v' → Leading f lo hi c v → Leading f lo hi' c' v'
+leading-as {f} {lo} p q r x = subst₃ (Leading f lo) p q r x

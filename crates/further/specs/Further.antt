@@ -8,7 +8,7 @@ use native.Mathlib.Nat.{sub-zero, le-of-lt, max-eq-left, max-eq-right, mul-le-mu
 use native.Mathlib.Omega.{arith}
 use lib.Dec.{T, ltb, ltb→lt, nltb→le}
 use lib.ListN.{getD, length}
-use Rattle.decision.specs.Choice.{Leading, leading-one, leading-first, leading-second, leading-shift}
+use Rattle.decision.specs.Choice.{Leading, leading-one, leading-join, leading-shift}
 use Rattle.slices.specs.Rows.{cells}
 
 -- what s further is worth from balance b and guarantee a, where e gives the discounted sums
@@ -52,21 +52,21 @@ go-on e k b a s v x =
     let h : 1 + b ≡ suc b = omega arith in
     subst (λ (hi : ℕ). Leading (further e k (suc b) a) 1 hi (1 + s) (k + v)) h (leading-shift 1 k same x)
 
+-- the larger of two, by the test
+larger-is : (x y : ℕ) → max x y ≡ cond (ltb x y) y x
+larger-is x y = go (ltb x y) (ltb→lt x y) (nltb→le x y)
+  where
+    go : (b : Bool) → (T b → x < y) → (T (not b) → y ≤ x) → max x y ≡ cond b y x
+    go true more less = max-eq-right (le-of-lt (more tt))
+    go false more less = max-eq-left (less tt)
+
 pub further-leads : (e : ℕ → ℕ → ℕ) (k b a : ℕ) → Leading (further e k b a) 0 b (furtherAmount e k b a) (furtherValue e k b a)
 unfolding furtherValue furtherAmount
 further-leads e k zero a = stay e k 0 a
-further-leads e k (suc b) a = choose (ltb (e (suc b) a) u) (ltb→lt (e (suc b) a) u) (nltb→le (e (suc b) a) u) (go-on e k b a _ _ (further-leads e k b (a - 1)))
-  where
-    u : ℕ
-    u = k + furtherValue e k b (a - 1)
-
-    s : ℕ
-    s = 1 + furtherAmount e k b (a - 1)
-
-    choose : (t : Bool) → (T t → e (suc b) a < u) → (T (not t) → u ≤ e (suc b) a) → Leading (further e k (suc b) a) (0 + 1) (suc b) s u
-        → Leading (further e k (suc b) a) 0 (suc b) (cond t s 0) (max (e (suc b) a) u)
-    choose true more less y = rw (max-eq-right (le-of-lt (more tt))) (leading-second (stay e k (suc b) a) y (more tt))
-    choose false more less y = rw (max-eq-left (less tt)) (leading-first (stay e k (suc b) a) y (less tt))
+further-leads e k (suc b) a =
+    let u = k + furtherValue e k b (a - 1) in
+    let x = leading-join (stay e k (suc b) a) (go-on e k b a _ _ (further-leads e k b (a - 1))) in
+    rw (larger-is (e (suc b) a) u) x
 
 -- ---- what the loops hand to each other
 -- two layers of n rows in the working slice, the second at base, and room in the table for one

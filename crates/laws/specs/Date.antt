@@ -5,8 +5,8 @@ use mathlib.Core.Path.{_≡_, refl}
 use Prim.Native.Nat.{ℕ, _-_, _*_, _/_, _≤_, _<_, min, max}
 use native.Mathlib.Nat.{le-refl, min-le-left}
 use native.Mathlib.Omega.{arith}
-use lib.Dec.{T, leb, ltb, eqb, eqb→eq, eqb-refl, leb→le, le→leb, ltb→lt}
-use Rattle.decision.specs.Choice.{and-left, and-right}
+use lib.Dec.{T, leb, ltb, eqb, eqb→eq, eqb-refl, leb→le, le→leb, ltb→lt, lt→ltb}
+use Rattle.decision.specs.Choice.{and-left, and-right, and-intro}
 use Rattle.rules.specs.Date.{Behaviour, static, mixed, dynamic, largestAmount, surrenders, admits, guaranteeAfter, nextAccount}
 
 -- ---- admissible amounts
@@ -86,3 +86,8 @@ guarantee-le m w a t = go (leb t m)
 pub account-le : (fee top balance factor : ℕ) → nextAccount fee top balance factor ≤ top
 unfolding nextAccount
 account-le fee top balance factor = min-le-left _ _
+
+-- above m the whole account is a mixed choice
+pub admits-surrender : (m w : ℕ) → m < w → T (admits mixed m w w)
+unfolding admits surrenders
+admits-surrender m w h = or-right (eqb w m) (ltb m w && eqb w w) (and-intro (ltb m w) (eqb w w) (lt→ltb m w h) (eqb-refl w))

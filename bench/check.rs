@@ -1,0 +1,139 @@
+//! `check`: all programs against the plain one on random small contracts, with ties frequent,
+//! some of them spoilt so that they are refused.
+
+use crate::inputs::{Input, Return, Terms, DYNAMIC};
+use crate::programs::{Program, ENGINE, PLAIN, TUNED};
+
+const CONTRACTS: u64 = 600;
+
+/// Random numbers, the same in every run (splitmix64).
+struct Draw(u64);
+
+impl Draw {
+    fn next(&mut self) -> u64 {
+        self.0 = self.0.wrapping_add(0x9E37_79B9_7F4A_7C15);
+        let mut z = self.0;
+        z = (z ^ (z >> 30)).wrapping_mul(0xBF58_476D_1CE4_E5B9);
+        z = (z ^ (z >> 27)).wrapping_mul(0x94D0_49BB_1331_11EB);
+        z ^ (z >> 31)
+    }
+
+    fn within(&mut self, low: u64, high: u64) -> u64 {
+        low + self.next() % (high - low + 1)
+    }
+
+    /// One of the figures given, or anything in the range.
+    fn one_of(&mut self, figures: &[u64], low: u64, high: u64) -> u64 {
+        let k = self.within(0, figures.len() as u64) as usize;
+        let any = self.within(low, high);
+        *figures.get(k).unwrap_or(&any)
+    }
+}
+
+/// Without penalty or discount, and with whole factors, many amounts are worth the same.
+fn random_terms(draw: &mut Draw, most_top: u64) -> Terms {
+    let top = draw.within(1, most_top);
+    let premium = draw.one_of(&[top], 1, top);
+    Terms {
+        premium: premium as u16,
+        level: draw.one_of(&[1, premium], 1, premium) as u16,
+        top: top as u16,
+        dates: draw.within(1, 5) as u16,
+        fee: draw.one_of(&[0, 0, 100], 0, 10_000) as u16,
+        penalty: draw.one_of(&[0, 0, 500, 10_000], 0, 10_000) as u16,
+        discount: draw.one_of(&[1_000_000, 1_000_000, 970_000], 1, 1_000_000) as u32,
+    }
+}
+
+/// Up to nine returns, so that rows are summed in fours and singly; equal factors stand twice.
+fn random_returns(draw: &mut Draw) -> Vec<Return> {
+    let mut left = 10_000;
+    let mut returns = Vec::new();
+    for after in (0..draw.within(1, 9)).rev() {
+        let weight = if after == 0 {
+            left
+        } else {
+            draw.within(1, left - after)
+        };
+        left -= weight;
+        let last = returns.last().map_or(10_000, |r: &Return| r.0.into());
+        let factor = draw.one_of(&[last, 10_000, 5_000, 20_000, 0], 0, 30_000);
+        returns.push((factor as u16, weight as u16));
+    }
+    returns
+}
+
+/// Changes one thing. Most of the changes are refused.
+fn spoil(draw: &mut Draw, input: &mut Input) {
+    let byte = draw.next() as u8;
+    match draw.within(0, 6) {
+        0 => input.behaviour = 3,
+        1 => input.work_len -= 4,
+        2 => input.table_len = input.table_len.saturating_sub(4),
+        3 => input.list.truncate(draw.within(0, 3) as usize),
+        4 => input.record.truncate(draw.within(0, 15) as usize),
+        5 => input.record[draw.within(0, 15) as usize] = byte,
+        _ => {
+            let last = input.list.len() as u64 - 1;
+            input.list[draw.within(0, last) as usize] = byte;
+        }
+    }
+}
+
+/// The highest account, the most dates and the largest factor: values near 2^31.
+fn large_values() -> Input {
+    let terms = Terms {
+        premium: 1,
+        level: 1,
+        top: 4_000,
+        dates: 40,
+        fee: 0,
+        penalty: 0,
+        discount: 1_000_000,
+    };
+    terms.input(&[(30_000, 10_000)], DYNAMIC)
+}
+
+/// Gives the number told, and whether all programs agree.
+fn agree(name: &str, input: &Input) -> (u64, bool) {
+    let (plain, _) = PLAIN.run(input);
+    let differs = |program: &Program| {
+        let difference = program.run(input).0.difference(&plain);
+        if let Some(what) = &difference {
+            eprintln!("differ: {name}: {} from plain: {what}", program.name);
+        }
+        difference.is_some()
+    };
+    let differing = [TUNED, ENGINE].iter().filter(|p| differs(p)).count();
+    (plain.told.number, differing == 0)
+}
+
+/// Makes all comparisons, prints how many and gives whether all programs agree.
+pub fn run() -> bool {
+    let mut draw = Draw(20_240_601);
+    let (mut valued, mut refused, mut differing) = (0, 0, 0);
+    let mut count = |(number, equal): (u64, bool)| {
+        valued += u64::from(number == 0);
+        refused += u64::from(number != 0);
+        differing += u64::from(!equal);
+    };
+    for k in 0..CONTRACTS {
+        let terms = random_terms(&mut draw, if k % 10 == 0 { 60 } else { 16 });
+        let returns = random_returns(&mut draw);
+        for behaviour in 0..=DYNAMIC {
+            let mut input = terms.input(&returns, behaviour);
+            count(agree(
+                &format!("contract {k}, behaviour {behaviour}"),
+                &input,
+            ));
+            spoil(&mut draw, &mut input);
+            count(agree(
+                &format!("spoilt contract {k}, behaviour {behaviour}"),
+                &input,
+            ));
+        }
+    }
+    count(agree("large values", &large_values()));
+    println!("check: {valued} valued, {refused} refused, {differing} differ");
+    differing == 0
+}

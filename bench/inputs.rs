@@ -1,0 +1,119 @@
+//! What is valued: contracts in bytes, with the lengths of the slices to lend.
+
+/// Entries lent beyond those needed; no program may touch them.
+const SPARE: usize = 3;
+
+pub const STATIC: u64 = 0;
+pub const MIXED: u64 = 1;
+pub const DYNAMIC: u64 = 2;
+
+/// The fields of a contract record, in its order.
+#[derive(Clone, Copy)]
+pub struct Terms {
+    pub premium: u16,
+    pub level: u16,
+    pub top: u16,
+    pub dates: u16,
+    pub fee: u16,
+    pub penalty: u16,
+    pub discount: u32,
+}
+
+/// Factor and weight.
+pub type Return = (u16, u16);
+
+/// What a valuing call is given.
+#[derive(Clone)]
+pub struct Input {
+    pub record: Vec<u8>,
+    pub list: Vec<u8>,
+    pub behaviour: u64,
+    pub work_len: usize,
+    pub table_len: usize,
+}
+
+impl Terms {
+    pub fn input(&self, returns: &[Return], behaviour: u64) -> Input {
+        let words = [
+            self.premium,
+            self.level,
+            self.top,
+            self.dates,
+            self.fee,
+            self.penalty,
+        ];
+        let mut record: Vec<u8> = words.iter().flat_map(|w| w.to_le_bytes()).collect();
+        record.extend(self.discount.to_le_bytes());
+        let mut list = Vec::new();
+        for (factor, weight) in returns {
+            list.extend(factor.to_le_bytes());
+            list.extend(weight.to_le_bytes());
+        }
+        let layer = (usize::from(self.top) + 1) * (usize::from(self.premium) + 1);
+        Input {
+            record,
+            list,
+            behaviour,
+            work_len: 2 * layer + SPARE,
+            table_len: (usize::from(self.dates) - 1) * layer + SPARE,
+        }
+    }
+}
+
+/// The size of a contract to time; the other terms are the same for all.
+#[derive(Clone, Copy)]
+pub struct Size {
+    pub top: u16,
+    pub premium: u16,
+    pub level: u16,
+    pub dates: u16,
+    pub returns: u16,
+}
+
+impl Size {
+    pub fn input(&self, behaviour: u64) -> Input {
+        let terms = Terms {
+            premium: self.premium,
+            level: self.level,
+            top: self.top,
+            dates: self.dates,
+            fee: 100,
+            penalty: 500,
+            discount: 970_000,
+        };
+        terms.input(&spread(self.returns.into()), behaviour)
+    }
+
+    /// How many values the plain program looks up: one for each return of each amount of
+    /// each state of each decision date.
+    pub fn plain_steps(&self, behaviour: u64) -> u64 {
+        let mut amounts = 0;
+        for account in 0..=self.top {
+            for guarantee in 0..=self.premium {
+                amounts += match behaviour {
+                    STATIC => 1,
+                    MIXED => 2,
+                    _ => u64::from(account.max(guarantee.min(self.level))) + 1,
+                };
+            }
+        }
+        amounts * u64::from(self.dates - 1) * u64::from(self.returns)
+    }
+}
+
+/// Returns between 0.6 and 1.6, evenly spread by ratio, so that a fall and a rise of the same
+/// ratio are alike; the weights fall off towards both ends as a parabola.
+fn spread(count: usize) -> Vec<Return> {
+    let heights: Vec<usize> = (0..count).map(|k| (k + 1) * (count - k)).collect();
+    let total: usize = heights.iter().sum();
+    let mut below = 0;
+    let mut returns = Vec::new();
+    for (k, height) in heights.iter().enumerate() {
+        let ratio = (16.0f64 / 6.0).powf(k as f64 / (count - 1) as f64);
+        // Shares are cut from the running total, so they add to 10,000.
+        let weight = 10_000 * (below + height) / total - 10_000 * below / total;
+        below += height;
+        returns.push(((6_000.0 * ratio).round() as u16, weight as u16));
+    }
+    returns
+}

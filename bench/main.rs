@@ -1,0 +1,254 @@
+//! Times the proved engine against the plain program and the tuned one, in one process and on
+//! the same inputs. Exit status 1 if their answers, tables or working slices differ.
+//! With the word `check` it times nothing and compares them on random small contracts.
+
+mod check;
+#[path = "../second/gmwb.rs"]
+mod gmwb;
+mod inputs;
+mod programs;
+mod tuned;
+
+use inputs::{Input, Size, DYNAMIC, MIXED, STATIC};
+use programs::{Outcome, Program, ENGINE, PLAIN, TUNED};
+use std::process::ExitCode;
+use std::thread;
+
+/// About a minute of the plain program; it is left out above that.
+const MOST_PLAIN_STEPS: u64 = 25_000_000_000;
+
+/// A program is run until it has had this many seconds or runs.
+const SECONDS: f64 = 3.0;
+const MOST_RUNS: usize = 40;
+
+const fn size(top: u16, premium: u16, level: u16, dates: u16, returns: u16) -> Size {
+    Size {
+        top,
+        premium,
+        level,
+        dates,
+        returns,
+    }
+}
+
+const TIMED: [(&str, u64, Size); 6] = [
+    ("dynamic", DYNAMIC, size(100, 50, 5, 10, 8)),
+    ("dynamic", DYNAMIC, size(400, 200, 10, 20, 32)),
+    ("dynamic", DYNAMIC, size(400, 400, 20, 20, 32)),
+    ("dynamic", DYNAMIC, size(1_000, 500, 25, 20, 32)),
+    ("static", STATIC, size(400, 200, 10, 20, 32)),
+    ("mixed", MIXED, size(400, 200, 10, 20, 32)),
+];
+
+/// Tables of growth: a heading, and sizes of which each doubles one thing.
+const GROWTH: [(&str, &[Size]); 3] = [
+    (
+        "top and U doubled (G 10, N 10, 16 returns)",
+        &[
+            size(50, 25, 10, 10, 16),
+            size(100, 50, 10, 10, 16),
+            size(200, 100, 10, 10, 16),
+            size(400, 200, 10, 10, 16),
+            size(800, 400, 10, 10, 16),
+        ],
+    ),
+    (
+        "returns doubled (top 200, U 100, G 10, N 10)",
+        &[
+            size(200, 100, 10, 10, 8),
+            size(200, 100, 10, 10, 16),
+            size(200, 100, 10, 10, 32),
+            size(200, 100, 10, 10, 64),
+        ],
+    ),
+    (
+        "G doubled (top 400, U 200, N 10, 16 returns)",
+        &[
+            size(400, 200, 5, 10, 16),
+            size(400, 200, 10, 10, 16),
+            size(400, 200, 20, 10, 16),
+            size(400, 200, 40, 10, 16),
+        ],
+    ),
+];
+
+/// The runs of one program on one input.
+struct Timing {
+    program: Program,
+    outcome: Outcome,
+    best: f64,
+    spent: f64,
+    runs: usize,
+}
+
+impl Timing {
+    fn first_run(program: Program, input: &Input) -> Timing {
+        let (outcome, seconds) = program.run(input);
+        Timing {
+            program,
+            outcome,
+            best: seconds,
+            spent: seconds,
+            runs: 1,
+        }
+    }
+
+    fn is_done(&self) -> bool {
+        self.spent >= SECONDS || self.runs >= MOST_RUNS
+    }
+
+    fn run_again(&mut self, input: &Input) {
+        let (_, seconds) = self.program.run(input);
+        self.best = self.best.min(seconds);
+        self.spent += seconds;
+        self.runs += 1;
+    }
+}
+
+/// Runs the programs in turn, so that a busy spell of the machine meets them all.
+fn run_in_turn(programs: &[Program], input: &Input) -> Vec<Timing> {
+    let first_run = |program: &Program| Timing::first_run(*program, input);
+    let mut timings: Vec<Timing> = programs.iter().map(first_run).collect();
+    while timings.iter().any(|t| !t.is_done()) {
+        for timing in timings.iter_mut().filter(|t| !t.is_done()) {
+            timing.run_again(input);
+        }
+    }
+    timings
+}
+
+/// Times the programs on one input. Gives the seconds of the best runs, and whether all
+/// outcomes equal the first and none is a refusal.
+fn timed(programs: &[Program], size: &Size, behaviour: u64) -> (Vec<f64>, bool) {
+    let timings = run_in_turn(programs, &size.input(behaviour));
+    let first = &timings[0];
+    let mut right = true;
+    for Timing {
+        program, outcome, ..
+    } in &timings
+    {
+        if let Some(what) = outcome.difference(&first.outcome) {
+            eprintln!(
+                "differ: {} from {}: {what}",
+                program.name, first.program.name
+            );
+            right = false;
+        }
+        if outcome.told.number != 0 {
+            eprintln!("refused: {}: {:?}", program.name, outcome.told);
+            right = false;
+        }
+    }
+    (timings.iter().map(|t| t.best).collect(), right)
+}
+
+/// Engine, plain and tuned at the sizes of `TIMED`.
+fn time_programs() -> bool {
+    println!("seconds, best of several runs");
+    println!(
+        "{:<9}{:>6}{:>5}{:>4}{:>4}{:>9}{:>11}{:>11}{:>11}{:>14}{:>14}",
+        "behaviour",
+        "top",
+        "U",
+        "G",
+        "N",
+        "returns",
+        "plain",
+        "engine",
+        "tuned",
+        "plain/engine",
+        "tuned/engine"
+    );
+    let mut right = true;
+    for (name, behaviour, s) in &TIMED {
+        let with_plain = s.plain_steps(*behaviour) <= MOST_PLAIN_STEPS;
+        let programs = [ENGINE, TUNED, PLAIN];
+        let programs = &programs[..if with_plain { 3 } else { 2 }];
+        let (seconds, equal) = timed(programs, s, *behaviour);
+        right &= equal;
+        let (engine, tuned) = (seconds[0], seconds[1]);
+        let plain = |show: fn(f64, f64) -> String| {
+            let shown = seconds.get(2).map(|plain| show(*plain, seconds[0]));
+            shown.unwrap_or("-".to_string())
+        };
+        println!(
+            "{name:<9}{:>6}{:>5}{:>4}{:>4}{:>9}{:>11}{engine:>11.5}{tuned:>11.5}{:>14}{:>14.3}",
+            s.top,
+            s.premium,
+            s.level,
+            s.dates,
+            s.returns,
+            plain(|plain, _| format!("{plain:.5}")),
+            plain(|plain, engine| format!("{:.1}", plain / engine)),
+            tuned / engine
+        );
+    }
+    right
+}
+
+/// Engine and tuned at sizes that double, with the factor from each line to the next.
+fn time_growth(heading: &str, sizes: &[Size]) -> bool {
+    println!("\ndynamic, {heading}");
+    println!(
+        "{:>5}{:>5}{:>4}{:>9}{:>11}{:>8}{:>11}{:>8}",
+        "top", "U", "G", "returns", "engine", "factor", "tuned", "factor"
+    );
+    let mut right = true;
+    let mut last: Option<Vec<f64>> = None;
+    for s in sizes {
+        let (seconds, equal) = timed(&[ENGINE, TUNED], s, DYNAMIC);
+        right &= equal;
+        let factor = |program: usize| {
+            let last = last.as_ref().map(|last| seconds[program] / last[program]);
+            last.map_or("-".to_string(), |factor| format!("{factor:.2}"))
+        };
+        println!(
+            "{:>5}{:>5}{:>4}{:>9}{:>11.5}{:>8}{:>11.5}{:>8}",
+            s.top,
+            s.premium,
+            s.level,
+            s.returns,
+            seconds[0],
+            factor(0),
+            seconds[1],
+            factor(1)
+        );
+        last = Some(seconds);
+    }
+    right
+}
+
+fn time_all() -> bool {
+    let cores = thread::available_parallelism().map_or(0, |n| n.get());
+    println!("cores   {cores}; each program uses one");
+    println!("engine  {}", env!("BENCH_ENGINE"));
+    println!("Rust    {}\n", env!("BENCH_RUST"));
+    let mut right = time_programs();
+    for (heading, sizes) in GROWTH {
+        right &= time_growth(heading, sizes);
+    }
+    if right {
+        println!(
+            "\nnumbers, values, margins, tables and working slices are equal among all that ran"
+        );
+    }
+    right
+}
+
+fn main() -> ExitCode {
+    let words: Vec<String> = std::env::args().skip(1).collect();
+    let words: Vec<&str> = words.iter().map(String::as_str).collect();
+    let right = match words[..] {
+        [] => time_all(),
+        ["check"] => check::run(),
+        _ => {
+            eprintln!("usage: bench [check]");
+            return ExitCode::from(2);
+        }
+    };
+    if right {
+        ExitCode::SUCCESS
+    } else {
+        ExitCode::FAILURE
+    }
+}

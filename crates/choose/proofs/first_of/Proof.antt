@@ -1,0 +1,15 @@
+use borrow.Author.Tests.{lt-ltb, le-ltb}
+use mathlib.Core.Path.{sym}
+use Rattle.choose.proofs.first_of.Statement.{statement}
+use Rattle.choose.proofs.first_of.Tie as tie
+use Rattle.choose.proofs.first_of.Reads as reads
+use Rattle.choose.proofs.first_of.Lts as lts
+
+returns : tie.Need-returns
+returns c = (sym (rw (lt-ltb _ _ (c .if1 .taken))), sym (rw (lt-ltb _ _ (c .if1 .taken))))
+
+returns-2 : tie.Need-returns-2
+returns-2 c = (sym (rw (le-ltb _ _ (c .if1 .left))), sym (rw (le-ltb _ _ (c .if1 .left))))
+
+pub first-of-spec : {M : Type 1} → statement M
+first-of-spec = tie.close (tie.spec returns returns-2)

@@ -1,0 +1,45 @@
+-- The value and the recorded amount of a state, over the discounted sums e of balance and guarantee. Assumes nothing.
+use mathlib.Core.List.{List}
+use mathlib.Core.Path.{_≡_}
+use Prim.Native.Nat.{ℕ, _+_, _-_, _*_, _/_, _≤_, _<_}
+use lib.ListN.{length}
+use Rattle.decision.specs.Choice.{largest, smallestBest}
+use Rattle.slices.specs.Rows.{cells}
+use Rattle.rules.specs.Contract.{topMost, rateMost}
+use Rattle.rules.specs.Date.{Behaviour, freeAmount, largestAmount, admits, cash, balanceAfter, guaranteeAfter}
+use Rattle.further.specs.Further.{furtherValue, furtherAmount}
+
+-- "a choice is worth its cash plus" the discounted sum
+unfoldable pub worthOver : (ℕ → ℕ → ℕ) → ℕ → ℕ → ℕ → ℕ → ℕ → ℕ
+worthOver e rate m w a t = cash rate m t + e (balanceAfter w t) (guaranteeAfter m w a t)
+
+unfoldable pub bestValue : Behaviour → (ℕ → ℕ → ℕ) → ℕ → ℕ → ℕ → ℕ → ℕ
+bestValue b e rate level w a =
+    let m = freeAmount level a in
+    largest (admits b m w) (worthOver e rate m w a) (largestAmount m w)
+
+unfoldable pub bestAmount : Behaviour → (ℕ → ℕ → ℕ) → ℕ → ℕ → ℕ → ℕ → ℕ
+bestAmount b e rate level w a =
+    let m = freeAmount level a in
+    smallestBest (admits b m w) (worthOver e rate m w a) (largestAmount m w)
+
+-- what an amount is worth up to m, and above m where the account is below the guarantee
+unfoldable pub freeWorth : (ℕ → ℕ → ℕ) → ℕ → ℕ → ℕ → ℕ
+freeWorth e w a t = 10000 * t + e (w - t) (a - t)
+
+unfoldable pub aboveWorth : (ℕ → ℕ → ℕ) → ℕ → ℕ → ℕ → ℕ → ℕ → ℕ
+aboveWorth e rate m w a t = 10000 * t - rate * (t - m) + e (w - t) (a * (w - t) / w)
+
+-- ---- what the functions hand to each other
+-- a state, and room for the rows of its balances
+pub record State (work : List ℕ) (base stride w a m : ℕ) : Type 0 where
+  pub account : w ≤ topMost
+  pub guarantee : a ≤ topMost
+  pub free : m ≤ a
+  pub column : a < stride
+  pub rows : base + (w + 1) * stride ≤ length work
+
+-- the rows below n hold the best of withdrawing further
+pub record Furthered (work table : List ℕ) (base stride n k : ℕ) : Type 0 where
+  pub values : (b a : ℕ) → b < n → a < stride → cells work 0 stride b a ≡ furtherValue (cells work base stride) k b a
+  pub amounts : (b a : ℕ) → b < n → a < stride → cells table 0 stride b a ≡ furtherAmount (cells work base stride) k b a

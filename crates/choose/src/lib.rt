@@ -1,0 +1,193 @@
+// The value and the recorded amount of every state of a date, from the layer of discounted sums.
+ghost use mathlib.Core.Bool.{cond};
+ghost use mathlib.Core.Path.{_≡_};
+ghost use Prim.Native.Nat.{ℕ, _+_, _-_, _*_, _/_, _≤_, _<_, max};
+ghost use lib.Dec.{ltb, leb};
+ghost use lib.ListN.{length};
+ghost use Rattle.decision.specs.Choice.{Leading};
+ghost use Rattle.slices.specs.Rows.{cells};
+ghost use Rattle.rules.specs.Contract.{topMost, rateMost};
+ghost use Rattle.choose.specs.State.{freeWorth, aboveWorth, worthOver, State, Furthered};
+
+// An amount and what it is worth.
+pub struct Choice {
+    pub value: usize,
+    pub amount: usize,
+}
+
+fn wide(x: u32) -> usize
+    ensures { λ r. ⌜ (r ≡ x) × (r < 4294967296) ⌝ }
+{
+    x as usize
+}
+
+// The first, unless the second is worth more.
+fn first_of(x: Choice, y: Choice) -> Choice
+    ensures { λ r. ⌜ (r .value ≡ cond (ltb (x .value) (y .value)) (y .value) (x .value)) × (r .amount ≡ cond (ltb (x .value) (y .value)) (y .amount) (x .amount)) ⌝ }
+{
+    if x.value < y.value { y } else { x }
+}
+
+// What amount t is worth, at most m of which is withdrawn.
+fn worth_free(
+    work: &[u32],
+    base: usize,
+    stride: usize,
+    w: usize,
+    a: usize,
+    m: usize,
+    t: usize,
+) -> usize
+    requires { ⌜ State (now work) base stride w a m × (t ≤ m) ⌝ }
+    ensures { λ r. ⌜ r ≡ freeWorth (cells (now (work .entry)) base stride) w a t ⌝ }
+{
+    let at = base + (date::less(w, t) * stride + (a - t));
+    10000 * t + wide(work[at])
+}
+
+// The best of the amounts 0 to m.
+fn best_free(work: &[u32], base: usize, stride: usize, w: usize, a: usize, m: usize) -> Choice
+    requires { ⌜ State (now work) base stride w a m ⌝ }
+    ensures { λ r. ⌜ Leading (freeWorth (cells (now (work .entry)) base stride) w a) 0 m (r .amount) (r .value) ⌝ }
+{
+    let mut best = Choice {
+        value: worth_free(work, base, stride, w, a, m, 0),
+        amount: 0,
+    };
+    for t in 0..m {
+        let amount = t + 1;
+        let value = worth_free(work, base, stride, w, a, m, amount);
+        best = first_of(best, Choice { value, amount });
+    }
+    best
+}
+
+// A product in parts: whole × w + rest.
+struct Parts {
+    whole: usize,
+    rest: usize,
+}
+
+fn sum_of(x: Parts, y: Parts, w: usize) -> Parts
+    requires { ⌜ (x .rest < w) × (y .rest < w) × (w ≤ topMost) × (x .whole ≤ 16000000) × (y .whole ≤ 4000) ⌝ }
+    ensures { λ r. ⌜ (r .whole * w + r .rest ≡ x .whole * w + x .rest + (y .whole * w + y .rest)) × (r .rest < w) ⌝ }
+{
+    let whole = x.whole + y.whole;
+    let rest = x.rest + y.rest;
+    if rest < w {
+        return Parts { whole, rest };
+    }
+    Parts {
+        whole: whole + 1,
+        rest: rest - w,
+    }
+}
+
+// What amount w - x is worth above m, where the guarantee left is g.
+fn worth_above(
+    work: &[u32],
+    base: usize,
+    stride: usize,
+    w: usize,
+    a: usize,
+    m: usize,
+    rate: usize,
+    x: usize,
+    g: usize,
+) -> usize
+    requires { ⌜ State (now work) base stride w a m × (rate ≤ rateMost) × (m + x < w) × (g ≡ a * x / w) ⌝ }
+    ensures { λ r. ⌜ r ≡ aboveWorth (cells (now (work .entry)) base stride) rate m w a (w - x) ⌝ }
+{
+    let t = w - x;
+    let at = base + (x * stride + g);
+    10000 * t - rate * (t - m) + wide(work[at])
+}
+
+// The best of the amounts m + 1 to w, from w down.
+fn best_above(
+    work: &[u32],
+    base: usize,
+    stride: usize,
+    w: usize,
+    a: usize,
+    m: usize,
+    rate: usize,
+) -> Choice
+    requires { ⌜ State (now work) base stride w a m × (rate ≤ rateMost) × (m < w) ⌝ }
+    ensures { λ r. ⌜ Leading (aboveWorth (cells (now (work .entry)) base stride) rate m w a) (m + 1) w (r .amount) (r .value) ⌝ }
+{
+    let one = Parts {
+        whole: a / w,
+        rest: a % w,
+    };
+    let mut left = Parts { whole: 0, rest: 0 };
+    let mut best = Choice {
+        value: worth_above(work, base, stride, w, a, m, rate, 0, 0),
+        amount: w,
+    };
+    let steps = w - m - 1;
+    for x in 0..steps {
+        left = sum_of(left, one, w);
+        let g = left.whole;
+        let value = worth_above(work, base, stride, w, a, m, rate, x + 1, g);
+        best = first_of(
+            Choice {
+                value,
+                amount: w - (x + 1),
+            },
+            best,
+        );
+    }
+    best
+}
+
+fn wide_amount(x: u16) -> usize
+    ensures { λ r. ⌜ (r ≡ x) × (r < 65536) ⌝ }
+{
+    x as usize
+}
+
+// The best of the amounts above m, where account and guarantee fall alike: read off the rows below.
+fn further_at(
+    work: &[u32],
+    table: &[u16],
+    stride: usize,
+    w: usize,
+    a: usize,
+    m: usize,
+    rate: usize,
+) -> Choice
+    requires { ⌜ (m < w) × (w ≤ topMost) × (a < stride) × (rate ≤ rateMost) × (w * stride ≤ length (now work)) × (w * stride ≤ length (now table)) ⌝ }
+    ensures { λ r. ⌜ (r .value ≡ 10000 * m + (10000 - rate) + cells (now (work .entry)) 0 stride (w - m - 1) (a - (m + 1))) × (r .amount ≡ m + 1 + cells (now (table .entry)) 0 stride (w - m - 1) (a - (m + 1))) ⌝ }
+{
+    let at = (w - m - 1) * stride + date::less(a, m + 1);
+    let value = 10000 * m + (10000 - rate) + wide(work[at]);
+    let amount = m + 1 + wide_amount(table[at]);
+    Choice { value, amount }
+}
+
+// The best of the amounts 0 to the larger of w and m.
+fn decide_dynamic(
+    work: &[u32],
+    table: &[u16],
+    base: usize,
+    stride: usize,
+    w: usize,
+    a: usize,
+    m: usize,
+    rate: usize,
+) -> Choice
+    requires { ⌜ State (now work) base stride w a m × (rate ≤ rateMost) × (w * stride ≤ length (now table)) × Furthered (now work) (now table) base stride w (10000 - rate) ⌝ }
+    ensures { λ r. ⌜ Leading (worthOver (cells (now (work .entry)) base stride) rate m w a) 0 (max w m) (r .amount) (r .value) ⌝ }
+{
+    let free = best_free(work, base, stride, w, a, m);
+    if w <= m {
+        return free;
+    }
+    if w < a {
+        let above = best_above(work, base, stride, w, a, m, rate);
+        return first_of(free, above);
+    }
+    let further = further_at(work, table, stride, w, a, m, rate);
+    first_of(free, further)
+}
