@@ -1,7 +1,7 @@
 //! `check`: all programs against the plain one on random small contracts, with ties frequent,
 //! some of them spoilt so that they are refused.
 
-use crate::inputs::{Input, Return, Terms, DYNAMIC};
+use crate::inputs::{Input, Return, Terms, DYNAMIC, SPARE};
 use crate::programs::{Program, ENGINE, PLAIN, TUNED};
 
 const CONTRACTS: u64 = 600;
@@ -68,8 +68,8 @@ fn spoil(draw: &mut Draw, input: &mut Input) {
     let byte = draw.next() as u8;
     match draw.within(0, 6) {
         0 => input.behaviour = 3,
-        1 => input.work_len -= 4,
-        2 => input.table_len = input.table_len.saturating_sub(4),
+        1 => input.work_len -= SPARE + 1,
+        2 => input.table_len = input.table_len.saturating_sub(SPARE + 1),
         3 => input.list.truncate(draw.within(0, 3) as usize),
         4 => input.record.truncate(draw.within(0, 15) as usize),
         5 => input.record[draw.within(0, 15) as usize] = byte,

@@ -1,7 +1,7 @@
 //! What is valued: contracts in bytes, with the lengths of the slices to lend.
 
 /// Entries lent beyond those needed; no program may touch them.
-const SPARE: usize = 3;
+pub const SPARE: usize = 3;
 
 pub const STATIC: u64 = 0;
 pub const MIXED: u64 = 1;

@@ -123,65 +123,54 @@ fn timed(programs: &[Program], size: &Size, behaviour: u64) -> (Vec<f64>, bool) 
     let timings = run_in_turn(programs, &size.input(behaviour));
     let first = &timings[0];
     let mut right = true;
-    for Timing {
-        program, outcome, ..
-    } in &timings
-    {
+    for timing in &timings {
+        let (name, outcome) = (timing.program.name, &timing.outcome);
         if let Some(what) = outcome.difference(&first.outcome) {
-            eprintln!(
-                "differ: {} from {}: {what}",
-                program.name, first.program.name
-            );
+            eprintln!("differ: {name} from {}: {what}", first.program.name);
             right = false;
         }
         if outcome.told.number != 0 {
-            eprintln!("refused: {}: {:?}", program.name, outcome.told);
+            eprintln!("refused: {name}: {:?}", outcome.told);
             right = false;
         }
     }
     (timings.iter().map(|t| t.best).collect(), right)
 }
 
+/// One line of `time_programs`; the seconds are those of engine, tuned and, if it ran, plain.
+fn print_timed(name: &str, s: &Size, seconds: &[f64]) {
+    let (engine, tuned, plain) = (seconds[0], seconds[1], seconds.get(2));
+    let of_plain = |shown: Option<String>| shown.unwrap_or("-".to_string());
+    println!(
+        "{name:<9}{:>6}{:>5}{:>4}{:>4}{:>9}{:>11}{engine:>11.5}{tuned:>11.5}{:>14}{:>14.3}",
+        s.top,
+        s.premium,
+        s.level,
+        s.dates,
+        s.returns,
+        of_plain(plain.map(|plain| format!("{plain:.5}"))),
+        of_plain(plain.map(|plain| format!("{:.1}", plain / engine))),
+        tuned / engine
+    );
+}
+
 /// Engine, plain and tuned at the sizes of `TIMED`.
 fn time_programs() -> bool {
-    println!("seconds, best of several runs");
+    println!("seconds, best of several runs; '-' where plain would take minutes");
     println!(
-        "{:<9}{:>6}{:>5}{:>4}{:>4}{:>9}{:>11}{:>11}{:>11}{:>14}{:>14}",
-        "behaviour",
-        "top",
-        "U",
-        "G",
-        "N",
-        "returns",
-        "plain",
-        "engine",
-        "tuned",
-        "plain/engine",
-        "tuned/engine"
+        "behaviour   top    U   G   N  returns      plain     engine      tuned  plain/engine  tuned/engine"
     );
     let mut right = true;
-    for (name, behaviour, s) in &TIMED {
-        let with_plain = s.plain_steps(*behaviour) <= MOST_PLAIN_STEPS;
-        let programs = [ENGINE, TUNED, PLAIN];
-        let programs = &programs[..if with_plain { 3 } else { 2 }];
-        let (seconds, equal) = timed(programs, s, *behaviour);
-        right &= equal;
-        let (engine, tuned) = (seconds[0], seconds[1]);
-        let plain = |show: fn(f64, f64) -> String| {
-            let shown = seconds.get(2).map(|plain| show(*plain, seconds[0]));
-            shown.unwrap_or("-".to_string())
+    for (name, behaviour, size) in &TIMED {
+        let with_plain = size.plain_steps(*behaviour) <= MOST_PLAIN_STEPS;
+        let programs: &[Program] = if with_plain {
+            &[ENGINE, TUNED, PLAIN]
+        } else {
+            &[ENGINE, TUNED]
         };
-        println!(
-            "{name:<9}{:>6}{:>5}{:>4}{:>4}{:>9}{:>11}{engine:>11.5}{tuned:>11.5}{:>14}{:>14.3}",
-            s.top,
-            s.premium,
-            s.level,
-            s.dates,
-            s.returns,
-            plain(|plain, _| format!("{plain:.5}")),
-            plain(|plain, engine| format!("{:.1}", plain / engine)),
-            tuned / engine
-        );
+        let (seconds, equal) = timed(programs, size, *behaviour);
+        print_timed(name, size, &seconds);
+        right &= equal;
     }
     right
 }
@@ -189,10 +178,7 @@ fn time_programs() -> bool {
 /// Engine and tuned at sizes that double, with the factor from each line to the next.
 fn time_growth(heading: &str, sizes: &[Size]) -> bool {
     println!("\ndynamic, {heading}");
-    println!(
-        "{:>5}{:>5}{:>4}{:>9}{:>11}{:>8}{:>11}{:>8}",
-        "top", "U", "G", "returns", "engine", "factor", "tuned", "factor"
-    );
+    println!("  top    U   G  returns     engine  factor      tuned  factor");
     let mut right = true;
     let mut last: Option<Vec<f64>> = None;
     for s in sizes {

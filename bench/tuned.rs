@@ -406,9 +406,9 @@ fn try_above_level(terms: &Terms, values: &[u32], amounts: &[u16], account: usiz
 /// the level there, so m is the level, and the guarantee after is A × b / W rounded down, b
 /// being the balance after.
 ///
-/// The quotient is the high half of A × step with step = b × 2^32 / W rounded up: that is
-/// too large by less than A / 2^32 < 1 / W, and a fraction of W parts never has room for so
-/// little below the next whole number.
+/// That quotient is the high half of A × step with step = b × 2^32 / W rounded up: the
+/// rounding adds less than A / 2^32, which is below 1 / W, and A × b / W lies at least 1 / W
+/// below the next whole number.
 fn try_above_level_reset(terms: &Terms, expected: &[u32], account: usize, row: &mut Row) {
     let (stride, level) = (terms.stride(), terms.level);
     if account >= terms.premium {
@@ -423,6 +423,8 @@ fn try_above_level_reset(terms: &Terms, expected: &[u32], account: usize, row: &
         for (value, amount) in row.from(account + 1) {
             quotient += step;
             let e = kept[(quotient >> 32) as usize];
+            // A branch here: this loop looks up single entries and is not widened, and the
+            // branch is seldom mistaken.
             if cash + e > *value {
                 (*value, *amount) = (cash + e, t as u32);
             }

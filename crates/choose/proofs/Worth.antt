@@ -1,9 +1,9 @@
 -- What an amount is worth, case by case, and the best amount of each behaviour. Assumes nothing.
 use mathlib.Core.Bool.{Bool, true, false, cond, not}
 use mathlib.Core.Logic.{_⊎_, inl, inr}
-use mathlib.Core.Path.{_≡_, refl, ap, ap₂, sym, _∙_, subst}
+use mathlib.Core.Path.{_≡_, refl, ap, ap₂, sym, _∙_, subst, subst₂}
 use Prim.Native.Nat.{ℕ, _+_, _-_, _*_, _/_, _≤_, _<_, min, max}
-use native.Mathlib.Nat.{le-refl, le-trans, le-of-eq, min-eq-left, min-eq-right, mul-le-mul-left, mul-le-mul-right, div-le-of-le-mul, le-div-iff-mul-le, sub-add-eq, max-eq-left, max-eq-right, le-of-lt}
+use native.Mathlib.Nat.{le-refl, le-trans, le-of-eq, min-eq-left, min-eq-right, mul-le-mul-left, mul-le-mul-right, div-le-of-le-mul, le-div-iff-mul-le, sub-add-eq, max-eq-left, max-eq-right, le-of-lt, mul-zero, zero-div, min-zero}
 use native.Mathlib.Decide.{decLe}
 use native.Mathlib.Omega.{arith}
 use lib.Dec.{T, ltb, ltb→lt, nltb→le, leb, eqb→eq}
@@ -182,3 +182,44 @@ module _ (e : ℕ → ℕ → ℕ) (rate m w a : ℕ) where
       let end : m + 1 + (w - m - 1) ≡ w = omega arith in
       leading-as end refl refl
       (leading-shift (m + 1) (10000 * m + (10000 - rate)) (λ s i. further-is e rate m w a s h (omega arith) k) (further-leads e (10000 - rate) (w - m - 1) (a - (m + 1))))
+
+-- the whole account, above m
+pub surrender-is : (e : ℕ → ℕ → ℕ) (rate m w a : ℕ) → m < w → worthOver e rate m w a w ≡ 10000 * w - rate * (w - m) + e 0 0
+unfolding worthOver balanceAfter cash penalty
+surrender-is e rate m w a h =
+    let z : w - w ≡ 0 = omega arith in
+    let none : a * (w - w) / w ≡ 0 = ap (λ (x : ℕ). a * x / w) z ∙ ap (λ (x : ℕ). x / w) (mul-zero a) ∙ zero-div w in
+    ap₂ (λ (x g : ℕ). 10000 * w - rate * (w - m) + e x g) z (guarantee-above m w a w h ∙ ap (min (a - w)) none ∙ min-zero (a - w))
+
+-- ---- what the choices of each behaviour show, where m is what may be withdrawn without penalty
+module _ (e : ℕ → ℕ → ℕ) (rate level w a m : ℕ) (m-is : m ≡ freeAmount level a) where
+  Found : Behaviour → ℕ → ℕ → Type 0
+  Found b c v = (v ≡ bestValue b e rate level w a) × (c ≡ bestAmount b e rate level w a)
+
+  found : (b : Behaviour) (c v : ℕ) → Best (admits b m w) (worthOver e rate m w a) (largestAmount m w) c v → Found b c v
+  unfolding Found
+  found b c v x = state-found b e rate level w a c v (subst (λ (n : ℕ). Best (admits b n w) (worthOver e rate n w a) (largestAmount n w) c v) m-is x)
+
+  pub dynamic-found : {c v : ℕ} → Leading (worthOver e rate m w a) 0 (max w m) c v
+      → (v ≡ bestValue dynamic e rate level w a) × (c ≡ bestAmount dynamic e rate level w a)
+  unfolding Found
+  dynamic-found x = found dynamic _ _ (dynamic-best m w refl x)
+
+  free-value : (v : ℕ) → v ≡ freeWorth e w a m → worthOver e rate m w a m ≡ v
+  free-value v p = free-is e rate m w a m (le-refl m) ∙ sym p
+
+  pub static-found : (v : ℕ) → v ≡ freeWorth e w a m → (v ≡ bestValue static e rate level w a) × (m ≡ bestAmount static e rate level w a)
+  unfolding Found
+  static-found v p = found static m v (subst (Best (admits static m w) (worthOver e rate m w a) (largestAmount m w) m) (free-value v p) (static-best (worthOver e rate m w a) m w))
+
+  pub low-found : (v : ℕ) → v ≡ freeWorth e w a m → w ≤ m → (v ≡ bestValue mixed e rate level w a) × (m ≡ bestAmount mixed e rate level w a)
+  unfolding Found
+  low-found v p h = found mixed m v (subst (Best (admits mixed m w) (worthOver e rate m w a) (largestAmount m w) m) (free-value v p) (mixed-low (worthOver e rate m w a) m w h))
+
+  pub high-found : (v u : ℕ) → v ≡ freeWorth e w a m → u ≡ 10000 * w - rate * (w - m) + e 0 0 → m < w
+      → (cond (ltb v u) u v ≡ bestValue mixed e rate level w a) × (cond (ltb v u) w m ≡ bestAmount mixed e rate level w a)
+  unfolding Found
+  high-found v u p q h =
+      let x = mixed-high (worthOver e rate m w a) m w h in
+      let s = surrender-is e rate m w a h ∙ sym q in
+      found mixed _ _ (subst₂ (λ (y z : ℕ). Best (admits mixed m w) (worthOver e rate m w a) (largestAmount m w) (cond (ltb y z) w m) (cond (ltb y z) z y)) (free-value v p) s x)

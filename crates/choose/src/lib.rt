@@ -7,7 +7,9 @@ ghost use lib.ListN.{length};
 ghost use Rattle.decision.specs.Choice.{Leading};
 ghost use Rattle.slices.specs.Rows.{cells};
 ghost use Rattle.rules.specs.Contract.{topMost, rateMost};
-ghost use Rattle.choose.specs.State.{freeWorth, aboveWorth, worthOver, State, Furthered};
+ghost use Rattle.choose.specs.State.{freeWorth, aboveWorth, worthOver, bestValue, bestAmount, State, Furthered};
+ghost use Rattle.rules.specs.Date.{freeAmount};
+ghost use Rattle.rules.specs.Operations.{behaviourOf};
 
 // An amount and what it is worth.
 pub struct Choice {
@@ -190,4 +192,45 @@ fn decide_dynamic(
     }
     let further = further_at(work, table, stride, w, a, m, rate);
     first_of(free, further)
+}
+
+// What the whole account is worth where it is above m.
+fn surrender(work: &[u32], base: usize, stride: usize, w: usize, m: usize, rate: usize) -> Choice
+    requires { ⌜ (m < w) × (w ≤ topMost) × (rate ≤ rateMost) × (base < length (now work)) ⌝ }
+    ensures { λ r. ⌜ (r .value ≡ 10000 * w - rate * (w - m) + cells (now (work .entry)) base stride 0 0) × (r .amount ≡ w) ⌝ }
+{
+    let value = 10000 * w - rate * (w - m) + wide(work[base]);
+    Choice { value, amount: w }
+}
+
+// The recorded amount and the value of a state under behaviour 0 static, 1 mixed, 2 dynamic.
+pub fn decide(
+    behaviour: usize,
+    work: &[u32],
+    table: &[u16],
+    base: usize,
+    stride: usize,
+    w: usize,
+    a: usize,
+    level: usize,
+    rate: usize,
+) -> Choice
+    requires { ⌜ (behaviour ≤ 2) × State (now work) base stride w a (freeAmount level a) × (rate ≤ rateMost) × (w * stride ≤ length (now table)) × (behaviour ≡ 2 → Furthered (now work) (now table) base stride w (10000 - rate)) ⌝ }
+    ensures { λ r. ⌜ (r .value ≡ bestValue (behaviourOf behaviour) (cells (now (work .entry)) base stride) rate level w a) × (r .amount ≡ bestAmount (behaviourOf behaviour) (cells (now (work .entry)) base stride) rate level w a) ⌝ }
+{
+    let m = date::free_amount(level, a);
+    if behaviour == 2 {
+        return decide_dynamic(work, table, base, stride, w, a, m, rate);
+    }
+    let free = Choice {
+        value: worth_free(work, base, stride, w, a, m, m),
+        amount: m,
+    };
+    if behaviour == 0 {
+        return free;
+    }
+    if w <= m {
+        return free;
+    }
+    first_of(free, surrender(work, base, stride, w, m, rate))
 }

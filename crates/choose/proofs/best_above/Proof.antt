@@ -1,19 +1,15 @@
-use Rattle.choose.proofs.Laws.{quotient-is, parts-next, whole-small}
-use Rattle.choose.specs.State.{aboveWorth}
-use Rattle.slices.specs.Rows.{cells}
-use Rattle.decision.specs.Choice.{Leading, leading-one, leading-join}
-use borrow.Author.Needs.{needs}
-use native.Mathlib.Omega.{arith}
-use native.Mathlib.Nat.{le-trans, mod-lt, div-le-self}
-use mathlib.Core.Path.{_≡_, ap, sym, _∙_, subst, subst₂}
+-- `choose::best_above` meets its contract. Assumes nothing.
 use Prim.Native.Nat.{ℕ, _+_, _-_, _*_, _≤_, _<_}
+use borrow.Author.Needs.{needs}
+use mathlib.Core.Path.{_≡_, ap, sym, _∙_, subst, subst₂}
+use native.Mathlib.Nat.{le-trans, mod-lt, div-le-self}
+use native.Mathlib.Omega.{arith}
+use Rattle.choose.specs.State.{aboveWorth}
+use Rattle.decision.specs.Choice.{Leading, leading-one, leading-join}
+use Rattle.slices.specs.Rows.{cells}
+use Rattle.choose.proofs.Laws.{quotient-is, parts-next, whole-small}
 use Rattle.choose.proofs.best_above.Statement.{statement}
 use Rattle.choose.proofs.best_above.Tie as tie
-use Rattle.choose.proofs.best_above.Reads as reads
-use Rattle.choose.proofs.best_above.Lts as lts
-use Rattle.choose.proofs.first_of.Reads as first-of-reads
-use Rattle.choose.proofs.sum_of.Reads as sum-of-reads
-use Rattle.choose.proofs.worth_above.Reads as worth-above-reads
 
 abbrev Inv-loop : tie.InvT-loop
 Inv-loop work base stride w a m rate one left₀ best₀ steps x₀ left best x = (x ≤ steps) × (left .whole * w + left .rest ≡ a * x) × (left .rest < w) × Leading (aboveWorth (cells work base stride) rate m w a) (w - x) w (best .amount) (best .value)

@@ -1,16 +1,13 @@
-use Rattle.choose.specs.State.{freeWorth}
-use Rattle.slices.specs.Rows.{cells}
-use Rattle.decision.specs.Choice.{Leading, leading-one, leading-join}
+-- `choose::best_free` meets its contract. Assumes nothing.
+use Prim.Native.Nat.{_+_, _-_, _≤_}
 use borrow.Author.Needs.{needs}
-use native.Mathlib.Omega.{arith}
 use mathlib.Core.Path.{_≡_, sym, subst, subst₂}
-use Prim.Native.Nat.{ℕ, _+_, _-_, _≤_}
+use native.Mathlib.Omega.{arith}
+use Rattle.choose.specs.State.{freeWorth}
+use Rattle.decision.specs.Choice.{Leading, leading-one, leading-join}
+use Rattle.slices.specs.Rows.{cells}
 use Rattle.choose.proofs.best_free.Statement.{statement}
 use Rattle.choose.proofs.best_free.Tie as tie
-use Rattle.choose.proofs.best_free.Reads as reads
-use Rattle.choose.proofs.best_free.Lts as lts
-use Rattle.choose.proofs.first_of.Reads as first-of-reads
-use Rattle.choose.proofs.worth_free.Reads as worth-free-reads
 
 abbrev Inv-loop : tie.InvT-loop
 Inv-loop work base stride w a m best₀ t₀ best t = (t ≤ m) × Leading (freeWorth (cells work base stride) w a) 0 t (best .amount) (best .value)

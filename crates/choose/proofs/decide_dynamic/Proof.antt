@@ -1,56 +1,43 @@
-use Rattle.choose.proofs.Worth.{free-leads, above-leads, further-best}
-use Rattle.slices.specs.Rows.{cells}
-use Rattle.decision.specs.Choice.{leading-as, leading-join}
-use native.Mathlib.Omega.{arith}
-use native.Mathlib.Nat.{le-of-lt}
-use mathlib.Core.Path.{_≡_, refl, ap, sym, _∙_}
+-- `choose::decide_dynamic` meets its contract. Assumes nothing.
 use Prim.Native.Nat.{ℕ, _+_, _*_, _-_, _<_, max}
 use borrow.Author.Needs.{needs}
+use mathlib.Core.Path.{_≡_, refl, ap, sym, _∙_}
+use native.Mathlib.Nat.{le-of-lt}
+use native.Mathlib.Omega.{arith}
+use Rattle.decision.specs.Choice.{leading-as, leading-join}
+use Rattle.slices.specs.Rows.{cells}
+use Rattle.choose.proofs.Worth.{free-leads, above-leads, further-best}
 use Rattle.choose.proofs.decide_dynamic.Statement.{statement}
 use Rattle.choose.proofs.decide_dynamic.Tie as tie
-use Rattle.choose.proofs.decide_dynamic.Reads as reads
-use Rattle.choose.proofs.decide_dynamic.Lts as lts
-use Rattle.choose.proofs.best_above.Reads as best-above-reads
-use Rattle.choose.proofs.best_free.Reads as best-free-reads
-use Rattle.choose.proofs.first_of.Reads as first-of-reads
-use Rattle.choose.proofs.further_at.Reads as further-at-reads
-
 
 best-free-requires : tie.Need-best-free-requires
 best-free-requires c κs = search needs
 
-
 returns : tie.Need-returns
 returns c = let y = c .before .before .before .before .args in let end : y .m ≡ max (y .w) (y .m) = omega arith in leading-as end refl refl (free-leads (cells (c .before .before .before .before .args .work .now) (c .before .before .before .before .args .base) (c .before .before .before .before .args .stride)) (c .before .before .before .before .args .rate) (c .before .before .before .before .args .m) (c .before .before .before .before .args .w) (c .before .before .before .before .args .a) (c .before .best-free .ensures))
-
 
 best-above-requires : tie.Need-best-above-requires
 best-above-requires c κs = search needs
 
-
 first-of-requires : tie.Need-first-of-requires
 first-of-requires c κs = search needs
 
-
 returns-2 : tie.Need-returns-2
-returns-2 c = 
+returns-2 c =
     let y = c .before .before .before .before .before .before .before .args in
     let end : y .w ≡ max (y .w) (y .m) = omega arith in
     let best = c .first-of .ensures in
     let whole = leading-join (free-leads (cells (c .before .before .before .before .before .before .before .args .work .now) (c .before .before .before .before .before .before .before .args .base) (c .before .before .before .before .before .before .before .args .stride)) (c .before .before .before .before .before .before .before .args .rate) (c .before .before .before .before .before .before .before .args .m) (c .before .before .before .before .before .before .before .args .w) (c .before .before .before .before .before .before .before .args .a) (c .before .before .before .before .best-free .ensures)) (above-leads (cells (c .before .before .before .before .before .before .before .args .work .now) (c .before .before .before .before .before .before .before .args .base) (c .before .before .before .before .before .before .before .args .stride)) (c .before .before .before .before .before .before .before .args .rate) (c .before .before .before .before .before .before .before .args .m) (c .before .before .before .before .before .before .before .args .w) (c .before .before .before .before .before .before .before .args .a) (le-of-lt (c .before .before .if2 .taken)) (c .before .best-above .ensures)) in
     leading-as end (sym (best .1)) (sym (best .0)) whole
 
-
 further-at-requires : tie.Need-further-at-requires
 further-at-requires c κs = search needs
-
 
 first-of-requires-2 : tie.Need-first-of-requires-2
 first-of-requires-2 c κs = search needs
 
-
 returns-3 : tie.Need-returns-3
-returns-3 c = 
+returns-3 c =
     let s = c .before .before .before .before .before .before .before .pre .0 in
     let row : c .before .before .before .before .before .before .before .args .w - c .before .before .before .before .before .before .before .args .m - 1 < c .before .before .before .before .before .before .before .args .w = omega arith in
     let column : c .before .before .before .before .before .before .before .args .a - (c .before .before .before .before .before .before .before .args .m + 1) < c .before .before .before .before .before .before .before .args .stride = omega (arith, s .column) in

@@ -1,9 +1,8 @@
+-- `choose::first_of` meets its contract. Assumes nothing.
 use borrow.Author.Tests.{lt-ltb, le-ltb}
 use mathlib.Core.Path.{sym}
 use Rattle.choose.proofs.first_of.Statement.{statement}
 use Rattle.choose.proofs.first_of.Tie as tie
-use Rattle.choose.proofs.first_of.Reads as reads
-use Rattle.choose.proofs.first_of.Lts as lts
 
 returns : tie.Need-returns
 returns c = (sym (rw (lt-ltb _ _ (c .if1 .taken))), sym (rw (lt-ltb _ _ (c .if1 .taken))))

@@ -1,15 +1,13 @@
-use Rattle.choose.specs.State.{aboveWorth}
-use Rattle.choose.proofs.Laws.{place, share-le, penalty-le}
-use Rattle.slices.specs.Rows.{cells}
-use native.Mathlib.Omega.{arith}
-use mathlib.Core.Path.{_≡_, ap, sym, _∙_}
+-- `choose::worth_above` meets its contract. Assumes nothing.
 use Prim.Native.Nat.{ℕ, _+_, _*_, _-_, _/_}
 use borrow.Author.Needs.{needs}
+use mathlib.Core.Path.{_≡_, ap, sym, _∙_}
+use native.Mathlib.Omega.{arith}
+use Rattle.choose.specs.State.{aboveWorth}
+use Rattle.slices.specs.Rows.{cells}
+use Rattle.choose.proofs.Laws.{place, share-le, penalty-le}
 use Rattle.choose.proofs.worth_above.Statement.{statement}
 use Rattle.choose.proofs.worth_above.Tie as tie
-use Rattle.choose.proofs.worth_above.Reads as reads
-use Rattle.choose.proofs.worth_above.Lts as lts
-use Rattle.choose.proofs.wide.Reads as wide-reads
 
 sub-t : tie.Need-sub-t
 sub-t c = search needs

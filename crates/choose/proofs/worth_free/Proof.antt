@@ -1,16 +1,13 @@
-use Rattle.choose.specs.State.{freeWorth}
-use Rattle.choose.proofs.Laws.{place}
-use Rattle.slices.specs.Rows.{cells}
-use native.Mathlib.Omega.{arith}
-use mathlib.Core.Path.{ap, _∙_}
+-- `choose::worth_free` meets its contract. Assumes nothing.
 use Prim.Native.Nat.{ℕ, _+_, _*_, _-_}
 use borrow.Author.Needs.{needs}
+use mathlib.Core.Path.{ap, _∙_}
+use native.Mathlib.Omega.{arith}
+use Rattle.choose.specs.State.{freeWorth}
+use Rattle.slices.specs.Rows.{cells}
+use Rattle.choose.proofs.Laws.{place}
 use Rattle.choose.proofs.worth_free.Statement.{statement}
 use Rattle.choose.proofs.worth_free.Tie as tie
-use Rattle.choose.proofs.worth_free.Reads as reads
-use Rattle.choose.proofs.worth_free.Lts as lts
-use Rattle.choose.proofs.wide.Reads as wide-reads
-use Rattle.date.proofs.less.Reads as less-reads
 
 less-requires : tie.Need-less-requires
 less-requires c κs = search needs
