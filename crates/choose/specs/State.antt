@@ -1,12 +1,14 @@
 -- The value and the recorded amount of a state, over the discounted sums e of balance and guarantee. Assumes nothing.
 use mathlib.Core.List.{List}
-use mathlib.Core.Path.{_≡_}
+use mathlib.Core.Path.{_≡_, ap}
 use Prim.Native.Nat.{ℕ, _+_, _-_, _*_, _/_, _≤_, _<_}
+use native.Mathlib.Nat.{le-trans, sub-le}
 use lib.ListN.{length}
-use Rattle.decision.specs.Choice.{largest, smallestBest}
+use Rattle.decision.specs.Choice.{largest, smallestBest, largest-eq, smallestBest-eq}
 use Rattle.slices.specs.Rows.{cells}
 use Rattle.rules.specs.Contract.{topMost, rateMost}
 use Rattle.rules.specs.Date.{Behaviour, freeAmount, largestAmount, admits, cash, balanceAfter, guaranteeAfter}
+use Rattle.laws.specs.Date.{guarantee-le}
 use Rattle.further.specs.Further.{furtherValue, furtherAmount}
 
 -- "a choice is worth its cash plus" the discounted sum
@@ -43,3 +45,17 @@ pub record State (work : List ℕ) (base stride w a m : ℕ) : Type 0 where
 pub record Furthered (work table : List ℕ) (base stride n k : ℕ) : Type 0 where
   pub values : (b a : ℕ) → b < n → a < stride → cells work 0 stride b a ≡ furtherValue (cells work base stride) k b a
   pub amounts : (b a : ℕ) → b < n → a < stride → cells table 0 stride b a ≡ furtherAmount (cells work base stride) k b a
+
+-- ---- only the sums that a state can reach count
+module _ (b : Behaviour) (e e' : ℕ → ℕ → ℕ) (rate level w a : ℕ) (same : (x y : ℕ) → x ≤ w → y ≤ a → e x y ≡ e' x y) where
+  worth-same : (m t : ℕ) → worthOver e rate m w a t ≡ worthOver e' rate m w a t
+  unfolding worthOver balanceAfter
+  worth-same m t = ap (λ (z : ℕ). cash rate m t + z) (same _ _ (sub-le w t) (le-trans (guarantee-le m w a t) (sub-le a t)))
+
+  pub value-same : bestValue b e rate level w a ≡ bestValue b e' rate level w a
+  unfolding bestValue
+  value-same = largest-eq _ _ _ _ (λ t l. worth-same _ t)
+
+  pub amount-same : bestAmount b e rate level w a ≡ bestAmount b e' rate level w a
+  unfolding bestAmount
+  amount-same = smallestBest-eq _ _ _ _ (λ t l. worth-same _ t)

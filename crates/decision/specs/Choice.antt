@@ -8,7 +8,7 @@ use native.Mathlib.Decide.{decLe}
 use native.Mathlib.Nat.{le-of-eq, le-trans, le-refl, le-step, le-antisymm, le-max-left, le-max-right, le-suc-iff}
 use native.Mathlib.Omega.{arith}
 use lib.Dec.{T, ltb, ltb→lt, nltb→le, eqb, eqb→eq, eqb-refl}
-use Rattle.decision.specs.Index.{first, firstFrom, First, first-is, first-least}
+use Rattle.decision.specs.Index.{first, firstFrom, First, first-is, first-least, first-eq}
 
 -- both tests, taken apart and put together
 pub and-left : (a b : Bool) → T (a && b) → T a
@@ -230,3 +230,22 @@ leading-join {f} {lo} {mid} {hi} {c} {v} {d} {u} x y = go (ltb v u) (ltb→lt v 
 -- the same end, amount and worth by other names
 pub leading-as : {f : ℕ → ℕ} {lo hi hi' c c' v v' : ℕ} → hi ≡ hi' → c ≡ c' → v ≡ v' → Leading f lo hi c v → Leading f lo hi' c' v'
 leading-as {f} {lo} p q r x = subst₃ (Leading f lo) p q r x
+
+-- the same worths up to the limit, the same best
+pub largest-eq : (ok : ℕ → Bool) (f g : ℕ → ℕ) (n : ℕ) → ((t : ℕ) → t ≤ n → f t ≡ g t) → largest ok f n ≡ largest ok g n
+unfolding largest
+largest-eq ok f g zero h = go (ok 0)
+  where
+    go : (b : Bool) → cond b f nothing 0 ≡ cond b g nothing 0
+    go true = h 0 (le-refl 0)
+    go false = refl
+largest-eq ok f g (suc n) h = λ i. max (largest-eq ok f g n (λ t l. h t (le-step l)) i) (go (ok (suc n)) i)
+  where
+    go : (b : Bool) → cond b f nothing (suc n) ≡ cond b g nothing (suc n)
+    go true = h (suc n) (le-refl (suc n))
+    go false = refl
+
+pub smallestBest-eq : (ok : ℕ → Bool) (f g : ℕ → ℕ) (n : ℕ) → ((t : ℕ) → t ≤ n → f t ≡ g t) → smallestBest ok f n ≡ smallestBest ok g n
+unfolding smallestBest
+smallestBest-eq ok f g n h =
+    first-eq _ _ (suc n) (λ t l i. ok t && eqb (h t (omega arith) i) (largest-eq ok f g n h i))

@@ -154,3 +154,15 @@ search-end {test} {n} {k} x l = is-first (record {
   passes = λ m. absurd (omega arith);
   none = λ j i m t. never (x .passed j m) t;
 })
+
+-- tests that agree have the same first index
+pub first-eq : (p q : ℕ → Bool) (n : ℕ) → ((k : ℕ) → k < n → p k ≡ q k) → first p n ≡ first q n
+first-eq p q n h = first-unique (first-is p n) (record {
+  from = x .from;
+  within = x .within;
+  passes = λ l. subst T (sym (h _ l)) (x .passes l);
+  none = λ k i l t. x .none k i l (subst T (h k (omega (arith, x .within))) t);
+})
+  where
+    x : First q n (first q n)
+    x = first-is q n

@@ -1,13 +1,16 @@
 -- The discounted sum for a balance and a guarantee, where v gives the next date's values. Assumes nothing.
 use mathlib.Core.List.{List}
-use mathlib.Core.Path.{_≡_}
+use mathlib.Core.Path.{_≡_, ap, _∙_}
 use Prim.Native.Nat.{ℕ, _+_, _*_, _≤_, _<_}
+use native.Mathlib.Nat.{le-trans, le-of-eq, mul-le-mul-left}
 use lib.ListN.{getD, length}
-use Rattle.decision.specs.Index.{sum}
+use Rattle.decision.specs.Index.{sum, sum-le, sum-eq, sum-times}
 use Rattle.rules.specs.Contract.{Terms, Returns, returnsOf, discountMost, weightTotal, weightMost, returnsMost}
 use Rattle.rules.specs.Date.{nextAccount, discounted}
 use Rattle.rules.specs.FixedTerm.{layerSize}
 use Rattle.laws.specs.Accepted.{Valid, ValidReturns}
+use Rattle.laws.specs.Date.{account-le}
+use Rattle.laws.specs.Bounds.{discounted-average}
 
 -- the sum of weight × value reached
 unfoldable pub reachedSum : Terms → Returns → (ℕ → ℕ → ℕ) → ℕ → ℕ → ℕ
@@ -50,3 +53,21 @@ pub record Balance (c : Terms) (work list weights : List ℕ) (count balance str
   pub balance-is : balance ≤ c .top
   pub stride-is : stride ≡ c .premium + 1
   pub size-is : size ≡ (c .top + 1) * stride
+
+-- a discounted sum is at most the largest value reached
+pub expected-le : (c : Terms) (rs : Returns) (v : ℕ → ℕ → ℕ) (balance a most : ℕ) → Valid c → ValidReturns rs
+    → ((w : ℕ) → w ≤ c .top → v w a ≤ most) → expected c rs v balance a ≤ most
+unfolding expected reachedSum
+expected-le c rs v balance a most valid returns h =
+    discounted-average (c .discount) _ most (valid .discount)
+    (le-trans
+    (sum-le (λ k. rs .weight k * v (nextAccount (c .fee) (c .top) balance (rs .factor k)) a) (λ k. rs .weight k * most) (rs .count) (λ k l. mul-le-mul-left (rs .weight k) (h _ (account-le (c .fee) (c .top) balance (rs .factor k)))))
+    (le-of-eq (sum-times (rs .weight) most (rs .count) ∙ ap (λ (z : ℕ). z * most) (returns .total))))
+
+-- only the values that it can reach count
+pub expected-same : (c : Terms) (rs : Returns) (v v' : ℕ → ℕ → ℕ) (balance a : ℕ) → ((w : ℕ) → w ≤ c .top → v w a ≡ v' w a)
+    → expected c rs v balance a ≡ expected c rs v' balance a
+unfolding expected reachedSum
+expected-same c rs v v' balance a h =
+    ap (discounted (c .discount))
+    (sum-eq _ _ (rs .count) (λ k l. ap (λ (z : ℕ). rs .weight k * z) (h _ (account-le (c .fee) (c .top) balance (rs .factor k)))))
