@@ -1,1 +1,2 @@
 pub mod Dated
+pub mod Back

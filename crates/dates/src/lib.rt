@@ -9,6 +9,7 @@ ghost use Rattle.rules.specs.Date.{maturityValue};
 ghost use Rattle.rules.specs.Operations.{behaviourOf};
 ghost use Rattle.contract.specs.Reading.{termsIn};
 ghost use Rattle.dates.specs.Dated.{Dating, Dated, Prepared};
+ghost use Rattle.dates.specs.Back.{Valued, Starting};
 ghost use Rattle.further.specs.Further.{Room};
 use contract::Contract;
 
@@ -78,4 +79,34 @@ pub fn one_date(
     expect::expect_layer(work, list, count, c);
     prepare(behaviour, work, table, size, stride, n, rate);
     states::decide_layer(behaviour, work, table, size, stride, n, c.level, rate);
+}
+
+// Every decision date, from the last to the first, each in its own layer of the table.
+pub fn all_dates(
+    behaviour: usize,
+    work: &mut [u32],
+    table: &mut [u16],
+    list: &[u8],
+    count: usize,
+    c: Contract,
+)
+    requires { ⌜ Starting behaviour (termsIn c) count (now work) (now table) (now list) ⌝ }
+    ensures { λ _. ⌜ Valued (behaviourOf behaviour) (termsIn c) (returnsOf (now (list .entry))) (now (work .entry)) (now (table .entry)) (now (work .exit)) (now (table .exit)) 0 ⌝ }
+{
+    let size = (c.top + 1) * (c.premium + 1);
+    let mut i = c.dates - 1;
+    while 0 < i {
+        let from = (i - 1) * size;
+        let to = i * size;
+        one_date(
+            behaviour,
+            work,
+            &mut table[from..to],
+            list,
+            count,
+            c,
+            c.penalty,
+        );
+        i -= 1;
+    }
 }
