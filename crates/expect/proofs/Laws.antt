@@ -1,7 +1,7 @@
 -- A row of discounted sums: what is read is not what is written, and every sum fits. Assumes nothing.
 use mathlib.Core.List.{List}
 use mathlib.Core.Logic.{inl}
-use mathlib.Core.Path.{_≡_, ap, ap₂, sym, _∙_}
+use mathlib.Core.Path.{_≡_, refl, ap, ap₂, sym, _∙_}
 use Prim.Native.Nat.{ℕ, _+_, _*_, _≤_, _<_}
 use native.Mathlib.Nat.{le-trans, le-of-eq, mul-le-mul-left, zero-add}
 use native.Mathlib.Omega.{arith}
@@ -14,7 +14,7 @@ use Rattle.rules.specs.Date.{nextAccount, discounted}
 use Rattle.rules.specs.FixedTerm.{layerSize}
 use Rattle.laws.specs.Bounds.{discounted-average}
 use Rattle.laws.specs.Date.{account-le}
-use Rattle.expect.specs.Expected.{reachedSum, expected, term, Row, Balance}
+use Rattle.expect.specs.Expected.{reachedSum, expected, term, Row, Listing, Layers, Balance}
 
 module _ {work starts weights : List ℕ} {count discount to stride : ℕ} (r : Row work starts weights count discount to stride) where
   -- the rows that are read lie before the row that is written
@@ -71,6 +71,19 @@ module _ {c : Terms} {work list weights : List ℕ} {count balance stride size :
           ap (discounted (c .discount))
           (sum-eq _ _ count (λ k l. ap₂ (λ (x y : ℕ). x * getD work y 0) (b .weights-are k l) (ap (λ (x : ℕ). x + a) (starts-are k l) ∙ sym (zero-add _)))
           ∙ ap (sum _) (b .listing .all))
+
+-- ---- the balance of the start
+pub start-balance : {c : Terms} {work list weights : List ℕ} {count : ℕ} → Listing list count → Layers c work
+    → ((k : ℕ) → k < count → getD weights k 0 ≡ returnsOf list .weight k)
+    → Balance c work list weights count (c .premium) (c .premium + 1) ((c .top + 1) * (c .premium + 1))
+start-balance h l w = record {
+  listing = h;
+  layers = l;
+  weights-are = w;
+  balance-is = l .valid .premium;
+  stride-is = refl;
+  size-is = refl;
+}
 
 -- ---- row after row
 module _ (c : Terms) (rs : Returns) (work : List ℕ) (stride size : ℕ) (size-is : size ≡ (c .top + 1) * stride) where

@@ -125,3 +125,17 @@ pub fn expect_layer(work: &mut [u32], list: &[u8], count: usize, c: Contract)
         expect_balance(work, list, &weights, count, c, balance, stride, size);
     }
 }
+
+// The discounted sum over the first return, from balance and guarantee U.
+pub fn start_value(work: &[u32], list: &[u8], count: usize, c: Contract) -> u32
+    requires { ⌜ Listing (now list) count × Layers (termsIn c) (now work) ⌝ }
+    ensures { λ r. ⌜ r ≡ expected (termsIn c) (returnsOf (now (list .entry))) (cells (now (work .entry)) 0 (c .premium + 1)) (c .premium) (c .premium) ⌝ }
+{
+    let stride = c.premium + 1;
+    let mut weights = [0usize; 64];
+    fill_weights(&mut weights, list, count);
+    let mut starts = [0usize; 64];
+    fill_starts(&mut starts, list, count, c, c.premium, stride);
+    let s = reached_sum(work, &starts, &weights, count, c.premium);
+    date::discounted(c.discount, s) as u32
+}

@@ -3,6 +3,7 @@ pub mod Accepted
 pub mod Date
 pub mod Demand
 pub mod FixedTerm
+pub mod Valuing
 pub mod ThirdDemand
 pub mod Bounds
 pub mod Walk

@@ -8,7 +8,7 @@ use Rattle.decision.specs.Process.{Attained}
 use Rattle.decision.specs.Layers.{lookup}
 use Rattle.rules.specs.Contract.{termsOf, returnsOf}
 use Rattle.rules.specs.Date.{Behaviour, static, mixed, dynamic}
-use Rattle.rules.specs.Product.{Product, contractValue, amountLayers, ThirdDemand}
+use Rattle.rules.specs.Product.{Product, contractValue, amountLayers, ThirdDemand, Claim}
 use Rattle.rules.specs.FixedTerm.{State, Held, fixedTerm}
 use Rattle.rules.specs.Refusals.{Check, Verdict, accepted, verdict, numbers, numberOf, onSuccess, recordChecks, listChecks}
 use Rattle.rules.specs.Operations.{productOf, answer, behaviourNumber, behaviourOf, tableSize, valuingChecks, valuingVerdict, valuingAnswer, valuingTable}
@@ -49,6 +49,20 @@ module _ (bytes list : List ℕ) (behaviour : ℕ) (work table : List ℕ) where
       → valuingTable bytes list behaviour work table ≡ amountLayers (productOf bytes list) (behaviourOf behaviour) ++ drop (tableSize (termsOf bytes)) table
   unfolding valuingTable onSuccess
   valuing-leaves a = rw a
+
+  -- the claim of the one call
+  pub valuing-claim : valuingAnswer bytes list behaviour work table .number ≡ 0
+      → Claim (productOf bytes list) (behaviourOf behaviour) (valuingAnswer bytes list behaviour work table .value) (valuingTable bytes list behaviour work table)
+  unfolding productOf
+  valuing-claim zero-number =
+      let yes-to = valuing-accepts zero-number in
+      let X = productOf bytes list in
+      let b = behaviourOf behaviour in record {
+        value = valuing-reports yes-to;
+        attained =
+            subst (λ (t : List ℕ). Attained (X .process) (X .admissible b) (X .layout .InRange) (lookup (X .layout) t)) (sym (valuing-leaves yes-to))
+            (table-attains X (sound (termsOf bytes) (returnsOf list) (valuing-terms yes-to)) b (drop (tableSize (termsOf bytes)) table));
+      }
 
 -- THE THIRD DEMAND. Where the valuing calls of the three behaviours answer number 0, whatever slices each was lent: the
 -- value each reports is its behaviour's, and of the tables that they leave the whole claim holds.

@@ -2,6 +2,7 @@
 -- What its values, tables and walks are, and what the third demand says of it. Assumes nothing.
 use mathlib.Core.Bool.{Bool}
 use mathlib.Core.List.{List, [], _∷_, _++_}
+use mathlib.Core.Path.{_≡_}
 use Prim.Native.Nat.{ℕ, suc, _-_, _≤_}
 use lib.ListN.{take}
 use Rattle.decision.specs.Index.{tabulate}
@@ -74,3 +75,8 @@ module _ {S H : Type 0} (X : Product S H) where
     pub attained : (b : Behaviour) → Attained (X .process) (X .admissible b) (X .layout .InRange) (lookup (X .layout) (table b))
     pub static-mixed : AtMost static mixed
     pub mixed-dynamic : AtMost mixed dynamic
+
+  -- the same of one call: the value that it reports and the table that it leaves
+  pub record Claim (b : Behaviour) (reported : ℕ) (table : List ℕ) : Type 0 where
+    pub value : reported ≡ contractValue b
+    pub attained : Attained (X .process) (X .admissible b) (X .layout .InRange) (lookup (X .layout) table)

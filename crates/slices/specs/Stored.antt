@@ -1,5 +1,5 @@
 -- A slice of which a run of entries is stored in order: what a loop that counts up leaves. Assumes nothing.
-use mathlib.Core.List.{List, [], _∷_, _++_}
+use mathlib.Core.List.{List, [], _∷_, _++_, append-assoc}
 use mathlib.Core.Logic.{_⊎_, inl, inr}
 use mathlib.Core.Path.{_≡_, refl, ap, ap₂, sym, _∙_}
 use Prim.Native.Nat.{ℕ, zero, suc, _+_, _-_, _*_, _≤_, _<_}
@@ -7,7 +7,7 @@ use native.Mathlib.Decide.{decLe}
 use native.Mathlib.Nat.{add-suc, add-assoc, add-zero, zero-add, zero-mul}
 use native.Mathlib.Numerals.{add-one}
 use native.Mathlib.Omega.{arith}
-use lib.ListN.{length, getD, set, drop, length-set, length-append, length-drop}
+use lib.ListN.{length, getD, set, drop, replicate, length-set, length-append, length-drop, length-replicate, getD-replicate, List·getD-append}
 use lib.Seq.{getD-set-same, getD-set-other, getD-append-add, getD-drop, ext-getD}
 use Rattle.decision.specs.Index.{tabulate, length-tabulate, getD-tabulate}
 
@@ -114,3 +114,39 @@ stored-eq l at f g (suc n) h =
 pub stored-none : (l : List ℕ) (at : ℕ) (f : ℕ → ℕ) (stride : ℕ) → l ≡ stored l at f (0 * stride)
 unfolding stored
 stored-none l at f stride = rw (zero-mul stride)
+
+-- a run from the start with a run of zeros behind it
+pub stored-zeros : (l l' : List ℕ) (f : ℕ → ℕ) (n : ℕ) → length l' ≡ length l → n + n ≤ length l
+    → ((k : ℕ) → k < n → getD l' k 0 ≡ f k) → ((j : ℕ) → n + n ≤ j → getD l' j 0 ≡ getD l j 0)
+    → stored l' n (λ (i : ℕ). 0) n ≡ tabulate n f ++ replicate n 0 ++ drop (2 * n) l
+stored-zeros l l' f n same fits run rest =
+    ext-getD 0 _ (tabulate n f ++ (replicate n 0 ++ drop (2 * n) l)) (length-stored l' n (λ (i : ℕ). 0) n ∙ same ∙ sym long) (λ j h. go j (decLe (suc j) n) (decLe (n + n) j))
+    ∙ sym (append-assoc (tabulate n f) (replicate n 0) (drop (2 * n) l))
+  where
+    long : length (tabulate n f ++ (replicate n 0 ++ drop (2 * n) l)) ≡ length l
+    long =
+        length-append (tabulate n f) (replicate n 0 ++ drop (2 * n) l)
+        ∙ ap₂ _+_ (length-tabulate n f) (length-append (replicate n 0) (drop (2 * n) l) ∙ ap₂ _+_ (length-replicate {A = ℕ} n 0) (length-drop (2 * n) l))
+        ∙ omega arith
+
+    go : (j : ℕ) → Dec (suc j ≤ n) → Dec (n + n ≤ j)
+        → getD (stored l' n (λ (i : ℕ). 0) n) j 0 ≡ getD (tabulate n f ++ (replicate n 0 ++ drop (2 * n) l)) j 0
+    go j (yes h) d = stored-out l' n (λ (i : ℕ). 0) n j (inl h) ∙ run j h ∙ sym (getD-tabulate n j f (replicate n 0 ++ drop (2 * n) l) h)
+    go j (no h) (no d) =
+        let e : j ≡ n + (j - n) = omega arith in
+        let t : n + (j - n) ≡ length (tabulate n f) + (j - n) = rw (length-tabulate n f) in
+        rw e (stored-in l' n (λ (i : ℕ). 0) n (j - n) (omega arith) (omega arith))
+        ∙ sym (ap (λ (x : ℕ). getD (tabulate n f ++ (replicate n 0 ++ drop (2 * n) l)) x 0) (e ∙ t)
+        ∙ getD-append-add (tabulate n f) (replicate n 0 ++ drop (2 * n) l) (j - n) 0
+        ∙ List·getD-append (replicate n 0) (drop (2 * n) l) 0 (j - n) (rw (length-replicate {A = ℕ} n 0) (omega arith))
+        ∙ getD-replicate n (j - n) 0 0 (omega arith))
+    go j (no h) (yes d) =
+        let e : j ≡ length (tabulate n f) + (length {A = ℕ} (replicate n 0) + (j - 2 * n)) = rw (length-tabulate n f, length-replicate {A = ℕ} n 0) (omega arith) in
+        let back : 2 * n + (j - 2 * n) ≡ j = omega arith in
+        stored-out l' n (λ (i : ℕ). 0) n j (inr d)
+        ∙ rest j d
+        ∙ sym (ap (λ (x : ℕ). getD (tabulate n f ++ (replicate n 0 ++ drop (2 * n) l)) x 0) e
+        ∙ getD-append-add (tabulate n f) (replicate n 0 ++ drop (2 * n) l) _ 0
+        ∙ getD-append-add (replicate n 0) (drop (2 * n) l) (j - 2 * n) 0
+        ∙ getD-drop (2 * n) l (j - 2 * n) 0
+        ∙ ap (λ (x : ℕ). getD l x 0) back)

@@ -1,0 +1,220 @@
+-- The margin's arithmetic, and the layers as the rules write them. Assumes nothing.
+use mathlib.Core.Bool.{Bool, true, false, cond}
+use mathlib.Core.List.{List, _++_}
+use mathlib.Core.Logic.{inl, inr, _⊎_}
+use mathlib.Core.Path.{_≡_, refl, ap, ap₂, sym, _∙_, subst}
+use Prim.Native.Nat.{ℕ, zero, suc, _+_, _-_, _*_, _/_, _%_, _≤_, _<_}
+use native.Mathlib.Nat.{mul-le-mul, mul-pos, mod-lt, div-add-mod', div-lt-iff-lt-mul, zero-add, le-trans}
+use native.Mathlib.Omega.{arith}
+use lib.Dec.{ltb}
+use lib.IntN.{pos, negsuc, _-ℤ_, subℕ}
+use lib.Signed.{mag}
+use borrow.Author.Tests.{le-ltb}
+use lib.ListN.{length, getD, drop, replicate}
+use Rattle.decision.specs.Index.{tabulate}
+use Rattle.decision.specs.Process.{startValue, Attained}
+use Rattle.decision.specs.Layers.{lookup, layer, layers}
+use Rattle.slices.specs.Stored.{stored, length-stored, stored-out, is-stored, stored-front, stored-zeros}
+use Rattle.slices.specs.Rows.{cells, flat, layer-stored}
+use Rattle.rules.specs.Contract.{Terms, termsOf, Returns, returnsOf}
+use Rattle.rules.specs.Date.{Behaviour, maturityValue, margin}
+use Rattle.rules.specs.Product.{contractValue, valueLayer, amountLayers, stateValue, recordedAmount, Claim}
+use Rattle.rules.specs.FixedTerm.{fixedTerm, processOf, expectOver, startOf, reachBy, layoutOf, layerSize}
+use Rattle.rules.specs.Refusals.{Verdict, accepted, refused, verdict, numberOf, placeOf, onSuccess, recordChecks, listChecks}
+use Rattle.rules.specs.Operations.{productOf, answer, workAfter, behaviourOf, tableSize, valuingVerdict, valuingAnswer, valuingWork, valuingTable}
+use Rattle.laws.specs.Accepted.{Valid, andThen}
+use Rattle.laws.specs.Valuing.{lentChecks, valuing-verdict}
+use Rattle.laws.specs.ThirdDemand.{valuing-claim}
+use Rattle.contract.specs.declared.Outcome.{Outcome}
+use Rattle.contract.specs.declared.Contract.{Contract}
+use Rattle.contract.specs.declared.Returns as listed
+use Rattle.contract.specs.Reading.{termsIn}
+use Rattle.contract.specs.Accepted.{Read, Listed}
+use Rattle.expect.specs.Expected.{expected, reachedSum, Listing, expected-same}
+use Rattle.dates.specs.Back.{at, valuesOn, Valued, Starting}
+use Rattle.valuing.specs.declared.Answer as declared
+use Rattle.valuing.specs.Answered.{answerOf, refusal, Ready, Settling, Settled, Answered}
+
+pub diff : (a b : ℕ) → pos a -ℤ pos b ≡ subℕ a b
+diff a zero = rw (le-ltb a 0 (omega arith)) (ap pos (omega arith))
+diff a (suc b) = refl
+
+pub mag-sub : (a b n : ℕ) → a < n → b < n → mag (subℕ a b) < n
+mag-sub a b n h k = by (ltb a b)
+  where
+    by : (t : Bool) → mag (cond t (negsuc (b - suc a)) (pos (a - b))) < n
+    by true = omega arith
+    by false = omega arith
+
+-- a layer has at most 4,001 × 4,001 entries
+pub size-le : {c : Terms} → Valid c → (c .top + 1) * (c .premium + 1) ≤ 16008001
+size-le {c} v =
+    let w : c .top + 1 ≤ 4001 = omega (arith, v .top) in
+    let a : c .premium + 1 ≤ 4001 = omega (arith, v .premium, v .top) in
+    mul-le-mul w a
+
+size-some : (c : Terms) → 0 < layerSize c
+unfolding layerSize
+size-some c = mul-pos {m = c .top + 1} {n = c .premium + 1} (omega arith) (omega arith)
+
+pub dates-le : {c : Terms} → Valid c → (c .dates - 1) * ((c .top + 1) * (c .premium + 1)) ≤ 39 * 16008001
+dates-le {c} v = let d : c .dates - 1 ≤ 39 = omega (arith, v .dates) in mul-le-mul d (size-le v)
+
+module _ {b : Behaviour} {c : Terms} {rs : Returns} {work table work' table' : List ℕ} (v : Valued b c rs work table work' table' 0) where
+  -- the sum over the first return of the values of date 1 is the contract's value
+  pub contract-value : Valid c → expected c rs (cells work' 0 (c .premium + 1)) (c .premium) (c .premium) ≡ contractValue (fixedTerm c rs) b
+  unfolding contractValue startValue stateValue fixedTerm processOf expectOver startOf reachBy expected reachedSum
+  contract-value valid =
+      expected-same c rs (cells work' 0 (c .premium + 1)) (valuesOn c rs b 1) (c .premium) (c .premium) (λ w l. v .values w (c .premium) l (omega arith))
+
+  -- the first layer with zeros behind it
+  pub work-layers : layerSize c + layerSize c ≤ length work
+      → stored work' (layerSize c) (λ (i : ℕ). 0) (layerSize c) ≡ valueLayer (fixedTerm c rs) b ++ replicate (layerSize c) 0 ++ drop (2 * layerSize c) work
+  unfolding valueLayer layer fixedTerm layoutOf layerSize
+  work-layers room = stored-zeros work work' _ (layerSize c) (v .long) room cell (v .rest)
+    where
+      cell : (e : ℕ) → e < (c .top + 1) * (c .premium + 1) → getD work' e 0 ≡ valuesOn c rs b 1 (e / (c .premium + 1)) (e % (c .premium + 1))
+      cell e l =
+          let p : 0 < c .premium + 1 = omega arith in
+          let i : 0 + (e / (c .premium + 1) * (c .premium + 1) + e % (c .premium + 1)) ≡ e = let d = div-add-mod' e (c .premium + 1) in omega arith in
+          let h = div-lt-iff-lt-mul p .1 l in
+          let m = mod-lt e p in
+          ap (λ (j : ℕ). getD work' j 0) (sym i) ∙ v .values (e / (c .premium + 1)) (e % (c .premium + 1)) (omega arith) (omega arith)
+
+  -- the layers of the table with the rest behind them
+  pub table-layers : tableSize c ≤ length table → 0 < layerSize c
+      → table' ≡ amountLayers (fixedTerm c rs) b ++ drop (tableSize c) table
+  unfolding amountLayers layers fixedTerm processOf layoutOf tableSize layerSize
+  table-layers room some =
+      is-stored table table' 0 _ ((c .dates - 1) * layerSize c) (v .long-table) (omega arith) cell rest ∙ stored-front table _ _ room
+    where
+      rest : (j : ℕ) → (j < 0) ⊎ (0 + (c .dates - 1) * layerSize c ≤ j) → getD table' j 0 ≡ getD table j 0
+      rest j (inl h) = absurd (omega arith)
+      rest j (inr h) = v .rest-table j (omega arith)
+
+      cell : (e : ℕ) → e < (c .dates - 1) * layerSize c
+          → getD table' (0 + e) 0 ≡ recordedAmount (fixedTerm c rs) b (suc (e / layerSize c)) (at (e % layerSize c / (c .premium + 1)) (e % layerSize c % (c .premium + 1)))
+      cell e l =
+          let p : 0 < c .premium + 1 = omega arith in
+          let size = layerSize c in
+          let j = e / size in
+          let r = e % size in
+          let w = r / (c .premium + 1) in
+          let a = r % (c .premium + 1) in
+          let dj = div-lt-iff-lt-mul some .1 l in
+          let dr = mod-lt e some in
+          let dw = div-lt-iff-lt-mul p .1 dr in
+          let da = mod-lt r p in
+          let whole : (suc j - 1) * size + (w * (c .premium + 1) + a) ≡ 0 + e =
+          ap (λ (x : ℕ). (suc j - 1) * size + x) (div-add-mod' r (c .premium + 1)) ∙ (let z : suc j - 1 ≡ j = omega arith in rw z (div-add-mod' e size)) ∙ sym (zero-add e) in
+          ap (λ (x : ℕ). getD table' x 0) (sym whole) ∙ v .amounts (suc j) w a (omega arith) (omega arith) (omega arith) (omega arith)
+
+-- maturity values put into the first layer change nothing that is kept
+pub from-start : {b : Behaviour} {c : Terms} {rs : Returns} {work work₁ table work' table' : List ℕ} (f : ℕ → ℕ)
+    → work₁ ≡ stored work 0 f (layerSize c) → Valued b c rs work₁ table work' table' 0 → Valued b c rs work table work' table' 0
+from-start {c = c} {work = work} f e v = record {
+  long = v .long ∙ ap length e ∙ length-stored work 0 f (layerSize c);
+  long-table = v .long-table;
+  values = v .values;
+  amounts = v .amounts;
+  rest = λ x h. v .rest x h ∙ ap (λ (xs : List ℕ). getD xs x 0) e ∙ stored-out work 0 f (layerSize c) x (inr (omega arith));
+  rest-table = v .rest-table;
+}
+
+pub settling : {c : Terms} {count : ℕ} {list work' : List ℕ} (work : List ℕ) → Valid c → Listing list count
+    → layerSize c + layerSize c ≤ length work → length work' ≡ length work → Settling c count work' list
+settling work valid listing room long = record { listing = listing; layers = record { valid = valid; room = omega arith } }
+
+-- the first layer at maturity
+pub starting : {c : Terms} {behaviour count : ℕ} {list work' table : List ℕ} (work : List ℕ) → Valid c → Listing list count → behaviour ≤ 2
+    → layerSize c + layerSize c ≤ length work → tableSize c ≤ length table
+    → work' ≡ stored work 0 (flat (c .premium + 1) maturityValue) (layerSize c) → Starting behaviour c count work' table list
+unfolding layerSize tableSize
+starting {c} {work' = work'} work valid listing known room room-table e = record {
+  known = known;
+  listing = listing;
+  layers = record { valid = valid; room = let l = ap length e ∙ length-stored work 0 (flat (c .premium + 1) maturityValue) ((c .top + 1) * (c .premium + 1)) in omega arith };
+  entries = room-table;
+  mature = λ w a h l.
+      ap (λ (xs : List ℕ). cells xs 0 (c .premium + 1) w a) e
+      ∙ layer-stored work 0 (c .premium + 1) (c .top + 1) maturityValue (omega arith) .cell w a (omega arith) (omega arith);
+}
+
+-- ---- what terms that were read answer
+module _ {b : Behaviour} {c : Terms} {rs : Returns} {v : Verdict} {work table : List ℕ} where
+  pub answered-refused : (n p : ℕ) (r : declared.Answer) → v ≡ refused n p → r ≡ refusal n p → Answered b c rs v work table r work table
+  unfolding answer workAfter onSuccess numberOf placeOf
+  answered-refused n p r e f = record { answer-is = rw e f; work-is = rw e; table-is = rw e }
+
+  pub answered-accepted : {work' table' : List ℕ} (r : declared.Answer) (work'' : List ℕ) → v ≡ accepted → Valid c
+      → layerSize c + layerSize c ≤ length work → tableSize c ≤ length table
+      → Valued b c rs work table work' table' 0 → Settled c rs work' r work'' → Answered b c rs v work table r work'' table'
+  unfolding answer workAfter onSuccess numberOf placeOf
+  answered-accepted r work'' e valid room room-table d s =
+      let value : r .value ≡ contractValue (fixedTerm c rs) b = s .value-is ∙ contract-value d valid in record {
+        answer-is = rw e (λ i. record {
+          number = s .number-is i;
+          place = s .place-is i;
+          value = value i;
+          margin = (s .margin-is ∙ ap (λ (x : ℕ). margin x (c .premium)) value) i;
+        });
+        work-is = rw e (s .work-is ∙ work-layers d room);
+        table-is = rw e (table-layers d room-table some);
+      }
+    where
+      some : 0 < layerSize c
+      some = size-some c
+
+-- ---- what a call answers, on any input
+abbrev pub refused-by : Outcome → declared.Answer
+refused-by o = refusal (o .number) (o .place)
+
+pub ready : {bytes list : List ℕ} {c : Contract} {returns : listed.Returns} → Read bytes c → Listed list returns → Ready (termsIn c) (returns .count) list
+unfolding returnsOf
+ready {list = list} known told = record {
+  valid = known .valid;
+  listing = record {
+    few = rw (told .count) (told .valid .count);
+    long = rw (told .count) (let d = div-add-mod' (length list) 4 in omega arith);
+    valid = told .valid;
+    all = told .count;
+  };
+}
+
+module _ (bytes list : List ℕ) (behaviour : ℕ) (work table : List ℕ) (r : declared.Answer) (work' table' : List ℕ) where
+  pub record Whole : Type 0 where
+    pub answer-is : r ≡ answerOf (valuingAnswer bytes list behaviour work table)
+    pub work-is : work' ≡ valuingWork bytes list behaviour work table
+    pub table-is : table' ≡ valuingTable bytes list behaviour work table
+
+  -- terms and returns that were read
+  pub whole : verdict (recordChecks bytes) ≡ accepted → verdict (listChecks list) ≡ accepted → (c : Terms) → c ≡ termsOf bytes
+      → Answered (behaviourOf behaviour) c (returnsOf list) (verdict (lentChecks c behaviour work table)) work table r work' table' → Whole
+  unfolding valuingAnswer valuingWork valuingTable productOf
+  whole e f c same a =
+      let all : valuingVerdict bytes list behaviour work table ≡ verdict (lentChecks (termsOf bytes) behaviour work table) =
+      valuing-verdict bytes list behaviour work table
+      ∙ ap₂ (λ (x y : Verdict). andThen (andThen x y) (verdict (lentChecks (termsOf bytes) behaviour work table))) e f in
+      let b = subst (λ (x : Terms). Answered (behaviourOf behaviour) x (returnsOf list) (verdict (lentChecks x behaviour work table)) work table r work' table') same a in
+      record { answer-is = rw all (b .answer-is); work-is = rw all (b .work-is); table-is = rw all (b .table-is) }
+
+  -- the claim follows from the equations
+  pub claimed : Whole → r .number ≡ 0 → Claim (productOf bytes list) (behaviourOf behaviour) (r .value) table'
+  claimed w zero-number =
+      let X = productOf bytes list in
+      let b = behaviourOf behaviour in
+      let told = valuing-claim bytes list behaviour work table (ap (λ (x : declared.Answer). x .number) (sym (w .answer-is)) ∙ zero-number) in
+      record {
+        value = ap (λ (x : declared.Answer). x .value) (w .answer-is) ∙ told .value;
+        attained = subst (λ (t : List ℕ). Attained (X .process) (X .admissible b) (X .layout .InRange) (lookup (X .layout) t)) (sym (w .table-is)) (told .attained);
+      }
+
+module _ (bytes list : List ℕ) (behaviour : ℕ) (work table : List ℕ) (r : declared.Answer) where
+  -- a record or a list that was refused
+  pub whole-refused : (n p : ℕ) → andThen (verdict (recordChecks bytes)) (verdict (listChecks list)) ≡ refused n p → r ≡ refusal n p
+      → Whole bytes list behaviour work table r work table
+  unfolding valuingAnswer valuingWork valuingTable answer workAfter onSuccess numberOf placeOf
+  whole-refused n p e f =
+      let all : valuingVerdict bytes list behaviour work table ≡ refused n p =
+      valuing-verdict bytes list behaviour work table ∙ ap (λ (x : Verdict). andThen x (verdict (lentChecks (termsOf bytes) behaviour work table))) e in
+      record { answer-is = rw all f; work-is = rw all; table-is = rw all }

@@ -1,0 +1,82 @@
+-- `valuing::valued` meets its contract. Assumes nothing.
+use borrow.Author.Needs.{needs}
+use borrow.Author.Tests.{lt-ltb, le-ltb}
+use mathlib.Core.Path.{sym, _∙_}
+use native.Mathlib.Omega.{arith}
+use Rattle.contract.specs.Reading.{termsIn}
+use Rattle.laws.specs.Valuing.{behaviour-refused, lent-refused, lent-accepted, lent-room}
+use Rattle.rules.specs.FixedTerm.{layerSize}
+use Rattle.rules.specs.Operations.{tableSize}
+use Rattle.valuing.proofs.Laws.{answered-refused, answered-accepted, starting, from-start, settling}
+use Rattle.valuing.proofs.Laws.{answered-refused, answered-accepted, starting, from-start}
+use Rattle.valuing.proofs.valued.Statement.{statement}
+use Rattle.valuing.proofs.valued.Tie as tie
+
+refused-requires : tie.Need-refused-requires
+refused-requires c κs = search needs
+
+returns : tie.Need-returns
+returns c = answered-refused 10 0 _ (behaviour-refused (termsIn (c .before .before .before .before .before .args .c)) (c .before .before .before .before .before .args .behaviour) (c .before .before .before .before .before .args .work .now) (c .before .before .before .before .before .args .table .now) (lt-ltb _ _ (c .before .if1 .taken))) (c .refused .ensures)
+
+too-short-requires : tie.Need-too-short-requires
+too-short-requires c κs = search needs
+
+refused-requires-2 : tie.Need-refused-requires-2
+refused-requires-2 c κs = search needs
+
+same-length : tie.Need-same-length
+same-length c = search needs
+
+same-length-2 : tie.Need-same-length-2
+same-length-2 c = search needs
+
+returns-2 : tie.Need-returns-2
+returns-2 c = answered-refused 11 0 _ (lent-refused (termsIn (c .before .before .before .before .before .before .before .before .before .args .c)) (c .before .before .before .before .before .before .before .before .before .args .behaviour) (c .before .before .before .before .before .before .before .before .before .args .work .now) (c .before .before .before .before .before .before .before .before .before .args .table .now) (le-ltb _ _ (c .before .before .before .before .before .if1 .left)) (sym (c .before .before .too-short .ensures) ∙ c .before .if2 .taken)) (c .refused2 .ensures)
+
+add-fill-maturity : tie.Need-add-fill-maturity
+add-fill-maturity c = search needs
+
+add-fill-maturity-2 : tie.Need-add-fill-maturity-2
+add-fill-maturity-2 c = search needs
+
+fill-maturity-requires : tie.Need-fill-maturity-requires
+unfolding layerSize
+fill-maturity-requires c κs = let v = c .before .before .before .before .before .before .before .before .before .before .before .pre .valid in let r = lent-room (termsIn (c .before .before .before .before .before .before .before .before .before .before .before .args .c)) (c .before .before .before .before .before .before .before .before .before .before .before .args .behaviour) (c .before .before .before .before .before .before .before .before .before .before .before .args .work .now) (c .before .before .before .before .before .before .before .before .before .before .before .args .table .now) (sym (c .before .before .before .before .too-short .ensures) ∙ c .before .before .before .if2 .left) in (omega (arith, v .top), omega (arith, v .top, v .premium), omega (arith, r .0))
+
+all-dates-requires : tie.Need-all-dates-requires
+unfolding layerSize tableSize
+all-dates-requires c κs = let r = lent-room (termsIn (c .before .before .before .before .before .before .before .before .before .before .before .before .before .before .before .before .args .c)) (c .before .before .before .before .before .before .before .before .before .before .before .before .before .before .before .before .args .behaviour) (c .before .before .before .before .before .before .before .before .before .before .before .before .before .before .before .before .args .work .now) (c .before .before .before .before .before .before .before .before .before .before .before .before .before .before .before .before .args .table .now) (sym (c .before .before .before .before .before .before .before .before .before .too-short .ensures) ∙ c .before .before .before .before .before .before .before .before .if2 .left) in let v = c .before .before .before .before .before .before .before .before .before .before .before .before .before .before .before .before .pre .valid in starting (c .before .before .before .before .before .before .before .before .before .before .before .before .before .before .before .before .args .work .now) v (c .before .before .before .before .before .before .before .before .before .before .before .before .before .before .before .before .pre .listing) (omega arith) (r .0) (r .1) (c .before .before .before .before .fill-maturity .ensures)
+
+settle-requires : tie.Need-settle-requires
+unfolding layerSize
+settle-requires c κs = let d = from-start _ (c .before .before .before .before .before .before .before .before .before .before .fill-maturity .ensures) (c .before .before .before .before .before .all-dates .ensures) in settling (c .before .before .before .before .before .before .before .before .before .before .before .before .before .before .before .before .before .before .before .before .before .before .args .work .now) (c .before .before .before .before .before .before .before .before .before .before .before .before .before .before .before .before .before .before .before .before .before .before .pre .valid) (c .before .before .before .before .before .before .before .before .before .before .before .before .before .before .before .before .before .before .before .before .before .before .pre .listing) (lent-room (termsIn (c .before .before .before .before .before .before .before .before .before .before .before .before .before .before .before .before .before .before .before .before .before .before .args .c)) (c .before .before .before .before .before .before .before .before .before .before .before .before .before .before .before .before .before .before .before .before .before .before .args .behaviour) (c .before .before .before .before .before .before .before .before .before .before .before .before .before .before .before .before .before .before .before .before .before .before .args .work .now) (c .before .before .before .before .before .before .before .before .before .before .before .before .before .before .before .before .before .before .before .before .before .before .args .table .now) (sym (c .before .before .before .before .before .before .before .before .before .before .before .before .before .before .before .too-short .ensures) ∙ c .before .before .before .before .before .before .before .before .before .before .before .before .before .before .if2 .left) .0) (d .long)
+
+same-length-3 : tie.Need-same-length-3
+same-length-3 c = search needs
+
+same-length-4 : tie.Need-same-length-4
+same-length-4 c = search needs
+
+returns-3 : tie.Need-returns-3
+unfolding layerSize
+returns-3 c = let d = from-start _ (c .before .before .before .before .before .before .before .before .before .before .before .before .before .fill-maturity .ensures) (c .before .before .before .before .before .before .before .before .all-dates .ensures) in let r = lent-room (termsIn (c .before .before .before .before .before .before .before .before .before .before .before .before .before .before .before .before .before .before .before .before .before .before .before .before .before .args .c)) (c .before .before .before .before .before .before .before .before .before .before .before .before .before .before .before .before .before .before .before .before .before .before .before .before .before .args .behaviour) (c .before .before .before .before .before .before .before .before .before .before .before .before .before .before .before .before .before .before .before .before .before .before .before .before .before .args .work .now) (c .before .before .before .before .before .before .before .before .before .before .before .before .before .before .before .before .before .before .before .before .before .before .before .before .before .args .table .now) (sym (c .before .before .before .before .before .before .before .before .before .before .before .before .before .before .before .before .before .before .too-short .ensures) ∙ c .before .before .before .before .before .before .before .before .before .before .before .before .before .before .before .before .before .if2 .left) in answered-accepted _ _ (lent-accepted (termsIn (c .before .before .before .before .before .before .before .before .before .before .before .before .before .before .before .before .before .before .before .before .before .before .before .before .before .args .c)) (c .before .before .before .before .before .before .before .before .before .before .before .before .before .before .before .before .before .before .before .before .before .before .before .before .before .args .behaviour) (c .before .before .before .before .before .before .before .before .before .before .before .before .before .before .before .before .before .before .before .before .before .before .before .before .before .args .work .now) (c .before .before .before .before .before .before .before .before .before .before .before .before .before .before .before .before .before .before .before .before .before .before .before .before .before .args .table .now) (le-ltb _ _ (c .before .before .before .before .before .before .before .before .before .before .before .before .before .before .before .before .before .before .before .before .before .if1 .left)) (sym (c .before .before .before .before .before .before .before .before .before .before .before .before .before .before .before .before .before .before .too-short .ensures) ∙ c .before .before .before .before .before .before .before .before .before .before .before .before .before .before .before .before .before .if2 .left)) (c .before .before .before .before .before .before .before .before .before .before .before .before .before .before .before .before .before .before .before .before .before .before .before .before .before .pre .valid) (r .0) (r .1) d (c .before .before .settle .ensures)
+
+pub valued-spec : {M : Type 1} → statement M
+valued-spec =
+    tie.close
+    (tie.spec
+    refused-requires
+    returns
+    too-short-requires
+    refused-requires-2
+    same-length
+    same-length-2
+    returns-2
+    add-fill-maturity
+    add-fill-maturity-2
+    fill-maturity-requires
+    all-dates-requires
+    settle-requires
+    same-length-3
+    same-length-4
+    returns-3)

@@ -1,0 +1,126 @@
+// Valuing a contract under one of the three behaviours.
+ghost use mathlib.Core.Path.{_≡_};
+ghost use mathlib.Core.Bool.{_||_};
+ghost use Prim.Native.Nat.{ℕ, _*_, _≤_};
+ghost use lib.ListN.{length};
+ghost use Rattle.rules.specs.Contract.{topMost, returnsOf};
+ghost use Rattle.rules.specs.Date.{margin};
+ghost use Rattle.rules.specs.Product.{Claim};
+ghost use Rattle.rules.specs.FixedTerm.{layerSize};
+ghost use Rattle.rules.specs.Refusals.{short, verdict};
+ghost use Rattle.rules.specs.Operations.{productOf, behaviourOf, tableSize, valuingAnswer, valuingWork, valuingTable};
+ghost use Rattle.laws.specs.Accepted.{Valid};
+ghost use Rattle.laws.specs.Valuing.{lentChecks};
+ghost use Rattle.contract.specs.Reading.{termsIn};
+ghost use Rattle.valuing.specs.Answered.{answerOf, refusal, Ready, Settling, Settled, Answered};
+use contract::Contract;
+use contract::Listing;
+use contract::Outcome;
+use contract::Reading;
+use contract::Returns;
+
+pub struct Answer {
+    pub number: u32,
+    pub place: u64,
+    pub value: u32,
+    pub margin: i64,
+}
+
+fn margin(value: u32, premium: usize) -> i64
+    requires { ⌜ premium ≤ topMost ⌝ }
+    ensures { λ r. ⌜ r ≡ margin value premium ⌝ }
+{
+    (value as i64) - ((10000 * premium) as i64)
+}
+
+pub fn refused(outcome: Outcome) -> Answer
+    ensures { λ r. ⌜ r ≡ refusal (outcome .number) (outcome .place) ⌝ }
+{
+    Answer {
+        number: outcome.number,
+        place: outcome.place,
+        value: 0,
+        margin: 0,
+    }
+}
+
+// Refusal 11.
+pub fn too_short(c: Contract, work: &[u32], table: &[u16]) -> bool
+    requires { ⌜ Valid (termsIn c) ⌝ }
+    ensures { λ r. ⌜ r ≡ (short (2 * layerSize (termsIn c)) (now (work .entry)) || short (tableSize (termsIn c)) (now (table .entry))) ⌝ }
+{
+    let size = (c.top + 1) * (c.premium + 1);
+    if work.len() < 2 * size {
+        return true;
+    }
+    table.len() < (c.dates - 1) * size
+}
+
+// The answer and the working slice, once the first layer holds the values of date 1.
+pub fn settle(work: &mut [u32], list: &[u8], count: usize, c: Contract) -> Answer
+    requires { ⌜ Settling (termsIn c) count (now work) (now list) ⌝ }
+    ensures { λ r. ⌜ Settled (termsIn c) (returnsOf (now (list .entry))) (now (work .entry)) r (now (work .exit)) ⌝ }
+{
+    let value = expect::start_value(&work[..], list, count, c);
+    let size = (c.top + 1) * (c.premium + 1);
+    dates::clear(work, size, size);
+    Answer {
+        number: 0,
+        place: 0,
+        value,
+        margin: margin(value, c.premium),
+    }
+}
+
+// Values a contract whose terms and returns were read.
+fn valued(
+    c: Contract,
+    list: &[u8],
+    count: usize,
+    behaviour: usize,
+    work: &mut [u32],
+    table: &mut [u16],
+) -> Answer
+    requires { ⌜ Ready (termsIn c) count (now list) ⌝ }
+    ensures { λ r. ⌜ Answered (behaviourOf behaviour) (termsIn c) (returnsOf (now (list .entry))) (verdict (lentChecks (termsIn c) behaviour (now (work .entry)) (now (table .entry)))) (now (work .entry)) (now (table .entry)) r (now (work .exit)) (now (table .exit)) ⌝ }
+{
+    if 2 < behaviour {
+        return refused(Outcome {
+            number: 10,
+            place: 0,
+        });
+    }
+    if too_short(c, &work[..], &table[..]) {
+        return refused(Outcome {
+            number: 11,
+            place: 0,
+        });
+    }
+    dates::fill_maturity(work, c.premium + 1, c.top + 1);
+    dates::all_dates(behaviour, work, table, list, count, c);
+    settle(work, list, count, c)
+}
+
+// Values a contract: fills the table and answers number, place, value and margin.
+pub fn value(
+    bytes: &[u8],
+    list: &[u8],
+    behaviour: usize,
+    work: &mut [u32],
+    table: &mut [u16],
+) -> Answer
+    ensures { λ r. ⌜ r ≡ answerOf (valuingAnswer (now (bytes .entry)) (now (list .entry)) behaviour (now (work .entry)) (now (table .entry))) ⌝ }
+    ensures { λ _. ⌜ now (work .exit) ≡ valuingWork (now (bytes .entry)) (now (list .entry)) behaviour (now (work .entry)) (now (table .entry)) ⌝ }
+    ensures { λ _. ⌜ now (table .exit) ≡ valuingTable (now (bytes .entry)) (now (list .entry)) behaviour (now (work .entry)) (now (table .entry)) ⌝ }
+    ensures { λ r. ⌜ (r .number ≡ 0 → Claim (productOf (now (bytes .entry)) (now (list .entry))) (behaviourOf behaviour) (r .value) (now (table .exit))) ⌝ }
+{
+    let reading = Contract::read(bytes);
+    let Reading::Accepted(c) = reading else {
+        return refused(reading.outcome());
+    };
+    let listing = Returns::read(list);
+    let Listing::Accepted(returns) = listing else {
+        return refused(listing.outcome());
+    };
+    valued(c, list, returns.count, behaviour, work, table)
+}
