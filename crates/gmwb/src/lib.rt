@@ -1,7 +1,9 @@
 // The calls for a C host: numbers and slices in, numbers out. include/gmwb.h declares them.
 ghost use mathlib.Core.Path.{_≡_};
+ghost use Prim.Native.Nat.{ℕ};
+ghost use Rattle.rules.specs.Product.{Claim};
 ghost use Rattle.rules.specs.Refusals.{numberOf};
-ghost use Rattle.rules.specs.Operations.{recordVerdict, bookingVerdict, bookingBuffer};
+ghost use Rattle.rules.specs.Operations.{productOf, behaviourOf, recordVerdict, bookingVerdict, bookingBuffer, valuingAnswer, valuingWork, valuingTable};
 use contract::Contract;
 
 // Checks a record. The place of each of its refusals is 0.
@@ -36,4 +38,32 @@ pub extern "C" fn gmwb_book(
         buffer,
     );
     outcome.number
+}
+
+// Values a contract under behaviour 0, 1 or 2.
+#[no_mangle]
+pub extern "C" fn gmwb_value(
+    bytes: &[u8],
+    list: &[u8],
+    behaviour: u64,
+    work: &mut [u32],
+    table: &mut [u16],
+    place: &mut u64,
+    value: &mut u32,
+    margin: &mut i64,
+) -> u32
+    ensures { λ r. ⌜ r ≡ valuingAnswer (now (bytes .entry)) (now (list .entry)) behaviour (now (work .entry)) (now (table .entry)) .number ⌝ }
+    ensures { λ _. ⌜ now (place .exit) ≡ valuingAnswer (now (bytes .entry)) (now (list .entry)) behaviour (now (work .entry)) (now (table .entry)) .place ⌝ }
+    ensures { λ _. ⌜ now (value .exit) ≡ valuingAnswer (now (bytes .entry)) (now (list .entry)) behaviour (now (work .entry)) (now (table .entry)) .value ⌝ }
+    ensures { λ _. ⌜ now (margin .exit) ≡ valuingAnswer (now (bytes .entry)) (now (list .entry)) behaviour (now (work .entry)) (now (table .entry)) .margin ⌝ }
+    ensures { λ _. ⌜ now (work .exit) ≡ valuingWork (now (bytes .entry)) (now (list .entry)) behaviour (now (work .entry)) (now (table .entry)) ⌝ }
+    ensures { λ _. ⌜ now (table .exit) ≡ valuingTable (now (bytes .entry)) (now (list .entry)) behaviour (now (work .entry)) (now (table .entry)) ⌝ }
+    ensures { λ r. ⌜ (r ≡ 0 → Claim (productOf (now (bytes .entry)) (now (list .entry))) (behaviourOf behaviour) (now (value .exit)) (now (table .exit))) ⌝ }
+{
+    let answer = valuing::value(bytes, list, behaviour as usize, work, table);
+    *place = answer.place;
+    *value = answer.value;
+    let difference = answer.margin;
+    *margin = difference;
+    answer.number
 }
