@@ -16,7 +16,7 @@
  * Slices. A slice is a pointer, aligned for its type, and the number of entries behind it (bytes
  * for a record, a list and a booking buffer). Slices passed as const are only read. Slices, and the
  * objects that place, value and margin point to, must not overlap one another.
- * A pointer must be valid even where its length is 0: pass the address of any object, not NULL.
+ * Nothing is read or written through a pointer whose length is 0: it may be NULL.
  */
 #ifndef GMWB_H
 #define GMWB_H
