@@ -5,7 +5,7 @@ use native.Mathlib.Nat.{le-trans, le-of-eq, add-le-add, le-refl}
 use native.Mathlib.Omega.{arith}
 use lib.Dec.{T}
 use Rattle.decision.specs.Choice.{smallestBest, best-is}
-use Rattle.decision.specs.Process.{Process, Rule, worth, valueOver, left, value, startValue, Open, Closed}
+use Rattle.decision.specs.Process.{Process, Rule, Table, worth, valueOver, tableOver, left, value, tableValue, startValue, Decides, Open, Closed}
 
 module _ {S H : Type 0} (P : Process S H) (r : Rule S) (o : Open P r) (InRange : S → Type 0) (c : Closed P r InRange) (B C : ℕ)
     (ends : (s : S) → InRange s → P .final s ≤ B)
@@ -31,3 +31,18 @@ module _ {S H : Type 0} (P : Process S H) (r : Rule S) (o : Open P r) (InRange :
     pub start-bounded : startValue P r ≤ B + (P .dates - 1) * C
     unfolding startValue
     start-bounded = averages 0 _ _ _ (λ k l. value-bounded 1 _ (c .starts k l))
+
+    -- the same of a table whose entries keep to the rule
+    module _ (d : Table S) (admits : (i : ℕ) (s : S) → Decides P InRange i s → T (r s (d i s))) where
+      table-over-bounded : (n i : ℕ) (s : S) → 1 ≤ i → i + n ≡ P .dates → InRange s → tableOver P d n i s ≤ B + n * C
+      unfolding tableOver worth
+      table-over-bounded zero i s l e g = le-trans (ends s g) (omega arith)
+      table-over-bounded (suc n) i s l e g =
+          let a = admits i s (record { from = l; before = omega arith; range = g }) in
+          le-trans
+          (add-le-add (pays i s (d i s) g a) (averages i _ _ (B + n * C) (λ k m. table-over-bounded n (suc i) _ (omega arith) (omega arith) (c .stays i s (d i s) k g a m))))
+          (omega arith)
+
+      pub table-bounded : (i : ℕ) (s : S) → 1 ≤ i → i ≤ P .dates → InRange s → tableValue P d i s ≤ B + (P .dates - i) * C
+      unfolding tableValue
+      table-bounded i s l m g = table-over-bounded (left P i) i s l (omega arith) g

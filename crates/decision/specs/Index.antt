@@ -1,8 +1,8 @@
 -- Functions of an index: their sum, their list, and the first index that passes a test. Assumes nothing.
 use mathlib.Core.Bool.{Bool, true, false}
 use mathlib.Core.List.{List, [], _∷_, _++_}
-use mathlib.Core.Path.{_≡_, refl, ap, sym, subst}
-use Prim.Native.Nat.{ℕ, zero, suc, _+_, _*_, _≤_, _<_}
+use mathlib.Core.Path.{_≡_, refl, ap, sym, subst, _∙_}
+use Prim.Native.Nat.{ℕ, zero, suc, _+_, _-_, _*_, _≤_, _<_}
 use native.Mathlib.Nat.{le-refl, add-le-add}
 use native.Mathlib.Decide.{decLe}
 use native.Mathlib.Numerals.{add-one}
@@ -154,6 +154,36 @@ search-end {test} {n} {k} x l = is-first (record {
   passes = λ m. absurd (omega arith);
   none = λ j i m t. never (x .passed j m) t;
 })
+
+-- a search in runs: `part` is the test from k on, and r its first index below m
+module _ {test part : ℕ → Bool} {n k m r : ℕ} (x : Searched test n k) (fits : k + m ≤ n) (same : (e : ℕ) → e < m → test (k + e) ≡ part e)
+    (found : first part m ≡ r)
+  where
+    here : First part m r
+    here = subst (First part m) found (first-is part m)
+
+    clear : (e : ℕ) → e < r → test (k + e) ≡ false
+    clear e l = same e (omega (arith, here .within)) ∙ untrue (part e) (here .none e (omega arith) l)
+      where
+        untrue : (b : Bool) → (T b → ⊥) → b ≡ false
+        untrue true f = absurd (f tt)
+        untrue false f = refl
+
+    passed : (j : ℕ) → j < k + r → Dec (suc j ≤ k) → test j ≡ false
+    passed j l (yes h) = x .passed j h
+    passed j l (no h) = let e : j ≡ k + (j - k) = omega arith in rw e (clear (j - k) (omega arith))
+
+    pub run-hit : r < m → first test n ≡ k + r
+    run-hit l =
+        search-hit (record { within = omega arith; passed = λ j h. passed j h (decLe (suc j) k) }) (omega arith)
+        (same r l ∙ true-is (part r) (here .passes l))
+      where
+        true-is : (b : Bool) → T b → b ≡ true
+        true-is true t = refl
+        true-is false t = absurd t
+
+    pub run-end : m ≤ r → Searched test n (k + m)
+    run-end l = record { within = fits; passed = λ j h. passed j (omega arith) (decLe (suc j) k) }
 
 -- tests that agree have the same first index
 pub first-eq : (p q : ℕ → Bool) (n : ℕ) → ((k : ℕ) → k < n → p k ≡ q k) → first p n ≡ first q n

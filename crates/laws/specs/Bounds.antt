@@ -5,11 +5,11 @@ use native.Mathlib.Nat.{le-trans, le-refl, le-of-eq, mul-le-mul, mul-le-mul-left
 use native.Mathlib.Omega.{arith}
 use lib.Dec.{T}
 use Rattle.decision.specs.Index.{sum, sum-le, sum-times}
-use Rattle.decision.specs.Process.{Process, Open, Closed}
+use Rattle.decision.specs.Process.{Process, Table, tableValue, Decides, Open, Closed}
 use Rattle.decision.specs.Optimal.{recorded-best}
-use Rattle.decision.specs.Bounds.{value-bounded, start-bounded}
+use Rattle.decision.specs.Bounds.{value-bounded, start-bounded, table-bounded}
 use Rattle.rules.specs.Contract.{Terms, Returns, topMost, datesMost, discountMost, weightTotal}
-use Rattle.rules.specs.Date.{Behaviour, freeAmount, largestAmount, penalty, cash, nextAccount, maturityValue, discounted}
+use Rattle.rules.specs.Date.{Behaviour, dynamic, freeAmount, largestAmount, penalty, cash, nextAccount, maturityValue, discounted}
 use Rattle.rules.specs.Product.{stateValue, recordedAmount, contractValue}
 use Rattle.rules.specs.FixedTerm.{State, Held, InRange, freeIn, admissibleIn, limitIn, cashIn, reachBy, expectOver, processOf, fixedTerm}
 use Rattle.laws.specs.Accepted.{Valid, ValidReturns}
@@ -54,6 +54,14 @@ module _ (c : Terms) (rs : Returns) (v : Valid c) (u : ValidReturns rs) where
   unfolding stateValue fixedTerm processOf
   state-value-le b =
       value-bounded (processOf c rs) (admissibleIn c b) (opened c rs b) (InRange c) (closed c rs b) (10000 * c .top) (10000 * c .top) ends (pays b) averages
+
+  -- .. also where a table is followed
+  pub table-value-le : (d : Table State) → ((i : ℕ) (s : State) → Decides (processOf c rs) (InRange c) i s → T (admissibleIn c dynamic s (d i s)))
+      → (i : ℕ) (s : State) → 1 ≤ i → i ≤ c .dates → InRange c s
+      → tableValue (processOf c rs) d i s ≤ 10000 * c .top + (c .dates - i) * (10000 * c .top)
+  unfolding processOf
+  table-value-le d admits i s l m g =
+      table-bounded (processOf c rs) (admissibleIn c dynamic) (opened c rs dynamic) (InRange c) (closed c rs dynamic) (10000 * c .top) (10000 * c .top) ends (pays dynamic) averages d admits i s l m g
 
   pub contract-value-le : (b : Behaviour) → contractValue (fixedTerm c rs) b ≤ 10000 * c .top + (c .dates - 1) * (10000 * c .top)
   unfolding contractValue fixedTerm processOf

@@ -8,3 +8,4 @@ pub mod ThirdDemand
 pub mod Bounds
 pub mod Walk
 pub mod Booking
+pub mod Supplied

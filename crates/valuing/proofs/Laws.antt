@@ -33,7 +33,8 @@ use Rattle.contract.specs.Accepted.{Read, Listed}
 use Rattle.expect.specs.Expected.{expected, reachedSum, Listing, expected-same}
 use Rattle.dates.specs.Back.{at, valuesOn, Valued, Starting}
 use Rattle.valuing.specs.declared.Answer as declared
-use Rattle.valuing.specs.Answered.{answerOf, refusal, Ready, Settling, Settled, Answered}
+use Rattle.valuing.specs.Answered.{answerOf, refusal, Settled, Answered}
+use Rattle.valuing.specs.First.{size-some, First, first-layer, first-from, first-mature}
 
 pub diff : (a b : ℕ) → pos a -ℤ pos b ≡ subℕ a b
 diff a zero = rw (le-ltb a 0 (omega arith)) (ap pos (omega arith))
@@ -46,20 +47,6 @@ mag-sub a b n h k = by (ltb a b)
     by true = omega arith
     by false = omega arith
 
--- a layer has at most 4,001 × 4,001 entries
-pub size-le : {c : Terms} → Valid c → (c .top + 1) * (c .premium + 1) ≤ 16008001
-size-le {c} v =
-    let w : c .top + 1 ≤ 4001 = omega (arith, v .top) in
-    let a : c .premium + 1 ≤ 4001 = omega (arith, v .premium, v .top) in
-    mul-le-mul w a
-
-size-some : (c : Terms) → 0 < layerSize c
-unfolding layerSize
-size-some c = mul-pos {m = c .top + 1} {n = c .premium + 1} (omega arith) (omega arith)
-
-pub dates-le : {c : Terms} → Valid c → (c .dates - 1) * ((c .top + 1) * (c .premium + 1)) ≤ 39 * 16008001
-dates-le {c} v = let d : c .dates - 1 ≤ 39 = omega (arith, v .dates) in mul-le-mul d (size-le v)
-
 module _ {b : Behaviour} {c : Terms} {rs : Returns} {work table work' table' : List ℕ} (v : Valued b c rs work table work' table' 0) where
   -- the sum over the first return of the values of date 1 is the contract's value
   pub contract-value : Valid c → expected c rs (cells work' 0 (c .premium + 1)) (c .premium) (c .premium) ≡ contractValue (fixedTerm c rs) b
@@ -67,19 +54,14 @@ module _ {b : Behaviour} {c : Terms} {rs : Returns} {work table work' table' : L
   contract-value valid =
       expected-same c rs (cells work' 0 (c .premium + 1)) (valuesOn c rs b 1) (c .premium) (c .premium) (λ w l. v .values w (c .premium) l (omega arith))
 
+  pub first : First (valuesOn c rs b 1) c work work'
+  first = record { long = v .long; values = v .values; rest = v .rest }
+
   -- the first layer with zeros behind it
   pub work-layers : layerSize c + layerSize c ≤ length work
       → stored work' (layerSize c) (λ (i : ℕ). 0) (layerSize c) ≡ valueLayer (fixedTerm c rs) b ++ replicate (layerSize c) 0 ++ drop (2 * layerSize c) work
-  unfolding valueLayer layer fixedTerm layoutOf layerSize
-  work-layers room = stored-zeros work work' _ (layerSize c) (v .long) room cell (v .rest)
-    where
-      cell : (e : ℕ) → e < (c .top + 1) * (c .premium + 1) → getD work' e 0 ≡ valuesOn c rs b 1 (e / (c .premium + 1)) (e % (c .premium + 1))
-      cell e l =
-          let p : 0 < c .premium + 1 = omega arith in
-          let i : 0 + (e / (c .premium + 1) * (c .premium + 1) + e % (c .premium + 1)) ≡ e = let d = div-add-mod' e (c .premium + 1) in omega arith in
-          let h = div-lt-iff-lt-mul p .1 l in
-          let m = mod-lt e p in
-          ap (λ (j : ℕ). getD work' j 0) (sym i) ∙ v .values (e / (c .premium + 1)) (e % (c .premium + 1)) (omega arith) (omega arith)
+  unfolding valueLayer layer fixedTerm layoutOf
+  work-layers room = first-layer first room
 
   -- the layers of the table with the rest behind them
   pub table-layers : tableSize c ≤ length table → 0 < layerSize c
@@ -112,18 +94,9 @@ module _ {b : Behaviour} {c : Terms} {rs : Returns} {work table work' table' : L
 -- maturity values put into the first layer change nothing that is kept
 pub from-start : {b : Behaviour} {c : Terms} {rs : Returns} {work work₁ table work' table' : List ℕ} (f : ℕ → ℕ)
     → work₁ ≡ stored work 0 f (layerSize c) → Valued b c rs work₁ table work' table' 0 → Valued b c rs work table work' table' 0
-from-start {c = c} {work = work} f e v = record {
-  long = v .long ∙ ap length e ∙ length-stored work 0 f (layerSize c);
-  long-table = v .long-table;
-  values = v .values;
-  amounts = v .amounts;
-  rest = λ x h. v .rest x h ∙ ap (λ (xs : List ℕ). getD xs x 0) e ∙ stored-out work 0 f (layerSize c) x (inr (omega arith));
-  rest-table = v .rest-table;
-}
-
-pub settling : {c : Terms} {count : ℕ} {list work' : List ℕ} (work : List ℕ) → Valid c → Listing list count
-    → layerSize c + layerSize c ≤ length work → length work' ≡ length work → Settling c count work' list
-settling work valid listing room long = record { listing = listing; layers = record { valid = valid; room = omega arith } }
+from-start f e v =
+    let x = first-from f e (first v) in
+    record { long = x .long; long-table = v .long-table; values = v .values; amounts = v .amounts; rest = x .rest; rest-table = v .rest-table }
 
 -- the first layer at maturity
 pub starting : {c : Terms} {behaviour count : ℕ} {list work' table : List ℕ} (work : List ℕ) → Valid c → Listing list count → behaviour ≤ 2
@@ -135,9 +108,7 @@ starting {c} {work' = work'} work valid listing known room room-table e = record
   listing = listing;
   layers = record { valid = valid; room = let l = ap length e ∙ length-stored work 0 (flat (c .premium + 1) maturityValue) ((c .top + 1) * (c .premium + 1)) in omega arith };
   entries = room-table;
-  mature = λ w a h l.
-      ap (λ (xs : List ℕ). cells xs 0 (c .premium + 1) w a) e
-      ∙ layer-stored work 0 (c .premium + 1) (c .top + 1) maturityValue (omega arith) .cell w a (omega arith) (omega arith);
+  mature = first-mature c work (omega arith) e;
 }
 
 -- ---- what terms that were read answer
@@ -166,21 +137,6 @@ module _ {b : Behaviour} {c : Terms} {rs : Returns} {v : Verdict} {work table : 
       some = size-some c
 
 -- ---- what a call answers, on any input
-abbrev pub refused-by : Outcome → declared.Answer
-refused-by o = refusal (o .number) (o .place)
-
-pub ready : {bytes list : List ℕ} {c : Contract} {returns : listed.Returns} → Read bytes c → Listed list returns → Ready (termsIn c) (returns .count) list
-unfolding returnsOf
-ready {list = list} known told = record {
-  valid = known .valid;
-  listing = record {
-    few = rw (told .count) (told .valid .count);
-    long = rw (told .count) (let d = div-add-mod' (length list) 4 in omega arith);
-    valid = told .valid;
-    all = told .count;
-  };
-}
-
 module _ (bytes list : List ℕ) (behaviour : ℕ) (work table : List ℕ) (r : declared.Answer) (work' table' : List ℕ) where
   pub record Whole : Type 0 where
     pub answer-is : r ≡ answerOf (valuingAnswer bytes list behaviour work table)

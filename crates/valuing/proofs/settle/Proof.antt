@@ -10,8 +10,8 @@ use mir.Val.{SFits}
 use native.Mathlib.Omega.{arith}
 use Rattle.rules.specs.Date.{margin}
 use Rattle.rules.specs.FixedTerm.{layerSize}
+use Rattle.valuing.specs.First.{size-le}
 use Rattle.valuing.proofs.Laws.{mag-sub}
-use Rattle.valuing.proofs.Laws.{size-le}
 use Rattle.valuing.proofs.settle.Statement.{statement}
 use Rattle.valuing.proofs.settle.Tie as tie
 

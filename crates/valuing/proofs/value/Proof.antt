@@ -7,7 +7,8 @@ use Rattle.contract.specs.declared.Listing.{Listing}
 use Rattle.contract.specs.declared.Reading.{Reading}
 use Rattle.laws.specs.Accepted.{andThen}
 use Rattle.rules.specs.Refusals.{Verdict, verdict, numberOf, placeOf, listChecks}
-use Rattle.valuing.proofs.Laws.{whole, whole-refused, claimed, refused-by, ready}
+use Rattle.valuing.specs.First.{refused-by, ready}
+use Rattle.valuing.proofs.Laws.{whole, whole-refused, claimed}
 use Rattle.valuing.proofs.value.Statement.{statement}
 use Rattle.valuing.proofs.value.Tie as tie
 

@@ -7,7 +7,7 @@ use Rattle.contract.specs.Reading.{termsIn}
 use Rattle.laws.specs.Valuing.{behaviour-refused, lent-refused, lent-accepted, lent-room}
 use Rattle.rules.specs.FixedTerm.{layerSize}
 use Rattle.rules.specs.Operations.{tableSize}
-use Rattle.valuing.proofs.Laws.{answered-refused, answered-accepted, starting, from-start, settling}
+use Rattle.valuing.specs.First.{settling}
 use Rattle.valuing.proofs.Laws.{answered-refused, answered-accepted, starting, from-start}
 use Rattle.valuing.proofs.valued.Statement.{statement}
 use Rattle.valuing.proofs.valued.Tie as tie

@@ -1,0 +1,56 @@
+-- `supplied::bad_entry` meets its contract. Assumes nothing.
+use Prim.Native.Nat.{ℕ, _+_, _/_}
+use borrow.Author.Needs.{needs}
+use mathlib.Core.Path.{sym, ap₂, _∙_}
+use Rattle.laws.specs.Supplied.{badAt}
+use Rattle.rules.specs.Date.{dynamic, admits}
+use Rattle.rules.specs.FixedTerm.{admissibleIn, layoutOf, freeIn}
+use Rattle.supplied.proofs.bad_entry.Statement.{statement}
+use Rattle.supplied.proofs.bad_entry.Tie as tie
+
+add-stride : tie.Need-add-stride
+add-stride c = search needs
+
+div-w : tie.Need-div-w
+div-w c = search needs
+
+rem-free-amount : tie.Need-rem-free-amount
+rem-free-amount c = search needs
+
+free-amount-requires : tie.Need-free-amount-requires
+free-amount-requires c κs = search needs
+
+mul-wide-amount : tie.Need-mul-wide-amount
+mul-wide-amount c = search needs
+
+shared-slice-read-wide-amount : tie.Need-shared-slice-read-wide-amount
+shared-slice-read-wide-amount c = search needs
+
+wide-amount-requires : tie.Need-wide-amount-requires
+wide-amount-requires c κs = search needs
+
+admits-dynamic-requires : tie.Need-admits-dynamic-requires
+admits-dynamic-requires c κs = search needs
+
+returns : tie.Need-returns
+unfolding badAt admissibleIn layoutOf freeIn
+returns c = rw (sym (c .before .admits-dynamic .ensures ∙ ap₂ (λ (m t : ℕ). admits dynamic m (c .before .before .before .before .before .before .before .args .e / (c .before .before .before .before .before .before .before .args .c .premium + 1)) t) (c .before .before .before .before .free-amount .ensures) (c .before .before .wide-amount .ensures .0)) ∙ c .if1 .taken)
+
+returns-2 : tie.Need-returns-2
+unfolding badAt admissibleIn layoutOf freeIn
+returns-2 c = rw (sym (c .before .admits-dynamic .ensures ∙ ap₂ (λ (m t : ℕ). admits dynamic m (c .before .before .before .before .before .before .before .args .e / (c .before .before .before .before .before .before .before .args .c .premium + 1)) t) (c .before .before .before .before .free-amount .ensures) (c .before .before .wide-amount .ensures .0)) ∙ c .if1 .left)
+
+pub bad-entry-spec : {M : Type 1} → statement M
+bad-entry-spec =
+    tie.close
+    (tie.spec
+    add-stride
+    div-w
+    rem-free-amount
+    free-amount-requires
+    mul-wide-amount
+    shared-slice-read-wide-amount
+    wide-amount-requires
+    admits-dynamic-requires
+    returns
+    returns-2)

@@ -1,0 +1,121 @@
+-- `supplied::first_bad` meets its contract. Assumes nothing.
+use Prim.Native.Nat.{_+_, _-_, _*_}
+use borrow.Rule.Slice.PartMut.{mid-len}
+use mathlib.Core.Path.{sym, subst}
+use native.Mathlib.Nat.{zero-mul}
+use native.Mathlib.Omega.{arith}
+use Rattle.contract.specs.Reading.{termsIn}
+use Rattle.decision.specs.Index.{Searched, search-none, search-end, run-hit, run-end}
+use Rattle.laws.specs.Supplied.{badEntry}
+use Rattle.rules.specs.FixedTerm.{layerSize}
+use Rattle.rules.specs.Operations.{tableSize}
+use Rattle.slices.specs.Rows.{rows-step, rows-le}
+use Rattle.valuing.specs.First.{size-le, dates-le}
+use Rattle.supplied.proofs.Laws.{search-fits, search-same}
+use Rattle.supplied.proofs.first_bad.Statement.{statement}
+use Rattle.supplied.proofs.first_bad.Tie as tie
+
+abbrev Inv-loop : tie.InvT-loop
+Inv-loop table c size last j₀ j = Searched (badEntry (termsIn c) table) (tableSize (termsIn c)) (j * size)
+
+abbrev μ-loop : tie.MeasureT-loop
+μ-loop table c size last j₀ j = last - j
+
+add-size : tie.Need-add-size Inv-loop μ-loop
+add-size c = omega (arith, c .before .before .pre .0 .top)
+
+add-size-2 : tie.Need-add-size-2 Inv-loop μ-loop
+add-size-2 c = omega (arith, c .before .before .before .pre .0 .premium, c .before .before .before .pre .0 .top)
+
+mul-size : tie.Need-mul-size Inv-loop μ-loop
+mul-size c = let s = size-le (c .before .before .before .pre .0) in omega arith
+
+sub-last : tie.Need-sub-last Inv-loop μ-loop
+sub-last c = omega (arith, c .before .before .before .before .pre .0 .dates-least)
+
+loop-holds : tie.Need-loop-holds Inv-loop μ-loop
+loop-holds c = subst (Searched _ _) (sym (zero-mul ((c .before .before .before .before .args .c .top + 1) * (c .before .before .before .before .args .c .premium + 1)))) (search-none _ _)
+
+mul-from : tie.Need-mul-from Inv-loop μ-loop
+unfolding layerSize tableSize
+mul-from c = let f = search-fits (termsIn (c .before .before .before .before .before .before .args .c)) (c .before .before .before .before .before .before .args .table .now) (c .before .loop .j) (c .loop-test .taken) in let d = dates-le (c .before .before .before .before .before .before .pre .0) in let s = rows-step ((c .before .before .before .before .before .before .args .c .top + 1) * (c .before .before .before .before .before .before .args .c .premium + 1)) (c .before .loop .j) in omega (arith, c .before .before .before .before .before .before .pre .1)
+
+add-to : tie.Need-add-to Inv-loop μ-loop
+add-to c = omega (arith, c .before .before .before .before .before .before .pre .0 .dates)
+
+mul-to : tie.Need-mul-to Inv-loop μ-loop
+unfolding layerSize tableSize
+mul-to c = let f = search-fits (termsIn (c .before .before .before .before .before .before .args .c)) (c .before .before .before .before .before .before .args .table .now) (c .before .loop .j) (c .loop-test .taken) in let d = dates-le (c .before .before .before .before .before .before .pre .0) in let s = rows-step ((c .before .before .before .before .before .before .args .c .top + 1) * (c .before .before .before .before .before .before .args .c .premium + 1)) (c .before .loop .j) in omega (arith, c .before .before .before .before .before .before .pre .1)
+
+mul-first-in-layer : tie.Need-mul-first-in-layer Inv-loop μ-loop
+unfolding layerSize tableSize
+mul-first-in-layer c = let f = search-fits (termsIn (c .before .before .before .before .before .before .args .c)) (c .before .before .before .before .before .before .args .table .now) (c .before .loop .j) (c .loop-test .taken) in let d = dates-le (c .before .before .before .before .before .before .pre .0) in let s = rows-step ((c .before .before .before .before .before .before .args .c .top + 1) * (c .before .before .before .before .before .before .args .c .premium + 1)) (c .before .loop .j) in omega (arith, c .before .before .before .before .before .before .pre .1)
+
+sub-first-in-layer : tie.Need-sub-first-in-layer Inv-loop μ-loop
+unfolding layerSize tableSize
+sub-first-in-layer c = let f = search-fits (termsIn (c .before .before .before .before .before .before .args .c)) (c .before .before .before .before .before .before .args .table .now) (c .before .loop .j) (c .loop-test .taken) in let d = dates-le (c .before .before .before .before .before .before .pre .0) in let s = rows-step ((c .before .before .before .before .before .before .args .c .top + 1) * (c .before .before .before .before .before .before .args .c .premium + 1)) (c .before .loop .j) in omega (arith, c .before .before .before .before .before .before .pre .1)
+
+part-first-in-layer-start : tie.Need-part-first-in-layer-start Inv-loop μ-loop
+unfolding layerSize tableSize
+part-first-in-layer-start c = let f = search-fits (termsIn (c .before .before .before .before .before .before .args .c)) (c .before .before .before .before .before .before .args .table .now) (c .before .loop .j) (c .loop-test .taken) in let d = dates-le (c .before .before .before .before .before .before .pre .0) in let s = rows-step ((c .before .before .before .before .before .before .args .c .top + 1) * (c .before .before .before .before .before .before .args .c .premium + 1)) (c .before .loop .j) in omega (arith, c .before .before .before .before .before .before .pre .1)
+
+part-first-in-layer-end : tie.Need-part-first-in-layer-end Inv-loop μ-loop
+unfolding layerSize tableSize
+part-first-in-layer-end c = let f = search-fits (termsIn (c .before .before .before .before .before .before .args .c)) (c .before .before .before .before .before .before .args .table .now) (c .before .loop .j) (c .loop-test .taken) in let d = dates-le (c .before .before .before .before .before .before .pre .0) in let s = rows-step ((c .before .before .before .before .before .before .args .c .top + 1) * (c .before .before .before .before .before .before .args .c .premium + 1)) (c .before .loop .j) in omega (arith, c .before .before .before .before .before .before .pre .1)
+
+first-in-layer-requires : tie.Need-first-in-layer-requires Inv-loop μ-loop
+unfolding layerSize tableSize
+first-in-layer-requires c κs = (c .before .before .before .before .before .before .before .pre .0, (let f = search-fits (termsIn (c .before .before .before .before .before .before .before .args .c)) (c .before .before .before .before .before .before .before .args .table .now) (c .before .before .loop .j) (c .before .loop-test .taken) in let s = rows-step ((c .before .before .before .before .before .before .before .args .c .top + 1) * (c .before .before .before .before .before .before .before .args .c .premium + 1)) (c .before .before .loop .j) in let m = mid-len (c .before .before .loop .j * ((c .before .before .before .before .before .before .before .args .c .top + 1) * (c .before .before .before .before .before .before .before .args .c .premium + 1))) ((c .before .before .loop .j + 1) * ((c .before .before .before .before .before .before .before .args .c .top + 1) * (c .before .before .before .before .before .before .before .args .c .premium + 1))) (c .before .before .before .before .before .before .before .args .table .now) (omega (arith, c .before .before .before .before .before .before .before .pre .1)) in omega arith))
+
+add-result : tie.Need-add-result Inv-loop μ-loop
+unfolding layerSize tableSize
+add-result c = let f = search-fits (termsIn (c .before .before .before .before .before .before .before .before .before .args .c)) (c .before .before .before .before .before .before .before .before .before .args .table .now) (c .before .before .before .before .loop .j) (c .before .before .before .loop-test .taken) in let d = dates-le (c .before .before .before .before .before .before .before .before .before .pre .0) in let s = rows-step ((c .before .before .before .before .before .before .before .before .before .args .c .top + 1) * (c .before .before .before .before .before .before .before .before .before .args .c .premium + 1)) (c .before .before .before .before .loop .j) in omega (arith, c .before .before .before .before .before .before .before .before .before .pre .1)
+
+returns : tie.Need-returns Inv-loop μ-loop
+unfolding layerSize tableSize
+returns c = sym (run-hit (c .before .before .before .before .loop .inv) (search-fits (termsIn (c .before .before .before .before .before .before .before .before .before .args .c)) (c .before .before .before .before .before .before .before .before .before .args .table .now) (c .before .before .before .before .loop .j) (c .before .before .before .loop-test .taken)) (search-same (termsIn (c .before .before .before .before .before .before .before .before .before .args .c)) (c .before .before .before .before .before .before .before .before .before .args .table .now) (c .before .before .before .before .loop .j) (c .before .before .before .loop-test .taken)) (sym (c .before .first-in-layer .ensures)) (c .if1 .taken))
+
+add-j : tie.Need-add-j Inv-loop μ-loop
+add-j c = omega (arith, c .before .before .before .before .before .before .before .before .before .pre .0 .dates)
+
+loop-less : tie.Need-loop-less Inv-loop μ-loop
+loop-less c = omega arith
+
+loop-again : tie.Need-loop-again Inv-loop μ-loop
+unfolding layerSize tableSize
+loop-again c = subst (Searched _ _) (rows-step ((c .before .before .before .before .before .before .before .before .before .args .c .top + 1) * (c .before .before .before .before .before .before .before .before .before .args .c .premium + 1)) (c .before .before .before .before .loop .j)) (run-end (c .before .before .before .before .loop .inv) (search-fits (termsIn (c .before .before .before .before .before .before .before .before .before .args .c)) (c .before .before .before .before .before .before .before .before .before .args .table .now) (c .before .before .before .before .loop .j) (c .before .before .before .loop-test .taken)) (search-same (termsIn (c .before .before .before .before .before .before .before .before .before .args .c)) (c .before .before .before .before .before .before .before .before .before .args .table .now) (c .before .before .before .before .loop .j) (c .before .before .before .loop-test .taken)) (sym (c .before .first-in-layer .ensures)) (c .if1 .left))
+
+mul-result : tie.Need-mul-result Inv-loop μ-loop
+unfolding layerSize tableSize
+mul-result c = let d = dates-le (c .before .before .before .before .before .before .pre .0) in omega (arith, c .before .loop .inv .within)
+
+returns-2 : tie.Need-returns-2 Inv-loop μ-loop
+unfolding layerSize tableSize
+returns-2 c = sym (search-end (c .before .loop .inv) (rows-le ((c .before .before .before .before .before .before .args .c .top + 1) * (c .before .before .before .before .before .before .args .c .premium + 1)) (c .before .before .before .before .before .before .args .c .dates - 1) (c .before .loop .j) (c .loop-test .left)))
+
+pub first-bad-spec : {M : Type 1} → statement M
+first-bad-spec =
+    tie.close
+    (tie.spec
+    Inv-loop
+    μ-loop
+    add-size
+    add-size-2
+    mul-size
+    sub-last
+    loop-holds
+    mul-from
+    add-to
+    mul-to
+    mul-first-in-layer
+    sub-first-in-layer
+    part-first-in-layer-start
+    part-first-in-layer-end
+    first-in-layer-requires
+    add-result
+    returns
+    add-j
+    loop-less
+    loop-again
+    mul-result
+    returns-2)

@@ -1,0 +1,76 @@
+-- `supplied::worth` meets its contract. Assumes nothing.
+use Prim.Native.Nat.{ℕ, _+_, _*_, _≤_, _<_}
+use borrow.Author.Needs.{needs}
+use lib.ListN.{length}
+use mathlib.Core.Path.{ap, ap₂, _∙_}
+use native.Mathlib.Nat.{le-trans, le-of-eq, sub-le}
+use native.Mathlib.Omega.{arith}
+use Rattle.choose.specs.State.{worthOver}
+use Rattle.laws.specs.Date.{guarantee-le}
+use Rattle.rules.specs.Date.{cash, balanceAfter, guaranteeAfter}
+use Rattle.slices.specs.Rows.{cells}
+use Rattle.supplied.proofs.Laws.{place}
+use Rattle.supplied.proofs.worth.Statement.{statement}
+use Rattle.supplied.proofs.worth.Tie as tie
+
+free-amount-requires : tie.Need-free-amount-requires
+free-amount-requires c κs = search needs
+
+guarantee-after-requires : tie.Need-guarantee-after-requires
+guarantee-after-requires c κs = search needs
+
+balance-after-requires : tie.Need-balance-after-requires
+balance-after-requires c κs = search needs
+
+at-within : (c : tie.After-balance-after) → c .before .before .before .before .args .base + (c .balance-after .result * c .before .before .before .before .args .stride + c .before .guarantee-after .result) < length (c .before .before .before .before .args .work .now)
+unfolding balanceAfter
+at-within c =
+    let g = guarantee-le (c .before .before .free-amount .result) (c .before .before .before .before .args .w) (c .before .before .before .before .args .a) (c .before .before .before .before .args .t) in
+    let y : c .before .guarantee-after .result ≤ c .before .before .before .before .args .a = le-trans (le-of-eq (c .before .guarantee-after .ensures)) (le-trans g (sub-le _ _)) in
+    let x : c .balance-after .result ≤ c .before .before .before .before .args .w = le-trans (le-of-eq (c .balance-after .ensures)) (sub-le _ _) in
+    place (c .before .before .before .before .pre .0) _ _ x y
+
+mul-at : tie.Need-mul-at
+mul-at c = let p = at-within c in omega arith
+
+add-at : tie.Need-add-at
+add-at c = let p = at-within c in omega arith
+
+add-at-2 : tie.Need-add-at-2
+add-at-2 c = let p = at-within c in omega arith
+
+cash-requires : tie.Need-cash-requires
+cash-requires c κs = search needs
+
+mul-wide : tie.Need-mul-wide
+mul-wide c = let p = at-within (c .before) in omega arith
+
+shared-slice-read-wide : tie.Need-shared-slice-read-wide
+shared-slice-read-wide c = at-within (c .before .before)
+
+wide-requires : tie.Need-wide-requires
+wide-requires c κs = search needs
+
+add-result : tie.Need-add-result
+add-result c = search needs
+
+returns : tie.Need-returns
+unfolding worthOver
+returns c = ap₂ (λ (x y : ℕ). x + y) (c .before .before .cash .ensures .0 ∙ ap (λ (m : ℕ). cash (c .before .before .before .before .before .before .before .args .rate) m (c .before .before .before .before .before .before .before .args .t)) (c .before .before .before .before .before .free-amount .ensures)) (c .wide .ensures .0 ∙ ap₂ (λ (x y : ℕ). cells (c .before .before .before .before .before .before .before .args .work .now) (c .before .before .before .before .before .before .before .args .base) (c .before .before .before .before .before .before .before .args .stride) x y) (c .before .before .before .balance-after .ensures) (c .before .before .before .before .guarantee-after .ensures ∙ ap (λ (m : ℕ). guaranteeAfter m (c .before .before .before .before .before .before .before .args .w) (c .before .before .before .before .before .before .before .args .a) (c .before .before .before .before .before .before .before .args .t)) (c .before .before .before .before .before .free-amount .ensures)))
+
+pub worth-spec : {M : Type 1} → statement M
+worth-spec =
+    tie.close
+    (tie.spec
+    free-amount-requires
+    guarantee-after-requires
+    balance-after-requires
+    mul-at
+    add-at
+    add-at-2
+    cash-requires
+    mul-wide
+    shared-slice-read-wide
+    wide-requires
+    add-result
+    returns)

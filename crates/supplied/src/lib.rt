@@ -1,0 +1,210 @@
+// Valuing a supplied table: every entry checked, then followed date by date.
+ghost use mathlib.Core.Path.{_≡_};
+ghost use Prim.Native.Nat.{ℕ, _+_, _*_, _≤_, _<_, max};
+ghost use lib.ListN.{length, getD};
+ghost use Rattle.decision.specs.Index.{first};
+ghost use Rattle.slices.specs.Stored.{stored};
+ghost use Rattle.slices.specs.Rows.{cells, flat};
+ghost use Rattle.rules.specs.Contract.{rateMost, returnsOf};
+ghost use Rattle.rules.specs.Date.{freeAmount};
+ghost use Rattle.rules.specs.FixedTerm.{layerSize};
+ghost use Rattle.rules.specs.Refusals.{verdict};
+ghost use Rattle.rules.specs.Operations.{tableSize, suppliedAnswer, suppliedWork};
+ghost use Rattle.laws.specs.Accepted.{Valid};
+ghost use Rattle.laws.specs.Supplied.{badAt, badEntry, tableChecks};
+ghost use Rattle.contract.specs.Reading.{termsIn};
+ghost use Rattle.choose.specs.State.{State, worthOver};
+ghost use Rattle.valuing.specs.Answered.{answerOf, Ready};
+ghost use Rattle.valuing.specs.First.{First};
+ghost use Rattle.supplied.specs.Followed.{followed, Following, OneDate, Back, tableOn, Starting, Answered};
+use contract::Contract;
+use contract::Listing;
+use contract::Outcome;
+use contract::Reading;
+use contract::Returns;
+use valuing::Answer;
+
+fn wide(x: u32) -> usize
+    ensures { λ r. ⌜ (r ≡ x) × (r < 4294967296) ⌝ }
+{
+    x as usize
+}
+
+fn wide_amount(x: u16) -> usize
+    ensures { λ r. ⌜ (r ≡ x) × (r < 65536) ⌝ }
+{
+    x as usize
+}
+
+// Refusal 14 of entry e of a date's layer.
+fn bad_entry(layer: &[u16], c: Contract, e: usize) -> bool
+    requires { ⌜ Valid (termsIn c) × (e < length (now layer)) ⌝ }
+    ensures { λ r. ⌜ r ≡ badAt (termsIn c) e (getD (now (layer .entry)) e 0) ⌝ }
+{
+    let stride = c.premium + 1;
+    let w = e / stride;
+    let m = date::free_amount(c.level, e % stride);
+    if date::admits_dynamic(m, w, wide_amount(layer[e])) {
+        return false;
+    }
+    true
+}
+
+// The first bad entry of a layer, or the layer's size.
+fn first_in_layer(layer: &[u16], c: Contract, size: usize) -> usize
+    requires { ⌜ Valid (termsIn c) × (size ≤ length (now layer)) ⌝ }
+    ensures { λ r. ⌜ r ≡ first (λ (e : ℕ). badAt (termsIn c) e (getD (now (layer .entry)) e 0)) size ⌝ }
+{
+    let mut e: usize = 0;
+    while e < size {
+        if bad_entry(layer, c, e) {
+            return e;
+        }
+        e += 1;
+    }
+    e
+}
+
+// The first bad entry of the table, or its size: date by date, each in its own layer.
+fn first_bad(table: &[u16], c: Contract) -> usize
+    requires { ⌜ Valid (termsIn c) × (tableSize (termsIn c) ≤ length (now table)) ⌝ }
+    ensures { λ r. ⌜ r ≡ first (badEntry (termsIn c) (now (table .entry))) (tableSize (termsIn c)) ⌝ }
+{
+    let size = (c.top + 1) * (c.premium + 1);
+    let last = c.dates - 1;
+    let mut j: usize = 0;
+    while j < last {
+        let from = j * size;
+        let to = (j + 1) * size;
+        let e = first_in_layer(&table[from..to], c, size);
+        if e < size {
+            return from + e;
+        }
+        j += 1;
+    }
+    j * size
+}
+
+// What amount t is worth.
+fn worth(
+    work: &[u32],
+    base: usize,
+    stride: usize,
+    w: usize,
+    a: usize,
+    level: usize,
+    rate: usize,
+    t: usize,
+) -> usize
+    requires { ⌜ State (now work) base stride w a (freeAmount level a) × (rate ≤ rateMost) × (t ≤ max w (freeAmount level a)) ⌝ }
+    ensures { λ r. ⌜ r ≡ worthOver (cells (now (work .entry)) base stride) rate (freeAmount level a) w a t ⌝ }
+{
+    let m = date::free_amount(level, a);
+    let g = date::guarantee_after(m, w, a, t);
+    let at = base + (date::balance_after(w, t) * stride + g);
+    date::cash(rate, m, t) + wide(work[at])
+}
+
+// The states of account w.
+fn follow_row(
+    work: &mut [u32],
+    layer: &[u16],
+    base: usize,
+    stride: usize,
+    w: usize,
+    level: usize,
+    rate: usize,
+)
+    requires { ⌜ Following (now work) (now layer) base stride (w + 1) level rate ⌝ }
+    ensures { λ _. ⌜ now (work .exit) ≡ stored (now (work .entry)) (w * stride) (followed (cells (now (work .entry)) base stride) (cells (now (layer .entry)) 0 stride) rate level w) stride ⌝ }
+{
+    let row = w * stride;
+    for a in 0..stride {
+        let i = row + a;
+        let t = wide_amount(layer[i]);
+        work[i] = worth(&work[..], base, stride, w, a, level, rate, t) as u32;
+    }
+}
+
+// The states of the accounts below n.
+fn follow_layer(
+    work: &mut [u32],
+    layer: &[u16],
+    base: usize,
+    stride: usize,
+    n: usize,
+    level: usize,
+    rate: usize,
+)
+    requires { ⌜ Following (now work) (now layer) base stride n level rate ⌝ }
+    ensures { λ _. ⌜ now (work .exit) ≡ stored (now (work .entry)) 0 (flat stride (followed (cells (now (work .entry)) base stride) (cells (now (layer .entry)) 0 stride) rate level)) (n * stride) ⌝ }
+{
+    for w in 0..n {
+        follow_row(work, layer, base, stride, w, level, rate);
+    }
+}
+
+// The values of one date.
+fn follow_date(work: &mut [u32], layer: &[u16], list: &[u8], count: usize, c: Contract)
+    requires { ⌜ OneDate (termsIn c) count (now work) (now layer) (now list) ⌝ }
+    ensures { λ _. ⌜ Back (termsIn c) (returnsOf (now (list .entry))) (now (work .entry)) (now (layer .entry)) (now (work .exit)) ⌝ }
+{
+    let stride = c.premium + 1;
+    let n = c.top + 1;
+    expect::expect_layer(work, list, count, c);
+    follow_layer(work, layer, n * stride, stride, n, c.level, c.penalty);
+}
+
+// Every decision date, from the last to the first, each by its own layer of the table.
+fn follow_dates(work: &mut [u32], table: &[u16], list: &[u8], count: usize, c: Contract)
+    requires { ⌜ Starting (termsIn c) count (now work) (now table) (now list) ⌝ }
+    ensures { λ _. ⌜ First (tableOn (termsIn c) (returnsOf (now (list .entry))) (now (table .entry)) 1) (termsIn c) (now (work .entry)) (now (work .exit)) ⌝ }
+{
+    let size = (c.top + 1) * (c.premium + 1);
+    let mut i = c.dates - 1;
+    while 0 < i {
+        let from = (i - 1) * size;
+        let to = i * size;
+        follow_date(work, &table[from..to], list, count, c);
+        i -= 1;
+    }
+}
+
+// Values a table under terms and returns that were read.
+fn valued(c: Contract, list: &[u8], count: usize, work: &mut [u32], table: &[u16]) -> Answer
+    requires { ⌜ Ready (termsIn c) count (now list) ⌝ }
+    ensures { λ r. ⌜ Answered (termsIn c) (returnsOf (now (list .entry))) (verdict (tableChecks (termsIn c) (now (work .entry)) (now (table .entry)))) (now (work .entry)) (now (table .entry)) r (now (work .exit)) ⌝ }
+{
+    if valuing::too_short(c, &work[..], table) {
+        return valuing::refused(Outcome {
+            number: 11,
+            place: 0,
+        });
+    }
+    let bad = first_bad(table, c);
+    if bad < (c.dates - 1) * ((c.top + 1) * (c.premium + 1)) {
+        return valuing::refused(Outcome {
+            number: 14,
+            place: bad as u64,
+        });
+    }
+    dates::fill_maturity(work, c.premium + 1, c.top + 1);
+    follow_dates(work, table, list, count, c);
+    valuing::settle(work, list, count, c)
+}
+
+// Values a supplied table: answers number, place, value and margin.
+pub fn value(bytes: &[u8], list: &[u8], work: &mut [u32], table: &[u16]) -> Answer
+    ensures { λ r. ⌜ r ≡ answerOf (suppliedAnswer (now (bytes .entry)) (now (list .entry)) (now (work .entry)) (now (table .entry))) ⌝ }
+    ensures { λ _. ⌜ now (work .exit) ≡ suppliedWork (now (bytes .entry)) (now (list .entry)) (now (work .entry)) (now (table .entry)) ⌝ }
+{
+    let reading = Contract::read(bytes);
+    let Reading::Accepted(c) = reading else {
+        return valuing::refused(reading.outcome());
+    };
+    let listing = Returns::read(list);
+    let Listing::Accepted(returns) = listing else {
+        return valuing::refused(listing.outcome());
+    };
+    valued(c, list, returns.count, work, table)
+}

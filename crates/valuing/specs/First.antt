@@ -1,0 +1,97 @@
+-- What the calls that value share: the first layer as the rules write it, and terms and returns that were read. Assumes nothing.
+use mathlib.Core.List.{List, _++_}
+use mathlib.Core.Logic.{inr}
+use mathlib.Core.Path.{_≡_, ap, sym, _∙_}
+use Prim.Native.Nat.{ℕ, _+_, _-_, _*_, _/_, _%_, _≤_, _<_}
+use native.Mathlib.Nat.{mul-le-mul, mul-pos, mod-lt, div-add-mod', div-lt-iff-lt-mul}
+use native.Mathlib.Omega.{arith}
+use lib.ListN.{length, getD, drop, replicate}
+use Rattle.decision.specs.Index.{tabulate}
+use Rattle.slices.specs.Stored.{stored, length-stored, stored-out, stored-zeros}
+use Rattle.slices.specs.Rows.{cells, flat, layer-stored}
+use Rattle.rules.specs.Contract.{Terms, returnsOf}
+use Rattle.rules.specs.Date.{maturityValue}
+use Rattle.rules.specs.FixedTerm.{layerSize}
+use Rattle.laws.specs.Accepted.{Valid}
+use Rattle.contract.specs.declared.Outcome.{Outcome}
+use Rattle.contract.specs.declared.Contract.{Contract}
+use Rattle.contract.specs.declared.Returns as listed
+use Rattle.contract.specs.Reading.{termsIn}
+use Rattle.contract.specs.Accepted.{Read, Listed}
+use Rattle.expect.specs.Expected.{Listing}
+use Rattle.valuing.specs.declared.Answer as declared
+use Rattle.valuing.specs.Answered.{refusal, Ready, Settling}
+
+-- a layer has at most 4,001 × 4,001 entries, and some
+pub size-le : {c : Terms} → Valid c → (c .top + 1) * (c .premium + 1) ≤ 16008001
+size-le {c} v =
+    let w : c .top + 1 ≤ 4001 = omega (arith, v .top) in
+    let a : c .premium + 1 ≤ 4001 = omega (arith, v .premium, v .top) in
+    mul-le-mul w a
+
+pub dates-le : {c : Terms} → Valid c → (c .dates - 1) * ((c .top + 1) * (c .premium + 1)) ≤ 39 * 16008001
+dates-le {c} v = let d : c .dates - 1 ≤ 39 = omega (arith, v .dates) in mul-le-mul d (size-le v)
+
+pub size-some : (c : Terms) → 0 < layerSize c
+unfolding layerSize
+size-some c = mul-pos {m = c .top + 1} {n = c .premium + 1} (omega arith) (omega arith)
+
+-- the first layer holds f, and what stands behind both layers is kept
+pub record First (f : ℕ → ℕ → ℕ) (c : Terms) (work work' : List ℕ) : Type 0 where
+  pub long : length work' ≡ length work
+  pub values : (w a : ℕ) → w ≤ c .top → a ≤ c .premium → cells work' 0 (c .premium + 1) w a ≡ f w a
+  pub rest : (x : ℕ) → layerSize c + layerSize c ≤ x → getD work' x 0 ≡ getD work x 0
+
+module _ {f : ℕ → ℕ → ℕ} {c : Terms} {work work' : List ℕ} (v : First f c work work') where
+  -- with zeros behind it
+  pub first-layer : layerSize c + layerSize c ≤ length work
+      → stored work' (layerSize c) (λ (i : ℕ). 0) (layerSize c)
+      ≡ tabulate (layerSize c) (λ e. f (e / (c .premium + 1)) (e % (c .premium + 1))) ++ replicate (layerSize c) 0 ++ drop (2 * layerSize c) work
+  unfolding layerSize
+  first-layer room = stored-zeros work work' _ (layerSize c) (v .long) room cell (v .rest)
+    where
+      cell : (e : ℕ) → e < (c .top + 1) * (c .premium + 1) → getD work' e 0 ≡ f (e / (c .premium + 1)) (e % (c .premium + 1))
+      cell e l =
+          let p : 0 < c .premium + 1 = omega arith in
+          let i : 0 + (e / (c .premium + 1) * (c .premium + 1) + e % (c .premium + 1)) ≡ e = let d = div-add-mod' e (c .premium + 1) in omega arith in
+          let h = div-lt-iff-lt-mul p .1 l in
+          let m = mod-lt e p in
+          ap (λ (j : ℕ). getD work' j 0) (sym i) ∙ v .values (e / (c .premium + 1)) (e % (c .premium + 1)) (omega arith) (omega arith)
+
+-- maturity values put into the first layer change nothing that is kept
+pub first-from : {f : ℕ → ℕ → ℕ} {c : Terms} {work work₁ work' : List ℕ} (g : ℕ → ℕ)
+    → work₁ ≡ stored work 0 g (layerSize c) → First f c work₁ work' → First f c work work'
+first-from {c = c} {work = work} g e v = record {
+  long = v .long ∙ ap length e ∙ length-stored work 0 g (layerSize c);
+  values = v .values;
+  rest = λ x h. v .rest x h ∙ ap (λ (xs : List ℕ). getD xs x 0) e ∙ stored-out work 0 g (layerSize c) x (inr (omega arith));
+}
+
+-- .. and are what it then holds
+pub first-mature : {work' : List ℕ} (c : Terms) (work : List ℕ) → layerSize c ≤ length work
+    → work' ≡ stored work 0 (flat (c .premium + 1) maturityValue) (layerSize c)
+    → (w a : ℕ) → w ≤ c .top → a ≤ c .premium → cells work' 0 (c .premium + 1) w a ≡ maturityValue w a
+unfolding layerSize
+first-mature c work room e w a h l =
+    ap (λ (xs : List ℕ). cells xs 0 (c .premium + 1) w a) e
+    ∙ layer-stored work 0 (c .premium + 1) (c .top + 1) maturityValue (omega arith) .cell w a (omega arith) (omega arith)
+
+pub settling : {c : Terms} {count : ℕ} {list work' : List ℕ} (work : List ℕ) → Valid c → Listing list count
+    → layerSize c + layerSize c ≤ length work → length work' ≡ length work → Settling c count work' list
+settling work valid listing room long = record { listing = listing; layers = record { valid = valid; room = omega arith } }
+
+-- ---- what was read
+abbrev pub refused-by : Outcome → declared.Answer
+refused-by o = refusal (o .number) (o .place)
+
+pub listing : {list : List ℕ} {returns : listed.Returns} → Listed list returns → Listing list (returns .count)
+unfolding returnsOf
+listing {list} told = record {
+  few = rw (told .count) (told .valid .count);
+  long = rw (told .count) (let d = div-add-mod' (length list) 4 in omega arith);
+  valid = told .valid;
+  all = told .count;
+}
+
+pub ready : {bytes list : List ℕ} {c : Contract} {returns : listed.Returns} → Read bytes c → Listed list returns → Ready (termsIn c) (returns .count) list
+ready known told = record { valid = known .valid; listing = listing told }
