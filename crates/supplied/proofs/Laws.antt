@@ -3,24 +3,35 @@ use mathlib.Core.List.{List, _++_}
 use mathlib.Core.Logic.{inl, inr}
 use mathlib.Core.Path.{_≡_, refl, ap, ap₂, sym, _∙_, subst}
 use Prim.Native.Nat.{ℕ, suc, _+_, _-_, _*_, _/_, _%_, _≤_, _<_, max}
-use native.Mathlib.Nat.{le-trans, le-of-eq, max-le, min-le-right, sub-le, mul-le-mul}
+use native.Mathlib.Nat.{zero-add, le-trans, le-of-eq, max-le, min-le-right, sub-le, mul-le-mul}
 use native.Mathlib.Omega.{arith}
 use lib.Dec.{T}
-use lib.ListN.{length, getD}
-use borrow.Rule.Slice.PartMut.{midOf}
-use Rattle.decision.specs.Layers.{low-digit}
+use lib.ListN.{length, getD, drop, replicate}
+use borrow.Rule.Slice.PartMut.{midOf, mid-len}
+use Rattle.decision.specs.Index.{first}
+use Rattle.decision.specs.Process.{worth, startTableValue}
+use Rattle.decision.specs.Optimal.{table-step, table-last}
+use Rattle.decision.specs.Layers.{low-digit, lookup, entry, layer}
 use Rattle.slices.specs.Parts.{part-at}
 use Rattle.slices.specs.Stored.{stored, length-stored, stored-in, stored-out}
-use Rattle.slices.specs.Rows.{cells, flat, cells-kept, within-rows, rows-le, rows-step, row-next, layer-stored}
-use Rattle.rules.specs.Contract.{Terms, Returns, returnsOf}
-use Rattle.rules.specs.Date.{dynamic, freeAmount, admits, cash, balanceAfter, guaranteeAfter}
-use Rattle.rules.specs.FixedTerm.{layerSize}
-use Rattle.laws.specs.Supplied.{badAt, badEntry}
+use Rattle.slices.specs.Rows.{cells, flat, cells-kept, within-rows, rows-le, rows-step, rows-before, row-next, layer-stored}
+use Rattle.rules.specs.Contract.{Terms, termsOf, Returns, returnsOf}
+use Rattle.rules.specs.Date.{dynamic, freeAmount, admits, cash, balanceAfter, guaranteeAfter, maturityValue, margin}
+use Rattle.rules.specs.Product.{suppliedValue, suppliedLayer}
+use Rattle.rules.specs.Refusals.{Verdict, accepted, refused, verdict, numberOf, placeOf, onSuccess, recordChecks, listChecks}
+use Rattle.rules.specs.FixedTerm.{freeIn, admissibleIn, cashIn, afterIn, reachBy, expectOver, startOf, processOf, layerSize, layoutOf, fixedTerm}
+use Rattle.rules.specs.Operations.{productOf, answer, workAfter, tableSize, suppliedVerdict, suppliedAnswer, suppliedWork}
+use Rattle.laws.specs.Supplied.{badAt, badEntry, tableChecks, supplied-verdict, all-admitted}
 use Rattle.laws.specs.Date.{dynamic-is, guarantee-le}
-use Rattle.laws.specs.Bounds.{cash-le}
-use Rattle.expect.specs.Expected.{expected, expected-le}
+use Rattle.laws.specs.Accepted.{Valid, andThen}
+use Rattle.laws.specs.Bounds.{cash-le, table-value-le}
+use Rattle.expect.specs.Expected.{expected, reachedSum, Listing, expected-le, expected-same}
 use Rattle.choose.specs.State.{worthOver, State}
-use Rattle.supplied.specs.Followed.{followed, Following, OneDate, Back}
+use Rattle.dates.specs.Back.{at}
+use Rattle.valuing.specs.declared.Answer as declared
+use Rattle.valuing.specs.Answered.{answerOf, refusal, Settled}
+use Rattle.valuing.specs.First.{First, first-layer, first-mature}
+use Rattle.supplied.specs.Followed.{followed, Following, OneDate, Back, tableOn, Starting, Answered}
 
 -- the entry of a state that a withdrawal leads to
 pub place : {xs : List ℕ} {base stride w a m : ℕ} → State xs base stride w a m → (x y : ℕ) → x ≤ w → y ≤ a → base + (x * stride + y) < length xs
@@ -165,3 +176,148 @@ module _ (c : Terms) (table : List ℕ) (j : ℕ) (h : j < c .dates - 1) where
   search-same e l =
       let s = rows-step (layerSize c) j in
       ap₂ (badAt c) (low-digit j e (layerSize c) l) (sym (part-at (j * layerSize c) ((j + 1) * layerSize c) e table (omega arith)))
+
+-- ---- from one date to the date before it
+tableOn-back : (c : Terms) (rs : Returns) (table : List ℕ) (i w a : ℕ) → i < c .dates
+    → worthOver (expected c rs (tableOn c rs table (suc i))) (c .penalty) (freeAmount (c .level) a) w a (lookup (layoutOf c) table i (at w a)) ≡ tableOn c rs table i w a
+unfolding processOf cashIn afterIn reachBy expectOver freeIn worth worthOver expected reachedSum
+tableOn-back c rs table i w a l = sym (table-step (processOf c rs) (lookup (layoutOf c) table) i (at w a) l)
+
+last-is : (c : Terms) (rs : Returns) (table : List ℕ) (w a : ℕ) → tableOn c rs table (c .dates) w a ≡ maturityValue w a
+unfolding processOf
+last-is c rs table w a = table-last (processOf c rs) (lookup (layoutOf c) table) (at w a)
+
+admitted-at : (c : Terms) (rs : Returns) (table : List ℕ) → Valid c → tableSize c ≤ first (badEntry c table) (tableSize c)
+    → (i w a : ℕ) → 0 < i → i < c .dates → w ≤ c .top → a ≤ c .premium → T (admits dynamic (freeAmount (c .level) a) w (lookup (layoutOf c) table i (at w a)))
+unfolding admissibleIn freeIn processOf
+admitted-at c rs table valid none i w a some before h l =
+    all-admitted c rs table valid none i (at w a) (record { from = some; before = before; range = record { account = h; guarantee = l } })
+
+module _ {c : Terms} {count : ℕ} {work₀ table list work : List ℕ} (s : Starting c count work₀ table list) {i : ℕ} (some : 0 < i) (before : i < c .dates)
+    (v : First (tableOn c (returnsOf list) table (suc i)) c work₀ work)
+  where
+    pub layer-end : i * layerSize c ≡ (i - 1) * layerSize c + layerSize c
+    layer-end = rows-before (layerSize c) i some
+
+    pub layer-within : i * layerSize c ≤ length table
+    unfolding tableSize
+    layer-within = let l = rows-le (layerSize c) i (c .dates - 1) (omega arith) in omega (arith, s .entries)
+
+    -- the entries of the date's layer
+    amount-is : (w a : ℕ) → w ≤ c .top → a ≤ c .premium
+        → cells (midOf ((i - 1) * layerSize c) (i * layerSize c - (i - 1) * layerSize c) table) 0 (c .premium + 1) w a ≡ lookup (layoutOf c) table i (at w a)
+    unfolding lookup entry layoutOf layerSize
+    amount-is w a h l =
+        let z = layer-end in
+        let p = within-rows (c .premium + 1) (c .top + 1) w a (omega arith) (omega arith) in
+        part-at ((i - 1) * ((c .top + 1) * (c .premium + 1))) (i * ((c .top + 1) * (c .premium + 1))) (0 + (w * (c .premium + 1) + a)) table (omega arith)
+        ∙ ap (λ (x : ℕ). getD table ((i - 1) * ((c .top + 1) * (c .premium + 1)) + x) 0) (zero-add (w * (c .premium + 1) + a))
+
+    pub one-date : OneDate c count work (midOf ((i - 1) * layerSize c) (i * layerSize c - (i - 1) * layerSize c) table) list
+    one-date = record {
+      listing = s .listing;
+      layers = record { valid = s .layers .valid; room = omega (arith, s .layers .room, v .long) };
+      layer-is = mid-len ((i - 1) * layerSize c) (i * layerSize c) table layer-within ∙ (let e = layer-end in omega arith);
+      admitted = λ w a h l. admitted-is w a h l;
+      small = λ w a h l.
+          le-trans (le-of-eq (v .values w a h l))
+          (le-trans (table-value-le c (returnsOf list) (s .layers .valid) (s .listing .valid) (lookup (layoutOf c) table) (all-admitted c (returnsOf list) table (s .layers .valid) (s .none-bad)) (suc i) (at w a) (omega arith) (omega arith) (record { account = h; guarantee = l })) bound);
+    }
+      where
+        bound : 10000 * c .top + (c .dates - suc i) * (10000 * c .top) ≤ 4000000000
+        bound =
+            let t : 10000 * c .top ≤ 40000000 = omega (arith, s .layers .valid .top) in
+            let n : c .dates - suc i ≤ 40 = omega (arith, s .layers .valid .dates) in
+            let p = mul-le-mul n t in
+            omega arith
+
+        admitted-is : (w a : ℕ) → w ≤ c .top → a ≤ c .premium
+            → T (admits dynamic (freeAmount (c .level) a) w (cells (midOf ((i - 1) * layerSize c) (i * layerSize c - (i - 1) * layerSize c) table) 0 (c .premium + 1) w a))
+        admitted-is w a h l = subst (λ (t : ℕ). T (admits dynamic (freeAmount (c .level) a) w t)) (sym (amount-is w a h l)) (admitted-at c (returnsOf list) table (s .layers .valid) (s .none-bad) i w a some before h l)
+
+    pub first-before : (work₁ : List ℕ) → Back c (returnsOf list) work (midOf ((i - 1) * layerSize c) (i * layerSize c - (i - 1) * layerSize c) table) work₁
+        → First (tableOn c (returnsOf list) table (suc (i - 1))) c work₀ work₁
+    first-before work₁ d = record {
+      long = d .long ∙ v .long;
+      values = λ w a h l.
+          d .values w a h l
+          ∙ ap (λ (t : ℕ). worthOver (expected c (returnsOf list) (cells work 0 (c .premium + 1))) (c .penalty) (freeAmount (c .level) a) w a t) (amount-is w a h l)
+          ∙ worth-same _ _ (c .penalty) (freeAmount (c .level) a) w a (lookup (layoutOf c) table i (at w a)) (λ x y p q. expected-same c (returnsOf list) (cells work 0 (c .premium + 1)) (tableOn c (returnsOf list) table (suc i)) x y (λ z m. v .values z y m (le-trans q l)))
+          ∙ tableOn-back c (returnsOf list) table i w a before
+          ∙ ap (λ (n : ℕ). tableOn c (returnsOf list) table n w a) (let up : i ≡ suc (i - 1) = omega arith in up);
+      rest = λ x h. d .rest x h ∙ v .rest x h;
+    }
+
+pub first-none : {c : Terms} {count : ℕ} {work table list : List ℕ} → Starting c count work table list
+    → First (tableOn c (returnsOf list) table (suc (c .dates - 1))) c work work
+first-none {c} {count} {work} {table} {list} s =
+    let last : c .dates ≡ suc (c .dates - 1) = omega (arith, s .layers .valid .dates-least) in
+    record {
+      long = refl;
+      values = λ w a h l. s .mature w a h l ∙ sym (last-is c (returnsOf list) table w a) ∙ ap (λ (n : ℕ). tableOn c (returnsOf list) table n w a) last;
+      rest = λ x h. refl;
+    }
+
+pub starting : {c : Terms} {count : ℕ} {list work' table : List ℕ} (work : List ℕ) → Valid c → Listing list count
+    → layerSize c + layerSize c ≤ length work → tableSize c ≤ length table → tableSize c ≤ first (badEntry c table) (tableSize c)
+    → work' ≡ stored work 0 (flat (c .premium + 1) maturityValue) (layerSize c) → Starting c count work' table list
+starting {c} {work' = work'} work valid listing room room-table none e = record {
+  listing = listing;
+  layers = record { valid = valid; room = let l = ap length e ∙ length-stored work 0 (flat (c .premium + 1) maturityValue) (layerSize c) in omega arith };
+  entries = room-table;
+  none-bad = none;
+  mature = first-mature c work (omega arith) e;
+}
+
+module _ (rs : Returns) (table : List ℕ) {c : Terms} {work work' : List ℕ} (d : First (tableOn c rs table 1) c work work') where
+  supplied-value : expected c rs (cells work' 0 (c .premium + 1)) (c .premium) (c .premium) ≡ suppliedValue (fixedTerm c rs) table
+  unfolding suppliedValue startTableValue fixedTerm processOf expectOver startOf reachBy expected reachedSum
+  supplied-value = expected-same c rs (cells work' 0 (c .premium + 1)) (tableOn c rs table 1) (c .premium) (c .premium) (λ w l. d .values w (c .premium) l (omega arith))
+
+  supplied-layer : layerSize c + layerSize c ≤ length work
+      → stored work' (layerSize c) (λ (i : ℕ). 0) (layerSize c) ≡ suppliedLayer (fixedTerm c rs) table ++ replicate (layerSize c) 0 ++ drop (2 * layerSize c) work
+  unfolding suppliedLayer layer fixedTerm layoutOf
+  supplied-layer room = first-layer d room
+
+-- ---- what terms that were read answer
+module _ {c : Terms} {rs : Returns} {v : Verdict} {work table : List ℕ} where
+  pub answered-refused : (n p : ℕ) (r : declared.Answer) → v ≡ refused n p → r ≡ refusal n p → Answered c rs v work table r work
+  unfolding answer workAfter onSuccess numberOf placeOf
+  answered-refused n p r e f = record { answer-is = rw e f; work-is = rw e }
+
+  pub answered-accepted : {work' : List ℕ} (r : declared.Answer) (work'' : List ℕ) → v ≡ accepted → layerSize c + layerSize c ≤ length work
+      → First (tableOn c rs table 1) c work work' → Settled c rs work' r work'' → Answered c rs v work table r work''
+  unfolding answer workAfter onSuccess numberOf placeOf
+  answered-accepted r work'' e room d s =
+      let value : r .value ≡ suppliedValue (fixedTerm c rs) table = s .value-is ∙ supplied-value rs table d in record {
+        answer-is = rw e (λ i. record {
+          number = s .number-is i;
+          place = s .place-is i;
+          value = value i;
+          margin = (s .margin-is ∙ ap (λ (x : ℕ). margin x (c .premium)) value) i;
+        });
+        work-is = rw e (s .work-is ∙ supplied-layer rs table d room);
+      }
+
+-- ---- what a call answers, on any input
+module _ (bytes list work table : List ℕ) (r : declared.Answer) where
+  pub record Whole (work' : List ℕ) : Type 0 where
+    pub answer-is : r ≡ answerOf (suppliedAnswer bytes list work table)
+    pub work-is : work' ≡ suppliedWork bytes list work table
+
+  pub whole : (work' : List ℕ) → verdict (recordChecks bytes) ≡ accepted → verdict (listChecks list) ≡ accepted → (c : Terms) → c ≡ termsOf bytes
+      → Answered c (returnsOf list) (verdict (tableChecks c work table)) work table r work' → Whole work'
+  unfolding suppliedAnswer suppliedWork productOf
+  whole work' e f c same a =
+      let all : suppliedVerdict bytes list work table ≡ verdict (tableChecks (termsOf bytes) work table) =
+      supplied-verdict bytes list work table
+      ∙ ap₂ (λ (x y : Verdict). andThen (andThen x y) (verdict (tableChecks (termsOf bytes) work table))) e f in
+      let b = subst (λ (x : Terms). Answered x (returnsOf list) (verdict (tableChecks x work table)) work table r work') same a in
+      record { answer-is = rw all (b .answer-is); work-is = rw all (b .work-is) }
+
+  pub whole-refused : (n p : ℕ) → andThen (verdict (recordChecks bytes)) (verdict (listChecks list)) ≡ refused n p → r ≡ refusal n p → Whole work
+  unfolding suppliedAnswer suppliedWork answer workAfter onSuccess numberOf placeOf
+  whole-refused n p e f =
+      let all : suppliedVerdict bytes list work table ≡ refused n p =
+      supplied-verdict bytes list work table ∙ ap (λ (x : Verdict). andThen x (verdict (tableChecks (termsOf bytes) work table))) e in
+      record { answer-is = rw all f; work-is = rw all }

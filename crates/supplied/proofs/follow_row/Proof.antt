@@ -41,11 +41,12 @@ wide-amount-requires : tie.Need-wide-amount-requires Inv-loop μ-loop
 wide-amount-requires c κs = search needs
 
 worth-requires : tie.Need-worth-requires Inv-loop μ-loop
-worth-requires c κs = 
-    let amount = c .before .wide-amount .ensures .0 ∙ ap (λ (i : ℕ). getD (c .before .before .before .before .before .before .before .args .layer .now) i 0) (sym (zero-add (c .before .before .before .before .before .before .before .args .w * c .before .before .before .before .before .before .before .args .stride + c .before .before .before .before .loop .a))) in
-    (subst (λ (xs : List ℕ). State xs (c .before .before .before .before .before .before .before .args .base) (c .before .before .before .before .before .before .before .args .stride) (c .before .before .before .before .before .before .before .args .w) (c .before .before .before .before .loop .a) (freeAmount (c .before .before .before .before .before .before .before .args .level) (c .before .before .before .before .loop .a))) (sym (c .before .before .before .before .loop .inv .1)) (state-on (c .before .before .before .before .before .before .before .args .w) (c .before .before .before .before .before .before .before .pre) _ (c .before .before .before .before .loop .a) (c .before .before .before .before .loop .inv .0) (c .before .before .before .before .loop .a) (c .before .before .before .loop-test .taken)),
-    c .before .before .before .before .before .before .before .pre .rate-is,
-    le-trans (le-of-eq amount) (amount-within (c .before .before .before .before .before .before .before .args .w) (c .before .before .before .before .before .before .before .pre) (c .before .before .before .before .loop .a) (c .before .before .before .loop-test .taken)))
+worth-requires c κs =
+    let amount = c .before .wide-amount .ensures .0 ∙ ap (λ (i : ℕ). getD (c .before .before .before .before .before .before .before .args .layer .now) i 0) (sym (zero-add (c .before .before .before .before .before .before .before .args .w * c .before .before .before .before .before .before .before .args .stride + c .before .before .before .before .loop .a))) in (
+      subst (λ (xs : List ℕ). State xs (c .before .before .before .before .before .before .before .args .base) (c .before .before .before .before .before .before .before .args .stride) (c .before .before .before .before .before .before .before .args .w) (c .before .before .before .before .loop .a) (freeAmount (c .before .before .before .before .before .before .before .args .level) (c .before .before .before .before .loop .a))) (sym (c .before .before .before .before .loop .inv .1)) (state-on (c .before .before .before .before .before .before .before .args .w) (c .before .before .before .before .before .before .before .pre) _ (c .before .before .before .before .loop .a) (c .before .before .before .before .loop .inv .0) (c .before .before .before .before .loop .a) (c .before .before .before .loop-test .taken)),
+      c .before .before .before .before .before .before .before .pre .rate-is,
+      le-trans (le-of-eq amount) (amount-within (c .before .before .before .before .before .before .before .args .w) (c .before .before .before .before .before .before .before .pre) (c .before .before .before .before .loop .a) (c .before .before .before .loop-test .taken)),
+    )
 
 value-is : (c : tie.After-worth Inv-loop μ-loop) → c .worth .result ≡ followed (cells (c .before .before .before .before .before .before .before .before .args .work .now) (c .before .before .before .before .before .before .before .before .args .base) (c .before .before .before .before .before .before .before .before .args .stride)) (cells (c .before .before .before .before .before .before .before .before .args .layer .now) 0 (c .before .before .before .before .before .before .before .before .args .stride)) (c .before .before .before .before .before .before .before .before .args .rate) (c .before .before .before .before .before .before .before .before .args .level) (c .before .before .before .before .before .before .before .before .args .w) (c .before .before .before .before .before .loop .a)
 value-is c =

@@ -1,0 +1,40 @@
+-- `supplied::follow_date` meets its contract. Assumes nothing.
+use borrow.Author.Needs.{needs}
+use native.Mathlib.Omega.{arith}
+use Rattle.valuing.specs.First.{size-le}
+use Rattle.supplied.proofs.Laws.{following, back}
+use Rattle.supplied.proofs.follow_date.Statement.{statement}
+use Rattle.supplied.proofs.follow_date.Tie as tie
+
+add-stride : tie.Need-add-stride
+add-stride c = search needs
+
+add-n : tie.Need-add-n
+add-n c = search needs
+
+expect-layer-requires : tie.Need-expect-layer-requires
+expect-layer-requires c κs = search needs
+
+mul-follow-layer : tie.Need-mul-follow-layer
+mul-follow-layer c = let s = size-le (c .before .before .before .before .before .before .before .before .before .before .pre .layers .valid) in omega arith
+
+follow-layer-requires : tie.Need-follow-layer-requires
+follow-layer-requires c κs = following (c .before .before .before .before .before .before .before .before .before .before .pre) (c .before .before .before .expect-layer .last .0) (c .before .before .before .expect-layer .ensures)
+
+same-length : tie.Need-same-length
+same-length c = search needs
+
+returns : tie.Need-returns
+returns c = back (c .before .before .before .before .before .before .before .before .before .before .before .before .before .pre) (c .before .before .before .before .before .before .expect-layer .last .0) (c .before .before .before .before .before .before .expect-layer .ensures) _ (c .before .before .follow-layer .ensures)
+
+pub follow-date-spec : {M : Type 1} → statement M
+follow-date-spec =
+    tie.close
+    (tie.spec
+    add-stride
+    add-n
+    expect-layer-requires
+    mul-follow-layer
+    follow-layer-requires
+    same-length
+    returns)

@@ -1,0 +1,108 @@
+-- `supplied::valued` meets its contract. Assumes nothing.
+use Prim.Native.Nat.{_+_, _-_, _*_}
+use Prim.Native.Nat.{ℕ}
+use borrow.Author.Needs.{needs}
+use borrow.Author.Tests.{lt-ltb, le-ltb}
+use lib.Dec.{ltb}
+use mathlib.Core.Path.{ap, sym, _∙_}
+use native.Mathlib.Omega.{arith}
+use Rattle.contract.specs.Reading.{termsIn}
+use Rattle.laws.specs.Supplied.{slices-refused, entry-refused, table-accepted}
+use Rattle.laws.specs.Valuing.{lent-room}
+use Rattle.rules.specs.FixedTerm.{layerSize}
+use Rattle.rules.specs.Operations.{tableSize}
+use Rattle.valuing.specs.Answered.{refusal}
+use Rattle.valuing.specs.First.{size-le, dates-le, first-from, settling}
+use Rattle.supplied.proofs.Laws.{answered-refused, answered-accepted, starting}
+use Rattle.supplied.proofs.valued.Statement.{statement}
+use Rattle.supplied.proofs.valued.Tie as tie
+
+too-short-requires : tie.Need-too-short-requires
+too-short-requires c κs = search needs
+
+refused-requires : tie.Need-refused-requires
+refused-requires c κs = search needs
+
+same-length : tie.Need-same-length
+same-length c = search needs
+
+returns : tie.Need-returns
+returns c = answered-refused 11 0 _ (slices-refused (termsIn (c .before .before .before .before .before .before .before .args .c)) (c .before .before .before .before .before .before .before .args .work .now) (c .before .before .before .before .before .before .before .args .table .now) (sym (c .before .before .too-short .ensures) ∙ c .before .if1 .taken)) (c .refused .ensures)
+
+first-bad-requires : tie.Need-first-bad-requires
+first-bad-requires c κs = (c .before .before .before .before .before .before .pre .valid, lent-room (termsIn (c .before .before .before .before .before .before .args .c)) 0 (c .before .before .before .before .before .before .args .work .now) (c .before .before .before .before .before .before .args .table .now) (sym (c .before .too-short .ensures) ∙ c .if1 .left) .1)
+
+sub-if2 : tie.Need-sub-if2
+sub-if2 c = search needs
+
+add-if2 : tie.Need-add-if2
+add-if2 c = search needs
+
+add-if2-2 : tie.Need-add-if2-2
+add-if2-2 c = search needs
+
+mul-if2 : tie.Need-mul-if2
+mul-if2 c = let s = size-le (c .before .before .before .before .before .before .before .before .before .before .pre .valid) in omega arith
+
+mul-if2-2 : tie.Need-mul-if2-2
+mul-if2-2 c = let s = dates-le (c .before .before .before .before .before .before .before .before .before .before .pre .valid) in omega arith
+
+refused-requires-2 : tie.Need-refused-requires-2
+refused-requires-2 c κs = search needs
+
+same-length-2 : tie.Need-same-length-2
+same-length-2 c = search needs
+
+returns-2 : tie.Need-returns-2
+unfolding layerSize tableSize
+returns-2 c = answered-refused 14 _ _ (entry-refused (termsIn (c .before .before .before .before .before .before .before .before .before .before .before .before .args .c)) (c .before .before .before .before .before .before .before .before .before .before .before .before .args .work .now) (c .before .before .before .before .before .before .before .before .before .before .before .before .args .table .now) (sym (c .before .before .before .before .before .before .before .too-short .ensures) ∙ c .before .before .before .before .before .before .if1 .left) (sym (ap (λ (x : ℕ). ltb x ((c .before .before .before .before .before .before .before .before .before .before .before .before .args .c .dates - 1) * ((c .before .before .before .before .before .before .before .before .before .before .before .before .args .c .top + 1) * (c .before .before .before .before .before .before .before .before .before .before .before .before .args .c .premium + 1)))) (c .before .before .before .before .before .first-bad .ensures)) ∙ lt-ltb _ _ (c .before .if2 .taken))) (c .refused2 .ensures ∙ ap (λ (x : ℕ). refusal 14 x) (c .before .before .before .before .before .first-bad .ensures))
+
+add-fill-maturity : tie.Need-add-fill-maturity
+add-fill-maturity c = search needs
+
+add-fill-maturity-2 : tie.Need-add-fill-maturity-2
+add-fill-maturity-2 c = search needs
+
+fill-maturity-requires : tie.Need-fill-maturity-requires
+unfolding layerSize tableSize
+fill-maturity-requires c κs = let v = c .before .before .before .before .before .before .before .before .before .before .before .before .before .before .pre .valid in let r = lent-room (termsIn (c .before .before .before .before .before .before .before .before .before .before .before .before .before .before .args .c)) 0 (c .before .before .before .before .before .before .before .before .before .before .before .before .before .before .args .work .now) (c .before .before .before .before .before .before .before .before .before .before .before .before .before .before .args .table .now) (sym (c .before .before .before .before .before .before .before .before .before .too-short .ensures) ∙ c .before .before .before .before .before .before .before .before .if1 .left) in (omega (arith, v .top), omega (arith, v .top, v .premium), omega (arith, r .0))
+
+follow-dates-requires : tie.Need-follow-dates-requires
+unfolding layerSize tableSize
+follow-dates-requires c κs = let r = lent-room (termsIn (c .before .before .before .before .before .before .before .before .before .before .before .before .before .before .before .before .before .before .args .c)) 0 (c .before .before .before .before .before .before .before .before .before .before .before .before .before .before .before .before .before .before .args .work .now) (c .before .before .before .before .before .before .before .before .before .before .before .before .before .before .before .before .before .before .args .table .now) (sym (c .before .before .before .before .before .before .before .before .before .before .before .before .before .too-short .ensures) ∙ c .before .before .before .before .before .before .before .before .before .before .before .before .if1 .left) in starting (c .before .before .before .before .before .before .before .before .before .before .before .before .before .before .before .before .before .before .args .work .now) (c .before .before .before .before .before .before .before .before .before .before .before .before .before .before .before .before .before .before .pre .valid) (c .before .before .before .before .before .before .before .before .before .before .before .before .before .before .before .before .before .before .pre .listing) (r .0) (r .1) (rw (sym (c .before .before .before .before .before .before .before .before .before .before .before .first-bad .ensures)) (c .before .before .before .before .before .before .before .if2 .left)) (c .before .before .before .fill-maturity .ensures)
+
+settle-requires : tie.Need-settle-requires
+unfolding layerSize tableSize
+settle-requires c κs = let d = first-from _ (c .before .before .before .before .before .before .before .fill-maturity .ensures) (c .before .before .before .follow-dates .ensures) in settling (c .before .before .before .before .before .before .before .before .before .before .before .before .before .before .before .before .before .before .before .before .before .before .args .work .now) (c .before .before .before .before .before .before .before .before .before .before .before .before .before .before .before .before .before .before .before .before .before .before .pre .valid) (c .before .before .before .before .before .before .before .before .before .before .before .before .before .before .before .before .before .before .before .before .before .before .pre .listing) (lent-room (termsIn (c .before .before .before .before .before .before .before .before .before .before .before .before .before .before .before .before .before .before .before .before .before .before .args .c)) 0 (c .before .before .before .before .before .before .before .before .before .before .before .before .before .before .before .before .before .before .before .before .before .before .args .work .now) (c .before .before .before .before .before .before .before .before .before .before .before .before .before .before .before .before .before .before .before .before .before .before .args .table .now) (sym (c .before .before .before .before .before .before .before .before .before .before .before .before .before .before .before .before .before .too-short .ensures) ∙ c .before .before .before .before .before .before .before .before .before .before .before .before .before .before .before .before .if1 .left) .0) (d .long)
+
+same-length-3 : tie.Need-same-length-3
+same-length-3 c = search needs
+
+returns-3 : tie.Need-returns-3
+unfolding layerSize tableSize
+returns-3 c = let d = first-from _ (c .before .before .before .before .before .before .before .before .before .before .fill-maturity .ensures) (c .before .before .before .before .before .before .follow-dates .ensures) in answered-accepted _ _ (table-accepted (termsIn (c .before .before .before .before .before .before .before .before .before .before .before .before .before .before .before .before .before .before .before .before .before .before .before .before .before .args .c)) (c .before .before .before .before .before .before .before .before .before .before .before .before .before .before .before .before .before .before .before .before .before .before .before .before .before .args .work .now) (c .before .before .before .before .before .before .before .before .before .before .before .before .before .before .before .before .before .before .before .before .before .before .before .before .before .args .table .now) (sym (c .before .before .before .before .before .before .before .before .before .before .before .before .before .before .before .before .before .before .before .before .too-short .ensures) ∙ c .before .before .before .before .before .before .before .before .before .before .before .before .before .before .before .before .before .before .before .if1 .left) (sym (ap (λ (x : ℕ). ltb x ((c .before .before .before .before .before .before .before .before .before .before .before .before .before .before .before .before .before .before .before .before .before .before .before .before .before .args .c .dates - 1) * ((c .before .before .before .before .before .before .before .before .before .before .before .before .before .before .before .before .before .before .before .before .before .before .before .before .before .args .c .top + 1) * (c .before .before .before .before .before .before .before .before .before .before .before .before .before .before .before .before .before .before .before .before .before .before .before .before .before .args .c .premium + 1)))) (c .before .before .before .before .before .before .before .before .before .before .before .before .before .before .before .before .before .before .first-bad .ensures)) ∙ le-ltb _ _ (c .before .before .before .before .before .before .before .before .before .before .before .before .before .before .if2 .left))) (lent-room (termsIn (c .before .before .before .before .before .before .before .before .before .before .before .before .before .before .before .before .before .before .before .before .before .before .before .before .before .args .c)) 0 (c .before .before .before .before .before .before .before .before .before .before .before .before .before .before .before .before .before .before .before .before .before .before .before .before .before .args .work .now) (c .before .before .before .before .before .before .before .before .before .before .before .before .before .before .before .before .before .before .before .before .before .before .before .before .before .args .table .now) (sym (c .before .before .before .before .before .before .before .before .before .before .before .before .before .before .before .before .before .before .before .before .too-short .ensures) ∙ c .before .before .before .before .before .before .before .before .before .before .before .before .before .before .before .before .before .before .before .if1 .left) .0) d (c .before .before .settle .ensures)
+
+pub valued-spec : {M : Type 1} → statement M
+valued-spec =
+    tie.close
+    (tie.spec
+    too-short-requires
+    refused-requires
+    same-length
+    returns
+    first-bad-requires
+    sub-if2
+    add-if2
+    add-if2-2
+    mul-if2
+    mul-if2-2
+    refused-requires-2
+    same-length-2
+    returns-2
+    add-fill-maturity
+    add-fill-maturity-2
+    fill-maturity-requires
+    follow-dates-requires
+    settle-requires
+    same-length-3
+    returns-3)
