@@ -3,7 +3,7 @@ ghost use mathlib.Core.Path.{_≡_};
 ghost use Prim.Native.Nat.{ℕ};
 ghost use Rattle.rules.specs.Product.{Claim};
 ghost use Rattle.rules.specs.Refusals.{numberOf};
-ghost use Rattle.rules.specs.Operations.{productOf, behaviourOf, recordVerdict, bookingVerdict, bookingBuffer, valuingAnswer, valuingWork, valuingTable};
+ghost use Rattle.rules.specs.Operations.{productOf, behaviourOf, recordVerdict, bookingVerdict, bookingBuffer, valuingAnswer, valuingWork, valuingTable, suppliedAnswer, suppliedWork};
 use contract::Contract;
 
 // Checks a record. The place of each of its refusals is 0.
@@ -61,6 +61,31 @@ pub extern "C" fn gmwb_value(
     ensures { λ r. ⌜ (r ≡ 0 → Claim (productOf (now (bytes .entry)) (now (list .entry))) (behaviourOf behaviour) (now (value .exit)) (now (table .exit))) ⌝ }
 {
     let answer = valuing::value(bytes, list, behaviour as usize, work, table);
+    *place = answer.place;
+    *value = answer.value;
+    let difference = answer.margin;
+    *margin = difference;
+    answer.number
+}
+
+// Values a supplied table.
+#[no_mangle]
+pub extern "C" fn gmwb_value_table(
+    bytes: &[u8],
+    list: &[u8],
+    work: &mut [u32],
+    table: &[u16],
+    place: &mut u64,
+    value: &mut u32,
+    margin: &mut i64,
+) -> u32
+    ensures { λ r. ⌜ r ≡ suppliedAnswer (now (bytes .entry)) (now (list .entry)) (now (work .entry)) (now (table .entry)) .number ⌝ }
+    ensures { λ _. ⌜ now (place .exit) ≡ suppliedAnswer (now (bytes .entry)) (now (list .entry)) (now (work .entry)) (now (table .entry)) .place ⌝ }
+    ensures { λ _. ⌜ now (value .exit) ≡ suppliedAnswer (now (bytes .entry)) (now (list .entry)) (now (work .entry)) (now (table .entry)) .value ⌝ }
+    ensures { λ _. ⌜ now (margin .exit) ≡ suppliedAnswer (now (bytes .entry)) (now (list .entry)) (now (work .entry)) (now (table .entry)) .margin ⌝ }
+    ensures { λ _. ⌜ now (work .exit) ≡ suppliedWork (now (bytes .entry)) (now (list .entry)) (now (work .entry)) (now (table .entry)) ⌝ }
+{
+    let answer = supplied::value(bytes, list, work, table);
     *place = answer.place;
     *value = answer.value;
     let difference = answer.margin;

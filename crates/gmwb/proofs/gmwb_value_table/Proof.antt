@@ -1,0 +1,20 @@
+-- `gmwb::gmwb_value_table` meets its contract. Assumes nothing.
+use borrow.Author.Needs.{needs}
+use borrow.Author.Needs.{sfits-of}
+use mathlib.Core.Path.{ap, _∙_}
+use mir.Facts.{toZ-ofZ}
+use Rattle.valuing.specs.declared.Answer.{Answer}
+use Rattle.gmwb.proofs.gmwb_value_table.Statement.{statement}
+use Rattle.gmwb.proofs.gmwb_value_table.Tie as tie
+
+value-requires : tie.Need-value-requires
+value-requires c κs = search needs
+
+same-length : tie.Need-same-length
+same-length c = search needs
+
+returns : tie.Need-returns
+returns c = (ap (λ (x : Answer). x .number) (c .before .before .before .value .ensures .0), (ap (λ (x : Answer). x .place) (c .before .before .before .value .ensures .0), (ap (λ (x : Answer). x .value) (c .before .before .before .value .ensures .0), (toZ-ofZ (sfits-of (c .struct-told .given .1 .1 .1 .0 .1)) ∙ ap (λ (x : Answer). x .margin) (c .before .before .before .value .ensures .0), c .before .before .before .value .ensures .1))))
+
+pub gmwb-value-table-spec : {M : Type 1} → statement M
+gmwb-value-table-spec = tie.close (tie.spec value-requires same-length returns)
