@@ -1,6 +1,6 @@
 -- `date::discounted` meets its contract. Assumes nothing.
-use mathlib.Core.Path.{refl}
 use Prim.Native.Nat.{_/_, _%_}
+use mathlib.Core.Path.{refl}
 use native.Mathlib.Omega.{arith}
 use Rattle.rules.specs.Date.{discounted}
 use Rattle.date.proofs.Laws.{product, two-parts}
