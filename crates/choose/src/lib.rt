@@ -64,27 +64,6 @@ fn best_free(work: &[u32], base: usize, stride: usize, w: usize, a: usize, m: us
     best
 }
 
-// A product in parts: whole × w + rest.
-struct Parts {
-    whole: usize,
-    rest: usize,
-}
-
-fn sum_of(x: Parts, y: Parts, w: usize) -> Parts
-    requires { ⌜ (x .rest < w) × (y .rest < w) × (w ≤ topMost) × (x .whole ≤ 16000000) × (y .whole ≤ 4000) ⌝ }
-    ensures { λ r. ⌜ (r .whole * w + r .rest ≡ x .whole * w + x .rest + (y .whole * w + y .rest)) × (r .rest < w) ⌝ }
-{
-    let whole = x.whole + y.whole;
-    let rest = x.rest + y.rest;
-    if rest < w {
-        return Parts { whole, rest };
-    }
-    Parts {
-        whole: whole + 1,
-        rest: rest - w,
-    }
-}
-
 // What amount w - x is worth above m, where the guarantee left is g.
 fn worth_above(
     work: &[u32],
@@ -105,7 +84,8 @@ fn worth_above(
     10000 * t - rate * (t - m) + wide(work[at])
 }
 
-// The best of the amounts m + 1 to w, from w down.
+// The best of the amounts m + 1 to w, from w down. A * x / w is the high half of x * step: step is A * 2^32 / w rounded
+// up, and x times the rounding stays below the 2^32 / w that a remainder leaves.
 fn best_above(
     work: &[u32],
     base: usize,
@@ -118,19 +98,16 @@ fn best_above(
     requires { ⌜ State (now work) base stride w a m × (rate ≤ rateMost) × (m < w) ⌝ }
     ensures { λ r. ⌜ Leading (aboveWorth (cells (now (work .entry)) base stride) rate m w a) (m + 1) w (r .amount) (r .value) ⌝ }
 {
-    let one = Parts {
-        whole: a / w,
-        rest: a % w,
-    };
-    let mut left = Parts { whole: 0, rest: 0 };
+    let step = (a * 4294967296 + w - 1) / w;
+    let mut quotient: usize = 0;
     let mut best = Choice {
         value: worth_above(work, base, stride, w, a, m, rate, 0, 0),
         amount: w,
     };
     let steps = w - m - 1;
     for x in 0..steps {
-        left = sum_of(left, one, w);
-        let g = left.whole;
+        quotient += step;
+        let g = quotient / 4294967296;
         let value = worth_above(work, base, stride, w, a, m, rate, x + 1, g);
         best = first_of(
             Choice {

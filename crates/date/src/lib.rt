@@ -85,10 +85,13 @@ pub fn maturity_value(w: usize, a: usize) -> usize
     10000 * larger(w, a)
 }
 
-// In two parts, so that no product passes 64 bits.
+// In two parts where the product would pass 64 bits.
 pub fn discounted(discount: usize, sum: usize) -> usize
     requires { ⌜ (discount ≤ discountMost) × (sum ≤ 100000000000000000) ⌝ }
     ensures { λ r. ⌜ r ≡ discounted discount sum ⌝ }
 {
+    if sum <= 18000000000000 {
+        return discount * sum / 10000000000;
+    }
     (discount * (sum / 10000) + discount * (sum % 10000) / 10000) / 1000000
 }

@@ -24,6 +24,18 @@ expected c rs v balance a = discounted (c .discount) (reachedSum c rs v balance 
 abbrev pub term : List ℕ → List ℕ → List ℕ → ℕ → ℕ → ℕ
 term work starts weights a k = getD weights k 0 * getD work (getD starts k 0 + a) 0
 
+-- n guarantees, from `from` on, in rows that the slice holds
+pub record Run (work starts weights : List ℕ) (count from n : ℕ) : Type 0 where
+  pub few : count ≤ returnsMost
+  pub short : n ≤ 64
+  pub light : (k : ℕ) → k < count → getD weights k 0 ≤ weightMost
+  pub within : (k : ℕ) → k < count → getD starts k 0 + (from + n) ≤ length work
+
+-- .. and their sums over the first k returns
+pub record Summed (work starts weights sums : List ℕ) (from n k : ℕ) : Type 0 where
+  pub long : n ≤ length sums
+  pub each : (j : ℕ) → j < n → getD sums j 0 ≡ sum (term work starts weights (from + j)) k
+
 -- a row to be filled at `to`, from rows that lie before it
 pub record Row (work starts weights : List ℕ) (count discount to stride : ℕ) : Type 0 where
   pub few : count ≤ returnsMost

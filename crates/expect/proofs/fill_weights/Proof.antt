@@ -27,6 +27,9 @@ add-word c = omega arith
 word-requires : tie.Need-word-requires Inv-loop μ-loop
 word-requires c κs = omega arith
 
+cast-weights : tie.Need-cast-weights Inv-loop μ-loop
+cast-weights c = omega (arith, c .word .ensures .1)
+
 mul-weights : tie.Need-mul-weights Inv-loop μ-loop
 mul-weights c = omega arith
 
@@ -56,6 +59,7 @@ fill-weights-spec =
     mul-word
     add-word
     word-requires
+    cast-weights
     mul-weights
     element-write-weights
     add-k

@@ -1,0 +1,32 @@
+-- `expect::add_all` meets its contract. Assumes nothing.
+use Prim.Native.Nat.{_-_, _≤_}
+use mathlib.Core.Path.{_≡_, subst}
+use native.Mathlib.Omega.{arith}
+use Rattle.expect.specs.Expected.{Summed}
+use Rattle.expect.proofs.add_all.Statement.{statement}
+use Rattle.expect.proofs.add_all.Tie as tie
+
+abbrev Inv-loop : tie.InvT-loop
+Inv-loop sums₀ work starts weights count from n k₀ sums k = (k ≤ count) × Summed work starts weights sums from n k
+
+abbrev μ-loop : tie.MeasureT-loop
+μ-loop sums₀ work starts weights count from n k₀ sums k = count - k
+
+loop-holds : tie.Need-loop-holds Inv-loop μ-loop
+loop-holds c = (omega arith, c .before .pre .1)
+
+add-next-requires : tie.Need-add-next-requires Inv-loop μ-loop
+add-next-requires c κs = (c .before .before .before .before .pre .0, c .before .before .loop .inv .1, c .before .loop-test .taken)
+
+loop-less : tie.Need-loop-less Inv-loop μ-loop
+loop-less c = let e = c .add-next .ensures .1 in let f = c .add-next .ensures .2 in omega arith
+
+loop-again : tie.Need-loop-again Inv-loop μ-loop
+loop-again c = (c .add-next .ensures .2, c .add-next .ensures .0)
+
+returns : tie.Need-returns Inv-loop μ-loop
+returns c = let e : c .before .loop .k ≡ c .before .before .before .args .count = omega arith in subst (Summed (c .before .before .before .args .work .now) (c .before .before .before .args .starts .now) (c .before .before .before .args .weights .now) (c .before .loop .sums) (c .before .before .before .args .from) (c .before .before .before .args .n)) e (c .before .loop .inv .1)
+
+pub add-all-spec : {M : Type 1} → statement M
+add-all-spec =
+    tie.close (tie.spec Inv-loop μ-loop loop-holds add-next-requires loop-less loop-again returns)

@@ -1,0 +1,76 @@
+-- `expect::store_sums` meets its contract. Assumes nothing.
+use Prim.Native.Nat.{_+_, _-_, _≤_}
+use lib.ListN.{length, set, getD}
+use mathlib.Core.Path.{_≡_, refl, sym, ap, _∙_}
+use native.Mathlib.Omega.{arith}
+use Rattle.laws.specs.Bounds.{discounted-average}
+use Rattle.rules.specs.Date.{discounted}
+use Rattle.slices.specs.Stored.{stored, length-stored, stored-next}
+use Rattle.expect.proofs.store_sums.Statement.{statement}
+use Rattle.expect.proofs.store_sums.Tie as tie
+
+abbrev Inv-loop : tie.InvT-loop
+Inv-loop work₀ sums discount to n j₀ work j = (j ≤ n) × (work ≡ stored work₀ to (λ x. discounted discount (getD sums x 0)) j)
+
+abbrev μ-loop : tie.MeasureT-loop
+μ-loop work₀ sums discount to n j₀ work j = n - j
+
+loop-holds : tie.Need-loop-holds Inv-loop μ-loop
+unfolding stored
+loop-holds c = (omega arith, refl)
+
+mul-discounted : tie.Need-mul-discounted Inv-loop μ-loop
+mul-discounted c = omega arith
+
+element-copy-out-discounted : tie.Need-element-copy-out-discounted Inv-loop μ-loop
+element-copy-out-discounted c = omega arith
+
+discounted-requires : tie.Need-discounted-requires Inv-loop μ-loop
+discounted-requires c κs = (c .before .before .before .before .pre .0, let s = c .before .before .before .before .pre .3 (c .before .before .loop .j) (c .before .loop-test .taken) in omega arith)
+
+cast-work : tie.Need-cast-work Inv-loop μ-loop
+cast-work c = let s = discounted-average (c .before .before .before .before .before .args .discount) (getD (c .before .before .before .before .before .args .sums .now) (c .before .before .before .loop .j) 0) 4294967295 (c .before .before .before .before .before .pre .0) (c .before .before .before .before .before .pre .3 (c .before .before .before .loop .j) (c .before .before .loop-test .taken)) in let e = c .discounted .ensures in omega arith
+
+add-work : tie.Need-add-work Inv-loop μ-loop
+add-work c = omega (arith, c .before .before .before .before .before .pre .2)
+
+mul-work : tie.Need-mul-work Inv-loop μ-loop
+mul-work c = omega (arith, c .before .before .before .before .before .pre .2)
+
+slice-write-work : tie.Need-slice-write-work Inv-loop μ-loop
+slice-write-work c = let e : length (c .before .before .before .loop .work) ≡ length (c .before .before .before .before .before .args .work .now) = ap length (c .before .before .before .loop .inv .1) ∙ length-stored _ _ _ _ in omega (arith, c .before .before .before .before .before .pre .2)
+
+add-j : tie.Need-add-j Inv-loop μ-loop
+add-j c = omega arith
+
+loop-less : tie.Need-loop-less Inv-loop μ-loop
+loop-less c = omega arith
+
+loop-again : tie.Need-loop-again Inv-loop μ-loop
+loop-again c = (omega arith, (λ i. set (c .before .before .before .loop .inv .1 i) (c .before .before .before .before .before .args .to + c .before .before .before .loop .j) (c .discounted .ensures i)) ∙ stored-next _ _ _ _)
+
+same-length : tie.Need-same-length Inv-loop μ-loop
+same-length c = ap length (c .before .loop .inv .1) ∙ length-stored _ _ _ _
+
+returns : tie.Need-returns Inv-loop μ-loop
+returns c = let e : c .before .loop .j ≡ c .before .before .before .args .n = omega arith in rw (sym e) (c .before .loop .inv .1)
+
+pub store-sums-spec : {M : Type 1} → statement M
+store-sums-spec =
+    tie.close
+    (tie.spec
+    Inv-loop
+    μ-loop
+    loop-holds
+    mul-discounted
+    element-copy-out-discounted
+    discounted-requires
+    cast-work
+    add-work
+    mul-work
+    slice-write-work
+    add-j
+    loop-less
+    loop-again
+    same-length
+    returns)
