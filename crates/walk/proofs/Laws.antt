@@ -1,0 +1,219 @@
+-- What is met on a walk, date by date. Assumes nothing.
+use mathlib.Core.Bool.{Bool, true, false, not, _||_}
+use mathlib.Core.List.{List, [], _∷_, _++_}
+use mathlib.Core.Path.{_≡_, refl, ap, ap₂, sym, _∙_, subst}
+use Prim.Native.Nat.{ℕ, suc, _+_, _-_, _*_, _≤_, _<_, max}
+use native.Mathlib.Nat.{le-trans, sub-le, zero-add}
+use native.Mathlib.Numerals.{add-one}
+use native.Mathlib.Omega.{arith}
+use lib.Dec.{T, leb, ltb, eqb, nltb→le}
+use lib.Seq.{drop-cons, append-snoc, set-append-seam}
+use borrow.Author.Tests.{leb-false}
+use lib.ListN.{length, getD, set, drop}
+use borrow.Rule.Slice.PartMut.{midOf, mid-len}
+use Rattle.decision.specs.Index.{tabulate, length-tabulate, first, First, first-is}
+use Rattle.slices.specs.Stored.{stored, stored-front}
+use Rattle.decision.specs.Layers.{lookup, entry}
+use Rattle.slices.specs.Parts.{part-at}
+use Rattle.slices.specs.Rows.{within-rows, rows-le, rows-before}
+use Rattle.rules.specs.Contract.{Terms, termsOf, Returns, returnsOf}
+use Rattle.rules.specs.Date.{dynamic, freeAmount, admits, cash, balanceAfter, guaranteeAfter, nextAccount}
+use Rattle.rules.specs.Product.{walkState, walkAmount, walkCash}
+use Rattle.rules.specs.FixedTerm.{State, startOf, reachBy, afterIn, cashIn, freeIn, admissibleIn, processOf, layerSize, layoutOf, fixedTerm}
+use Rattle.rules.specs.Refusals.{Verdict, accepted, refused, verdict, checkEach, numberOf, placeOf, onSuccess, short, recordChecks, listChecks}
+use Rattle.rules.specs.Operations.{productOf, tableSize, walkVerdict, walkCashes}
+use Rattle.laws.specs.Accepted.{Valid, nor-left, nor-right, andThen}
+use Rattle.contract.specs.declared.Outcome.{Outcome}
+use Rattle.contract.specs.Reading.{outcomeAt, outcomeOf}
+use Rattle.expect.specs.Expected.{Listing}
+use Rattle.laws.specs.Date.{account-le, guarantee-le, dynamic-is}
+use Rattle.laws.specs.Walk.{walk-first, walk-next}
+use Rattle.dates.specs.Back.{at}
+use Rattle.walk.specs.Walked.{badDate, pathChecks, walk-verdict, Walking, Met, paid, paidLast, Walked}
+
+module _ {c : Terms} {count : ℕ} {list table path : List ℕ} (h : Walking c count list table path) where
+  pub first-met : Met c (returnsOf list) table path 1 (nextAccount (c .fee) (c .top) (c .premium) (returnsOf list .factor (getD path 0 0))) (c .premium)
+  unfolding fixedTerm processOf reachBy startOf
+  first-met = record {
+    state = walk-first (fixedTerm c (returnsOf list)) table path (omega (arith, h .long, h .valid .dates-least));
+    account = account-le (c .fee) (c .top) (c .premium) (returnsOf list .factor (getD path 0 0));
+    guarantee = omega arith;
+  }
+
+  module _ {i w a : ℕ} (m : Met c (returnsOf list) table path i w a) (some : 0 < i) (before : i < c .dates) where
+    pub layer-end : i * layerSize c ≡ (i - 1) * layerSize c + layerSize c
+    layer-end = rows-before (layerSize c) i some
+
+    pub layer-within : i * layerSize c ≤ tableSize c
+    unfolding tableSize
+    layer-within = rows-le (layerSize c) i (c .dates - 1) (omega arith)
+
+    -- the entry of the state stands in the layer of the date
+    pub entry-within : w * (c .premium + 1) + a < length (midOf ((i - 1) * layerSize c) (i * layerSize c - (i - 1) * layerSize c) table)
+    unfolding layerSize
+    entry-within =
+        let e = layer-end in
+        let p = within-rows (c .premium + 1) (c .top + 1) w a (omega (arith, m .account)) (omega (arith, m .guarantee)) in
+        let l = layer-within in
+        let n = mid-len ((i - 1) * ((c .top + 1) * (c .premium + 1))) (i * ((c .top + 1) * (c .premium + 1))) table (omega (arith, h .entries)) in
+        omega arith
+
+    pub amount-is : getD (midOf ((i - 1) * layerSize c) (i * layerSize c - (i - 1) * layerSize c) table) (w * (c .premium + 1) + a) 0 ≡ walkAmount (fixedTerm c (returnsOf list)) table path i
+    unfolding walkAmount lookup entry fixedTerm layoutOf layerSize
+    amount-is =
+        let e = layer-end in
+        let p = within-rows (c .premium + 1) (c .top + 1) w a (omega (arith, m .account)) (omega (arith, m .guarantee)) in
+        part-at ((i - 1) * ((c .top + 1) * (c .premium + 1))) (i * ((c .top + 1) * (c .premium + 1))) (w * (c .premium + 1) + a) table (omega arith)
+        ∙ sym (ap (λ (s : State). getD table ((i - 1) * ((c .top + 1) * (c .premium + 1)) + (s .account * (c .premium + 1) + s .guarantee)) 0) (m .state))
+
+    pub next-met : (t : ℕ) → t ≡ walkAmount (fixedTerm c (returnsOf list)) table path i
+        → Met c (returnsOf list) table path (suc i) (nextAccount (c .fee) (c .top) (balanceAfter w t) (returnsOf list .factor (getD path i 0))) (guaranteeAfter (freeAmount (c .level) a) w a t)
+    unfolding fixedTerm processOf reachBy afterIn freeIn
+    next-met t e = record {
+      state =
+          walk-next (fixedTerm c (returnsOf list)) table path i some (omega (arith, h .long))
+          ∙ ap₂ (λ (s : State) (x : ℕ). reachBy c (returnsOf list) (afterIn c i s x) (getD path i 0)) (m .state) (sym e);
+      account = account-le (c .fee) (c .top) (balanceAfter w t) (returnsOf list .factor (getD path i 0));
+      guarantee = le-trans (guarantee-le (freeAmount (c .level) a) w a t) (le-trans (sub-le a t) (m .guarantee));
+    }
+
+pub met-up : {c : Terms} {rs : Returns} {table path : List ℕ} {w a : ℕ} (i : ℕ) → Met c rs table path (suc i) w a → Met c rs table path (i + 1) w a
+met-up {c} {rs} {table} {path} {w} {a} i m = subst (λ (n : ℕ). Met c rs table path n w a) (sym (add-one i)) m
+
+-- ---- the amount of a date, by what is met there
+module _ {c : Terms} {rs : Returns} {table path : List ℕ} {i w a : ℕ} (m : Met c rs table path i w a) (some : 0 < i) where
+  up : suc (i - 1) ≡ i
+  up = omega arith
+
+  pub bad-is : badDate c rs table path (i - 1) ≡ not (admits dynamic (freeAmount (c .level) a) w (walkAmount (fixedTerm c rs) table path i))
+  unfolding badDate admissibleIn freeIn
+  bad-is =
+      ap (λ (n : ℕ). not (admissibleIn c dynamic (walkState (fixedTerm c rs) table path n) (walkAmount (fixedTerm c rs) table path n))) up
+      ∙ ap (λ (s : State). not (admissibleIn c dynamic s (walkAmount (fixedTerm c rs) table path i))) (m .state)
+
+  pub paid-is : cash (c .penalty) (freeAmount (c .level) a) (walkAmount (fixedTerm c rs) table path i) ≡ paid c rs table path (i - 1)
+  unfolding paid
+  paid-is =
+      sym (ap (λ (n : ℕ). cash (c .penalty) (freeAmount (c .level) (walkState (fixedTerm c rs) table path n .guarantee)) (walkAmount (fixedTerm c rs) table path n)) up
+      ∙ ap (λ (s : State). cash (c .penalty) (freeAmount (c .level) (s .guarantee)) (walkAmount (fixedTerm c rs) table path i)) (m .state))
+
+  -- where no date is bad
+  pub amount-within : c .dates - 1 ≤ first (badDate c rs table path) (c .dates - 1) → i < c .dates
+      → walkAmount (fixedTerm c rs) table path i ≤ max w (freeAmount (c .level) a)
+  amount-within none before =
+      dynamic-is (freeAmount (c .level) a) w _ (true-of (admits dynamic (freeAmount (c .level) a) w (walkAmount (fixedTerm c rs) table path i)) (subst (λ (b : Bool). T b → ⊥) bad-is (first-is (badDate c rs table path) (c .dates - 1) .none (i - 1) (omega arith) (omega arith))))
+    where
+      true-of : (b : Bool) → (T (not b) → ⊥) → T b
+      true-of true f = tt
+      true-of false f = absurd (f tt)
+
+-- the cash as the rules list it
+cash-list : (c : Terms) (rs : Returns) (table path cashes : List ℕ) → 1 ≤ c .dates → c .dates ≤ length cashes
+    → set (stored cashes 0 (paid c rs table path) (c .dates - 1)) (c .dates - 1) (paidLast c rs table path)
+    ≡ walkCash (fixedTerm c rs) table path ++ drop (c .dates) cashes
+unfolding walkCash fixedTerm processOf cashIn freeIn paid
+cash-list c rs table path cashes some room =
+    let n = c .dates - 1 in
+    let up : suc n ≡ c .dates = omega arith in
+    ap (λ (xs : List ℕ). set xs n (paidLast c rs table path)) (stored-front cashes (paid c rs table path) n (omega arith))
+    ∙ last-set n (tabulate n (paid c rs table path)) cashes (paidLast c rs table path) (length-tabulate n (paid c rs table path)) (omega arith)
+    ∙ ap (λ (k : ℕ). tabulate n (paid c rs table path) ++ (paidLast c rs table path ∷ []) ++ drop k cashes) up
+  where
+    last-set : (n : ℕ) (xs ys : List ℕ) (y : ℕ) → length xs ≡ n → n < length ys → set (xs ++ drop n ys) n y ≡ xs ++ (y ∷ []) ++ drop (suc n) ys
+    last-set n xs ys y e l =
+        ap (λ (zs : List ℕ). set (xs ++ zs) n y) (drop-cons ys n 0 l)
+        ∙ ap (λ (k : ℕ). set (xs ++ (getD ys n 0 ∷ drop (suc n) ys)) k y) (sym e)
+        ∙ set-append-seam xs (getD ys n 0) (drop (suc n) ys) y
+        ∙ sym (append-snoc xs y (drop (suc n) ys))
+
+-- ---- what terms that were read answer
+module _ {c : Terms} {rs : Returns} {v : Verdict} {table path cashes : List ℕ} where
+  pub walked-refused : (n p : ℕ) (r : Outcome) → v ≡ refused n p → r ≡ outcomeAt n p → Walked c rs v table path cashes r cashes
+  unfolding onSuccess numberOf placeOf
+  walked-refused n p r e f = record { outcome-is = rw e f; cash-is = rw e }
+
+  pub walked-accepted : (r : Outcome) (cashes' : List ℕ) → v ≡ accepted → 1 ≤ c .dates → c .dates ≤ length cashes → r ≡ outcomeAt 0 0
+      → cashes' ≡ set (stored cashes 0 (paid c rs table path) (c .dates - 1)) (c .dates - 1) (paidLast c rs table path)
+      → Walked c rs v table path cashes r cashes'
+  unfolding onSuccess numberOf placeOf
+  walked-accepted r cashes' e some room f g = record { outcome-is = rw e f; cash-is = rw e (g ∙ cash-list c rs table path cashes some room) }
+
+-- ---- what a call answers, on any input
+module _ (bytes list table path cashes : List ℕ) (r : Outcome) where
+  pub record Whole (cashes' : List ℕ) : Type 0 where
+    pub outcome-is : r ≡ outcomeOf (walkVerdict bytes list table path cashes)
+    pub cash-is : cashes' ≡ walkCashes bytes list table path cashes
+
+  pub whole : (cashes' : List ℕ) → verdict (recordChecks bytes) ≡ accepted → verdict (listChecks list) ≡ accepted → (c : Terms) → c ≡ termsOf bytes
+      → Walked c (returnsOf list) (verdict (pathChecks c (returnsOf list) table path cashes)) table path cashes r cashes' → Whole cashes'
+  unfolding walkCashes productOf
+  whole cashes' e f c same a =
+      let all : walkVerdict bytes list table path cashes ≡ verdict (pathChecks (termsOf bytes) (returnsOf list) table path cashes) =
+      walk-verdict bytes list table path cashes
+      ∙ ap₂ (λ (x y : Verdict). andThen (andThen x y) (verdict (pathChecks (termsOf bytes) (returnsOf list) table path cashes))) e f in
+      let b = subst (λ (x : Terms). Walked x (returnsOf list) (verdict (pathChecks x (returnsOf list) table path cashes)) table path cashes r cashes') same a in
+      record { outcome-is = rw all (b .outcome-is); cash-is = rw all (b .cash-is) }
+
+  pub whole-refused : (n p : ℕ) → andThen (verdict (recordChecks bytes)) (verdict (listChecks list)) ≡ refused n p → r ≡ outcomeAt n p → Whole cashes
+  unfolding walkCashes onSuccess numberOf placeOf
+  whole-refused n p e f =
+      let all : walkVerdict bytes list table path cashes ≡ refused n p =
+      walk-verdict bytes list table path cashes ∙ ap (λ (x : Verdict). andThen x (verdict (pathChecks (termsOf bytes) (returnsOf list) table path cashes))) e in
+      record { outcome-is = rw all f; cash-is = rw all }
+
+-- ---- the verdict, check by check
+module _ (c : Terms) (rs : Returns) (table path cashes : List ℕ) where
+  missing : ℕ → Bool
+  missing j = leb (rs .count) (getD path j 0)
+
+  pub slices-refused : (short (tableSize c) table || short (c .dates) cashes) ≡ true → verdict (pathChecks c rs table path cashes) ≡ refused 11 0
+  unfolding pathChecks verdict
+  slices-refused e = rw e
+
+  module _ (e : (short (tableSize c) table || short (c .dates) cashes) ≡ false) where
+    pub count-refused : eqb (length path) (c .dates) ≡ false → verdict (pathChecks c rs table path cashes) ≡ refused 13 (c .dates)
+    unfolding pathChecks verdict
+    count-refused f = simp (e, f)
+
+    module _ (f : eqb (length path) (c .dates) ≡ true) where
+      pub number-refused : ltb (first (λ j. leb (rs .count) (getD path j 0)) (c .dates)) (c .dates) ≡ true
+          → verdict (pathChecks c rs table path cashes) ≡ refused 13 (first (λ j. leb (rs .count) (getD path j 0)) (c .dates))
+      unfolding pathChecks verdict checkEach
+      number-refused g = simp (e, f, g, zero-add)
+
+      module _ (g : ltb (first (λ j. leb (rs .count) (getD path j 0)) (c .dates)) (c .dates) ≡ false) where
+        pub date-refused : ltb (first (badDate c rs table path) (c .dates - 1)) (c .dates - 1) ≡ true
+            → verdict (pathChecks c rs table path cashes) ≡ refused 14 (1 + first (badDate c rs table path) (c .dates - 1))
+        unfolding pathChecks verdict checkEach
+        date-refused h = simp (e, f, g, h)
+
+        pub path-accepted : ltb (first (badDate c rs table path) (c .dates - 1)) (c .dates - 1) ≡ false
+            → verdict (pathChecks c rs table path cashes) ≡ accepted
+        unfolding pathChecks verdict checkEach
+        path-accepted h = simp (e, f, g, h)
+
+  pub path-room : (short (tableSize c) table || short (c .dates) cashes) ≡ false → (tableSize c ≤ length table) × (c .dates ≤ length cashes)
+  unfolding short
+  path-room f =
+      let x = ltb (length table) (tableSize c) in
+      let y = ltb (length cashes) (c .dates) in
+      let t : T (not (x || y)) = rw f tt in
+      (nltb→le (length table) (tableSize c) (nor-left x y t), nltb→le (length cashes) (c .dates) (nor-right x y t))
+
+-- every number on the path is that of a return
+pub walking : {c : Terms} {count : ℕ} {list table : List ℕ} (path : List ℕ) → Valid c → Listing list count → tableSize c ≤ length table → length path ≡ c .dates
+    → c .dates ≤ first (λ (j : ℕ). leb count (getD path j 0)) (c .dates) → Walking c count list table path
+walking {c} {count} path valid listing room long none = record {
+  valid = valid;
+  listing = listing;
+  entries = room;
+  long = long;
+  numbers = λ j l. below (getD path j 0) (first-is (λ (j : ℕ). leb count (getD path j 0)) (c .dates) .none j (omega arith) (omega arith));
+}
+  where
+    below : (x : ℕ) → (T (leb count x) → ⊥) → x < count
+    below x f = leb-false count x (untrue (leb count x) f)
+      where
+        untrue : (b : Bool) → (T b → ⊥) → b ≡ false
+        untrue true f = absurd (f tt)
+        untrue false f = refl

@@ -1,0 +1,229 @@
+// Walking a contract along a path of return numbers, by the amounts of a table.
+ghost use mathlib.Core.Path.{_≡_};
+ghost use mathlib.Core.Bool.{_||_};
+ghost use Prim.Native.Nat.{ℕ, suc, _+_, _-_, _*_, _≤_, _<_, max};
+ghost use lib.Dec.{leb};
+ghost use lib.ListN.{length, getD, set};
+ghost use Rattle.decision.specs.Index.{first};
+ghost use Rattle.decision.specs.Layers.{lookup};
+ghost use Rattle.slices.specs.Stored.{stored};
+ghost use Rattle.rules.specs.Contract.{returnsOf};
+ghost use Rattle.rules.specs.Date.{dynamic, freeAmount, admits};
+ghost use Rattle.rules.specs.Product.{walkAmount};
+ghost use Rattle.rules.specs.FixedTerm.{layoutOf, fixedTerm};
+ghost use Rattle.rules.specs.Refusals.{short, verdict};
+ghost use Rattle.rules.specs.Operations.{tableSize, walkVerdict, walkCashes};
+ghost use Rattle.laws.specs.Accepted.{Valid};
+ghost use Rattle.contract.specs.Reading.{termsIn, outcomeAt, outcomeOf};
+ghost use Rattle.dates.specs.Back.{at};
+ghost use Rattle.valuing.specs.Answered.{Ready};
+ghost use Rattle.walk.specs.Walked.{badDate, pathChecks, Walking, Met, paid, paidLast, Walked};
+use contract::Contract;
+use contract::Listing;
+use contract::Outcome;
+use contract::Reading;
+use contract::Returns;
+
+// The account and guarantee that are met.
+pub struct Place {
+    pub account: usize,
+    pub guarantee: usize,
+}
+
+fn wide(x: u16) -> usize
+    ensures { λ r. ⌜ (r ≡ x) × (r < 65536) ⌝ }
+{
+    x as usize
+}
+
+// Refusal 11.
+fn too_short(c: Contract, table: &[u16], cash: &[u32]) -> bool
+    requires { ⌜ Valid (termsIn c) ⌝ }
+    ensures { λ r. ⌜ r ≡ (short (tableSize (termsIn c)) (now (table .entry)) || short (c .dates) (now (cash .entry))) ⌝ }
+{
+    let size = (c.top + 1) * (c.premium + 1);
+    if table.len() < (c.dates - 1) * size {
+        return true;
+    }
+    cash.len() < c.dates
+}
+
+// The first number on the path that no return has, or n.
+fn first_missing(path: &[u16], count: usize, n: usize) -> usize
+    requires { ⌜ n ≤ length (now path) ⌝ }
+    ensures { λ r. ⌜ r ≡ first (λ (j : ℕ). leb count (getD (now (path .entry)) j 0)) n ⌝ }
+{
+    let mut j: usize = 0;
+    while j < n {
+        if count <= wide(path[j]) {
+            return j;
+        }
+        j += 1;
+    }
+    j
+}
+
+// What the first return leads to.
+fn first_place(c: Contract, list: &[u8], count: usize, table: &[u16], path: &[u16]) -> Place
+    requires { ⌜ Walking (termsIn c) count (now list) (now table) (now path) ⌝ }
+    ensures { λ r. ⌜ Met (termsIn c) (returnsOf (now (list .entry))) (now (table .entry)) (now (path .entry)) 1 (r .account) (r .guarantee) ⌝ }
+{
+    let factor = contract::word(list, Contract::RETURN_BYTES * wide(path[0]));
+    Place {
+        account: date::next_account(c.fee, c.top, c.premium, factor),
+        guarantee: c.premium,
+    }
+}
+
+fn entry_of(layer: &[u16], stride: usize, account: usize, guarantee: usize) -> usize
+    requires { ⌜ account * stride + guarantee < length (now layer) ⌝ }
+    ensures { λ r. ⌜ r ≡ getD (now (layer .entry)) (account * stride + guarantee) 0 ⌝ }
+{
+    wide(layer[account * stride + guarantee])
+}
+
+// The table's amount on date i, from the layer of that date.
+fn amount_on(
+    c: Contract,
+    list: &[u8],
+    count: usize,
+    table: &[u16],
+    path: &[u16],
+    i: usize,
+    place: Place,
+) -> usize
+    requires { ⌜ Walking (termsIn c) count (now list) (now table) (now path) × Met (termsIn c) (returnsOf (now list)) (now table) (now path) i (place .account) (place .guarantee) × (0 < i) × (i < c .dates) ⌝ }
+    ensures { λ r. ⌜ r ≡ walkAmount (fixedTerm (termsIn c) (returnsOf (now (list .entry)))) (now (table .entry)) (now (path .entry)) i ⌝ }
+{
+    let stride = c.premium + 1;
+    let size = (c.top + 1) * stride;
+    let from = (i - 1) * size;
+    let to = i * size;
+    entry_of(&table[from..to], stride, place.account, place.guarantee)
+}
+
+// What is met on the next date, where t is withdrawn on date i.
+fn next_place(
+    c: Contract,
+    list: &[u8],
+    count: usize,
+    table: &[u16],
+    path: &[u16],
+    i: usize,
+    place: Place,
+    t: usize,
+) -> Place
+    requires { ⌜ Walking (termsIn c) count (now list) (now table) (now path) × Met (termsIn c) (returnsOf (now list)) (now table) (now path) i (place .account) (place .guarantee) × (0 < i) × (i < c .dates) × (t ≡ walkAmount (fixedTerm (termsIn c) (returnsOf (now list))) (now table) (now path) i) × (t ≤ max (place .account) (freeAmount (c .level) (place .guarantee))) ⌝ }
+    ensures { λ r. ⌜ Met (termsIn c) (returnsOf (now (list .entry))) (now (table .entry)) (now (path .entry)) (suc i) (r .account) (r .guarantee) ⌝ }
+{
+    let m = date::free_amount(c.level, place.guarantee);
+    let balance = date::balance_after(place.account, t);
+    let factor = contract::word(list, Contract::RETURN_BYTES * wide(path[i]));
+    Place {
+        account: date::next_account(c.fee, c.top, balance, factor),
+        guarantee: date::guarantee_after(m, place.account, place.guarantee, t),
+    }
+}
+
+// Whether t may be withdrawn.
+fn admitted(c: Contract, place: Place, t: usize) -> bool
+    ensures { λ r. ⌜ r ≡ admits dynamic (freeAmount (c .level) (place .guarantee)) (place .account) t ⌝ }
+{
+    date::admits_dynamic(
+        date::free_amount(c.level, place.guarantee),
+        place.account,
+        t,
+    )
+}
+
+// The first date whose amount is not admissible, or N. Nothing is written.
+fn first_refused(c: Contract, list: &[u8], count: usize, table: &[u16], path: &[u16]) -> usize
+    requires { ⌜ Walking (termsIn c) count (now list) (now table) (now path) ⌝ }
+    ensures { λ r. ⌜ r ≡ 1 + first (badDate (termsIn c) (returnsOf (now (list .entry))) (now (table .entry)) (now (path .entry))) (c .dates - 1) ⌝ }
+{
+    let mut place = first_place(c, list, count, table, path);
+    let mut i: usize = 1;
+    while i < c.dates {
+        let t = amount_on(c, list, count, table, path, i, place);
+        if admitted(c, place, t) {
+            place = next_place(c, list, count, table, path, i, place, t);
+            i += 1;
+        } else {
+            return i;
+        }
+    }
+    i
+}
+
+// Pays the cash of each date, and at maturity.
+fn pay(c: Contract, list: &[u8], count: usize, table: &[u16], path: &[u16], cash: &mut [u32])
+    requires { ⌜ Walking (termsIn c) count (now list) (now table) (now path) × (c .dates ≤ length (now cash)) × (c .dates - 1 ≤ first (badDate (termsIn c) (returnsOf (now list)) (now table) (now path)) (c .dates - 1)) ⌝ }
+    ensures { λ _. ⌜ now (cash .exit) ≡ set (stored (now (cash .entry)) 0 (paid (termsIn c) (returnsOf (now (list .entry))) (now (table .entry)) (now (path .entry))) (c .dates - 1)) (c .dates - 1) (paidLast (termsIn c) (returnsOf (now (list .entry))) (now (table .entry)) (now (path .entry))) ⌝ }
+{
+    let mut place = first_place(c, list, count, table, path);
+    let mut i: usize = 1;
+    while i < c.dates {
+        let t = amount_on(c, list, count, table, path, i, place);
+        let m = date::free_amount(c.level, place.guarantee);
+        cash[i - 1] = date::cash(c.penalty, m, t) as u32;
+        place = next_place(c, list, count, table, path, i, place, t);
+        i += 1;
+    }
+    let last = c.dates - 1;
+    cash[last] = date::maturity_value(place.account, place.guarantee) as u32;
+}
+
+fn outcome(number: u32, place: usize) -> Outcome
+    ensures { λ r. ⌜ r ≡ outcomeAt number place ⌝ }
+{
+    Outcome {
+        number,
+        place: place as u64,
+    }
+}
+
+// Walks under terms and returns that were read. Nothing is paid until every date is known to be admissible.
+fn walked(
+    c: Contract,
+    list: &[u8],
+    count: usize,
+    table: &[u16],
+    path: &[u16],
+    cash: &mut [u32],
+) -> Outcome
+    requires { ⌜ Ready (termsIn c) count (now list) ⌝ }
+    ensures { λ r. ⌜ Walked (termsIn c) (returnsOf (now (list .entry))) (verdict (pathChecks (termsIn c) (returnsOf (now (list .entry))) (now (table .entry)) (now (path .entry)) (now (cash .entry)))) (now (table .entry)) (now (path .entry)) (now (cash .entry)) r (now (cash .exit)) ⌝ }
+{
+    if too_short(c, table, &cash[..]) {
+        return outcome(11, 0);
+    }
+    if path.len() != c.dates {
+        return outcome(13, c.dates);
+    }
+    let missing = first_missing(path, count, c.dates);
+    if missing < c.dates {
+        return outcome(13, missing);
+    }
+    let bad = first_refused(c, list, count, table, path);
+    if bad < c.dates {
+        return outcome(14, bad);
+    }
+    pay(c, list, count, table, path, cash);
+    outcome(0, 0)
+}
+
+// Walks a contract along a path, and fills N cash amounts.
+pub fn walk(bytes: &[u8], list: &[u8], table: &[u16], path: &[u16], cash: &mut [u32]) -> Outcome
+    ensures { λ r. ⌜ r ≡ outcomeOf (walkVerdict (now (bytes .entry)) (now (list .entry)) (now (table .entry)) (now (path .entry)) (now (cash .entry))) ⌝ }
+    ensures { λ _. ⌜ now (cash .exit) ≡ walkCashes (now (bytes .entry)) (now (list .entry)) (now (table .entry)) (now (path .entry)) (now (cash .entry)) ⌝ }
+{
+    let reading = Contract::read(bytes);
+    let Reading::Accepted(c) = reading else {
+        return reading.outcome();
+    };
+    let listing = Returns::read(list);
+    let Listing::Accepted(returns) = listing else {
+        return listing.outcome();
+    };
+    walked(c, list, returns.count, table, path, cash)
+}
