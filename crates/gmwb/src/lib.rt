@@ -2,8 +2,8 @@
 ghost use mathlib.Core.Path.{_≡_};
 ghost use Prim.Native.Nat.{ℕ};
 ghost use Rattle.rules.specs.Product.{Claim};
-ghost use Rattle.rules.specs.Refusals.{numberOf};
-ghost use Rattle.rules.specs.Operations.{productOf, behaviourOf, recordVerdict, bookingVerdict, bookingBuffer, valuingAnswer, valuingWork, valuingTable, suppliedAnswer, suppliedWork};
+ghost use Rattle.rules.specs.Refusals.{numberOf, placeOf};
+ghost use Rattle.rules.specs.Operations.{productOf, behaviourOf, recordVerdict, bookingVerdict, bookingBuffer, valuingAnswer, valuingWork, valuingTable, suppliedAnswer, suppliedWork, walkVerdict, walkCashes};
 use contract::Contract;
 
 // Checks a record. The place of each of its refusals is 0.
@@ -91,4 +91,23 @@ pub extern "C" fn gmwb_value_table(
     let difference = answer.margin;
     *margin = difference;
     answer.number
+}
+
+// Walks a contract along a path and fills its cash.
+#[no_mangle]
+pub extern "C" fn gmwb_walk(
+    bytes: &[u8],
+    list: &[u8],
+    table: &[u16],
+    path: &[u16],
+    cash: &mut [u32],
+    place: &mut u64,
+) -> u32
+    ensures { λ r. ⌜ r ≡ numberOf (walkVerdict (now (bytes .entry)) (now (list .entry)) (now (table .entry)) (now (path .entry)) (now (cash .entry))) ⌝ }
+    ensures { λ _. ⌜ now (place .exit) ≡ placeOf (walkVerdict (now (bytes .entry)) (now (list .entry)) (now (table .entry)) (now (path .entry)) (now (cash .entry))) ⌝ }
+    ensures { λ _. ⌜ now (cash .exit) ≡ walkCashes (now (bytes .entry)) (now (list .entry)) (now (table .entry)) (now (path .entry)) (now (cash .entry)) ⌝ }
+{
+    let outcome = walk::walk(bytes, list, table, path, cash);
+    *place = outcome.place;
+    outcome.number
 }
