@@ -9,7 +9,7 @@ ghost use Rattle.slices.specs.Stored.{stored};
 ghost use Rattle.slices.specs.Rows.{cells};
 ghost use Rattle.rules.specs.Contract.{topMost, rateMost};
 ghost use Rattle.choose.specs.State.{freeWorth, aboveWorth, worthOver, bestValue, bestAmount, State, Furthered, Block, Led};
-ghost use Rattle.rules.specs.Date.{freeAmount};
+ghost use Rattle.rules.specs.Date.{dynamic, freeAmount};
 ghost use Rattle.rules.specs.Operations.{behaviourOf};
 
 // An amount and what it is worth.
@@ -233,7 +233,32 @@ fn further_at(
     Choice { value, amount }
 }
 
-// The best of the amounts 0 to the larger of w and m.
+// The best of the amounts 0 to the larger of w and m, where that of 0 to m is known.
+fn with_above(
+    free: Choice,
+    work: &[u32],
+    table: &[u16],
+    base: usize,
+    stride: usize,
+    w: usize,
+    a: usize,
+    m: usize,
+    rate: usize,
+) -> Choice
+    requires { ⌜ State (now work) base stride w a m × (rate ≤ rateMost) × (w * stride ≤ length (now table)) × Furthered (now work) (now table) base stride w (10000 - rate) × Leading (freeWorth (cells (now work) base stride) w a) 0 m (free .amount) (free .value) ⌝ }
+    ensures { λ r. ⌜ Leading (worthOver (cells (now (work .entry)) base stride) rate m w a) 0 (max w m) (r .amount) (r .value) ⌝ }
+{
+    if w <= m {
+        return free;
+    }
+    if w < a {
+        let above = best_above(work, base, stride, w, a, m, rate);
+        return first_of(free, above);
+    }
+    let further = further_at(work, table, stride, w, a, m, rate);
+    first_of(free, further)
+}
+
 fn decide_dynamic(
     work: &[u32],
     table: &[u16],
@@ -248,15 +273,26 @@ fn decide_dynamic(
     ensures { λ r. ⌜ Leading (worthOver (cells (now (work .entry)) base stride) rate m w a) 0 (max w m) (r .amount) (r .value) ⌝ }
 {
     let free = best_free(work, base, stride, w, a, m);
-    if w <= m {
-        return free;
-    }
-    if w < a {
-        let above = best_above(work, base, stride, w, a, m, rate);
-        return first_of(free, above);
-    }
-    let further = further_at(work, table, stride, w, a, m, rate);
-    first_of(free, further)
+    with_above(free, work, table, base, stride, w, a, m, rate)
+}
+
+// The dynamic behaviour, where the best of the amounts 0 to m is known.
+pub fn decide_with(
+    free: Choice,
+    work: &[u32],
+    table: &[u16],
+    base: usize,
+    stride: usize,
+    w: usize,
+    a: usize,
+    level: usize,
+    rate: usize,
+) -> Choice
+    requires { ⌜ State (now work) base stride w a (freeAmount level a) × (rate ≤ rateMost) × (w * stride ≤ length (now table)) × Furthered (now work) (now table) base stride w (10000 - rate) × Leading (freeWorth (cells (now work) base stride) w a) 0 (freeAmount level a) (free .amount) (free .value) ⌝ }
+    ensures { λ r. ⌜ (r .value ≡ bestValue dynamic (cells (now (work .entry)) base stride) rate level w a) × (r .amount ≡ bestAmount dynamic (cells (now (work .entry)) base stride) rate level w a) ⌝ }
+{
+    let m = date::free_amount(level, a);
+    with_above(free, work, table, base, stride, w, a, m, rate)
 }
 
 // What the whole account is worth where it is above m.
