@@ -1,10 +1,10 @@
 -- The value and the recorded amount of a state, over the discounted sums e of balance and guarantee. Assumes nothing.
 use mathlib.Core.List.{List}
 use mathlib.Core.Path.{_≡_, ap}
-use Prim.Native.Nat.{ℕ, _+_, _-_, _*_, _/_, _≤_, _<_}
+use Prim.Native.Nat.{ℕ, _+_, _-_, _*_, _/_, _≤_, _<_, min}
 use native.Mathlib.Nat.{le-trans, sub-le}
-use lib.ListN.{length}
-use Rattle.decision.specs.Choice.{largest, smallestBest, largest-eq, smallestBest-eq}
+use lib.ListN.{length, getD}
+use Rattle.decision.specs.Choice.{Leading, largest, smallestBest, largest-eq, smallestBest-eq}
 use Rattle.slices.specs.Rows.{cells}
 use Rattle.rules.specs.Contract.{topMost, rateMost}
 use Rattle.rules.specs.Date.{Behaviour, freeAmount, largestAmount, admits, cash, balanceAfter, guaranteeAfter}
@@ -40,6 +40,21 @@ pub record State (work : List ℕ) (base stride w a m : ℕ) : Type 0 where
   pub free : m ≤ a
   pub column : a < stride
   pub rows : base + (w + 1) * stride ≤ length work
+
+-- n states, from guarantee `from` on, whose sums leave room for cash
+pub record Block (work : List ℕ) (base stride w from n : ℕ) : Type 0 where
+  pub account : w ≤ topMost
+  pub short : n ≤ 64
+  pub columns : from + n ≤ stride
+  pub width : stride ≤ 4001
+  pub rows : base + (w + 1) * stride ≤ length work
+  pub small : (x y : ℕ) → x ≤ w → y < stride → cells work base stride x y ≤ 4000000000
+
+-- .. and the best of the amounts 0 to t of each, as far as its guarantee goes
+pub record Led (work values amounts : List ℕ) (base stride w from n t : ℕ) : Type 0 where
+  pub values-long : 64 ≤ length values
+  pub amounts-long : 64 ≤ length amounts
+  pub each : (j : ℕ) → j < n → Leading (freeWorth (cells work base stride) w (from + j)) 0 (min t (from + j)) (getD amounts j 0) (getD values j 0)
 
 -- the rows below n hold the best of withdrawing further
 pub record Furthered (work table : List ℕ) (base stride n k : ℕ) : Type 0 where
