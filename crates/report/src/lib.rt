@@ -1,0 +1,223 @@
+// What the program prints for a record and a list, as bytes in a lent buffer.
+ghost use mathlib.Core.Path.{_≡_};
+ghost use mathlib.Core.List.{[], _∷_, _++_};
+ghost use Prim.Native.Nat.{ℕ, _+_, _*_, _≤_, _<_};
+ghost use lib.ListN.{length, take, getD};
+ghost use Rattle.rules.specs.Contract.{termsOf, returnsOf};
+ghost use Rattle.rules.specs.Date.{static, mixed, dynamic};
+ghost use Rattle.rules.specs.Operations.{productOf};
+ghost use Rattle.rules.specs.Printed.{digits, decimal, line, nameOf, refusedWord, linesOf, lineCount, printed};
+ghost use Rattle.contract.specs.Reading.{termsIn};
+ghost use Rattle.report.specs.Text.{Put};
+ghost use Rattle.report.specs.Tables.{tableLine, Tabled, Filled};
+use contract::Contract;
+use contract::Listing;
+use contract::Reading;
+use contract::Returns;
+
+fn byte(out: &mut [u8], at: usize, b: u8) -> usize
+    requires { ⌜ at < length (now out) ⌝ }
+    ensures { λ r. ⌜ Put 1 (now (out .entry)) at (b ∷ []) r (now (out .exit)) ⌝ }
+{
+    out[at] = b;
+    at + 1
+}
+
+// The digits of x, where there are no more than `places`.
+fn digits(out: &mut [u8], at: usize, places: usize, x: u64) -> usize
+    requires { ⌜ at + places ≤ length (now out) ⌝ }
+    ensures { λ r. ⌜ Put places (now (out .entry)) at (digits places x) r (now (out .exit)) ⌝ }
+{
+    if places == 0 {
+        return at;
+    }
+    if x < 10 {
+        return byte(out, at, 48 + (x % 10) as u8);
+    }
+    let next = digits(out, at, places - 1, x / 10);
+    byte(out, next, 48 + (x % 10) as u8)
+}
+
+// A space and x.
+fn number(out: &mut [u8], at: usize, x: u64) -> usize
+    requires { ⌜ at + 21 ≤ length (now out) ⌝ }
+    ensures { λ r. ⌜ Put 21 (now (out .entry)) at (32 ∷ decimal x) r (now (out .exit)) ⌝ }
+{
+    let next = byte(out, at, 32);
+    digits(out, next, 20, x)
+}
+
+fn word(out: &mut [u8], at: usize, text: &[u8]) -> usize
+    requires { ⌜ at + length (now text) ≤ length (now out) ⌝ }
+    ensures { λ r. ⌜ Put (length (now (text .entry))) (now (out .entry)) at (now (text .entry)) r (now (out .exit)) ⌝ }
+{
+    let mut next = at;
+    let n = text.len();
+    for i in 0..n {
+        next = byte(out, next, text[i]);
+    }
+    next
+}
+
+// A name and a value.
+fn value_line(out: &mut [u8], at: usize, name: &[u8], value: u32) -> usize
+    requires { ⌜ at + (length (now name) + 22) ≤ length (now out) ⌝ }
+    ensures { λ r. ⌜ Put (length (now (name .entry)) + 22) (now (out .entry)) at (line (now (name .entry)) (value ∷ [])) r (now (out .exit)) ⌝ }
+{
+    let named = word(out, at, name);
+    let next = number(out, named, value as u64);
+    byte(out, next, 10)
+}
+
+// The only line of a refusal.
+fn refusal(out: &mut [u8], refused: u32, place: u64) -> usize
+    requires { ⌜ 50 ≤ length (now out) ⌝ }
+    ensures { λ r. ⌜ Put 50 (now (out .entry)) 0 (line refusedWord (refused ∷ place ∷ [])) r (now (out .exit)) ⌝ }
+{
+    let named = word(out, 0, b"refused");
+    let numbered = number(out, named, refused as u64);
+    let next = number(out, numbered, place);
+    byte(out, next, 10)
+}
+
+// The three lines of the values.
+fn value_lines(out: &mut [u8], fixed: u32, surrendered: u32, free: u32) -> usize
+    requires { ⌜ 84 ≤ length (now out) ⌝ }
+    ensures { λ r. ⌜ Put 84 (now (out .entry)) 0 (line (nameOf static) (fixed ∷ []) ++ line (nameOf mixed) (surrendered ∷ []) ++ line (nameOf dynamic) (free ∷ [])) r (now (out .exit)) ⌝ }
+{
+    let first = value_line(out, 0, b"static", fixed);
+    let second = value_line(out, first, b"mixed", surrendered);
+    value_line(out, second, b"dynamic", free)
+}
+
+fn wide(x: u16) -> u64
+    ensures { λ r. ⌜ r ≡ x ⌝ }
+{
+    x as u64
+}
+
+fn amount(table: &[u16], entry: usize) -> u64
+    requires { ⌜ entry < length (now table) ⌝ }
+    ensures { λ r. ⌜ r ≡ getD (now (table .entry)) entry 0 ⌝ }
+{
+    wide(table[entry])
+}
+
+// Return number k, and what belongs to it.
+fn amounts_line(
+    out: &mut [u8],
+    at: usize,
+    k: u64,
+    account: u64,
+    guarantee: u64,
+    fixed: u64,
+    surrendered: u64,
+    free: u64,
+) -> usize
+    requires { ⌜ at + 126 ≤ length (now out) ⌝ }
+    ensures { λ r. ⌜ Put 126 (now (out .entry)) at (line (decimal k) (account ∷ guarantee ∷ fixed ∷ surrendered ∷ free ∷ [])) r (now (out .exit)) ⌝ }
+{
+    let a = digits(out, at, 20, k);
+    let b = number(out, a, account);
+    let c = number(out, b, guarantee);
+    let d = number(out, c, fixed);
+    let e = number(out, d, surrendered);
+    let f = number(out, e, free);
+    byte(out, f, 10)
+}
+
+// The line of return k, with the amounts that the tables hold.
+fn return_line(
+    c: Contract,
+    list: &[u8],
+    count: usize,
+    k: usize,
+    fixed: &[u16],
+    surrendered: &[u16],
+    free: &[u16],
+    out: &mut [u8],
+    at: usize,
+) -> usize
+    requires { ⌜ Tabled (termsIn c) count (now list) (now fixed) (now surrendered) (now free) ⌝ }
+    requires { ⌜ (k < count) × (at + 126 ≤ length (now out)) ⌝ }
+    ensures { λ r. ⌜ Put 126 (now (out .entry)) at (tableLine (termsIn c) (returnsOf (now (list .entry))) (now (fixed .entry)) (now (surrendered .entry)) (now (free .entry)) k) r (now (out .exit)) ⌝ }
+{
+    let factor = contract::word(list, Contract::RETURN_BYTES * k);
+    let account = date::next_account(c.fee, c.top, c.premium, factor);
+    let entry = account * (c.premium + 1) + c.premium;
+    let a = amount(fixed, entry);
+    let b = amount(surrendered, entry);
+    let d = amount(free, entry);
+    amounts_line(out, at, k as u64, account as u64, c.premium as u64, a, b, d)
+}
+
+fn return_lines(
+    c: Contract,
+    list: &[u8],
+    count: usize,
+    fixed: &[u16],
+    surrendered: &[u16],
+    free: &[u16],
+    out: &mut [u8],
+    at: usize,
+) -> usize
+    requires { ⌜ Tabled (termsIn c) count (now list) (now fixed) (now surrendered) (now free) ⌝ }
+    requires { ⌜ at + 126 * count ≤ length (now out) ⌝ }
+    ensures { λ r. ⌜ Put (126 * count) (now (out .entry)) at (linesOf (tableLine (termsIn c) (returnsOf (now (list .entry))) (now (fixed .entry)) (now (surrendered .entry)) (now (free .entry))) count) r (now (out .exit)) ⌝ }
+{
+    let mut next = at;
+    for k in 0..count {
+        next = return_line(c, list, count, k, fixed, surrendered, free, out, next);
+    }
+    next
+}
+
+// The lines of the returns, none without a decision date.
+fn all_lines(
+    bytes: &[u8],
+    list: &[u8],
+    fixed: &[u16],
+    surrendered: &[u16],
+    free: &[u16],
+    out: &mut [u8],
+    at: usize,
+) -> usize
+    requires { ⌜ Filled (now bytes) (now list) (now fixed) (now surrendered) (now free) ⌝ }
+    requires { ⌜ at + 8064 ≤ length (now out) ⌝ }
+    ensures { λ r. ⌜ Put 8064 (now (out .entry)) at (linesOf (tableLine (termsOf (now (bytes .entry))) (returnsOf (now (list .entry))) (now (fixed .entry)) (now (surrendered .entry)) (now (free .entry))) (lineCount (productOf (now (bytes .entry)) (now (list .entry))))) r (now (out .exit)) ⌝ }
+{
+    let reading = Contract::read(bytes);
+    let Reading::Accepted(c) = reading else {
+        return at;
+    };
+    if c.dates < 2 {
+        return at;
+    }
+    let listing = Returns::read(list);
+    let Listing::Accepted(returns) = listing else {
+        return at;
+    };
+    return_lines(c, list, returns.count, fixed, surrendered, free, out, at)
+}
+
+// Puts what is printed at the start of the buffer, and answers its length.
+pub fn print(
+    bytes: &[u8],
+    list: &[u8],
+    work: &mut [u32; 8192],
+    fixed: &mut [u16; 16384],
+    surrendered: &mut [u16; 16384],
+    free: &mut [u16; 16384],
+    out: &mut [u8; 8192],
+) -> usize
+    ensures { λ r. ⌜ (r ≤ 8192) × (take r (now (out .exit)) ≡ printed (now (bytes .entry)) (now (list .entry))) ⌝ }
+{
+    let a = valuing::value(bytes, list, 0, work, fixed);
+    if a.number != 0 {
+        return refusal(out, a.number, a.place);
+    }
+    let b = valuing::value(bytes, list, 1, work, surrendered);
+    let d = valuing::value(bytes, list, 2, work, free);
+    let at = value_lines(out, a.value, b.value, d.value);
+    all_lines(bytes, list, fixed, surrendered, free, out, at)
+}
