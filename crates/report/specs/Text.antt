@@ -6,7 +6,7 @@ use native.Mathlib.Nat.{le-refl, mod-eq-of-lt}
 use native.Mathlib.Numerals.{add-one}
 use native.Mathlib.Omega.{arith}
 use lib.ListN.{length, take, set, getD}
-use lib.Seq.{take-suc, take-suc-set}
+use lib.Seq.{length-take-le, take-suc, take-suc-set}
 use borrow.Author.Tests.{lt-ltb, le-ltb}
 use Rattle.rules.specs.Printed.{digits, linesOf}
 
@@ -36,6 +36,13 @@ put-most h p = record { within = omega (arith, p .within); holds = p .holds }
 
 pub put-eq : {m at r : ℕ} {out out' a b : List ℕ} → a ≡ b → Put m out at a r out' → Put m out at b r out'
 put-eq {at = at} {out = out} e p = record { within = p .within; holds = p .holds ∙ ap (λ (l : List ℕ). take at out ++ l) e }
+
+-- n counts bytes at the start of xs; both parts are stated, so that a caller may lend `&xs[..n]` with no proof of its own
+abbrev pub Counts : ℕ → List ℕ → Type 0
+Counts n xs = (n ≤ length xs) × (n ≡ length (take n xs))
+
+pub put-counts : {most r : ℕ} {out out' text : List ℕ} → Put most out 0 text r out' → most ≤ length out' → Counts r out'
+put-counts {r = r} {out' = out'} p h = let l : r ≤ length out' = omega (arith, p .within) in (l, sym (length-take-le r out' l))
 
 -- ---- digits
 pub digits-none : (places x : ℕ) → places ≡ 0 → digits places x ≡ []

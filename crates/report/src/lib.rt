@@ -8,7 +8,7 @@ ghost use Rattle.rules.specs.Date.{static, mixed, dynamic};
 ghost use Rattle.rules.specs.Operations.{productOf};
 ghost use Rattle.rules.specs.Printed.{digits, decimal, line, nameOf, refusedWord, linesOf, lineCount, printed};
 ghost use Rattle.contract.specs.Reading.{termsIn};
-ghost use Rattle.report.specs.Text.{Put};
+ghost use Rattle.report.specs.Text.{Put, Counts};
 ghost use Rattle.report.specs.Tables.{tableLine, Tabled, Filled};
 use contract::Contract;
 use contract::Listing;
@@ -210,7 +210,8 @@ pub fn print(
     free: &mut [u16; 16384],
     out: &mut [u8; 8192],
 ) -> usize
-    ensures { λ r. ⌜ (r ≤ 8192) × (take r (now (out .exit)) ≡ printed (now (bytes .entry)) (now (list .entry))) ⌝ }
+    ensures { λ r. ⌜ take r (now (out .exit)) ≡ printed (now (bytes .entry)) (now (list .entry)) ⌝ }
+    ensures { λ r. ⌜ Counts r (now (out .exit)) ⌝ }
 {
     let a = valuing::value(bytes, list, 0, work, fixed);
     if a.number != 0 {

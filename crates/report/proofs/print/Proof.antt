@@ -2,7 +2,7 @@
 use borrow.Author.Needs.{needs}
 use mathlib.Core.Path.{_∙_}
 use native.Mathlib.Omega.{arith}
-use Rattle.report.specs.Text.{put-then}
+use Rattle.report.specs.Text.{put-then, put-counts}
 use Rattle.report.proofs.Laws.{refused-printed, accepted-printed, program-accepts, filled, valued}
 use Rattle.report.proofs.print.Statement.{statement}
 use Rattle.report.proofs.print.Tie as tie
@@ -14,7 +14,7 @@ refusal-requires : tie.Need-refusal-requires
 refusal-requires c κs = search needs
 
 returns : tie.Need-returns
-returns c = let w = c .refusal .ensures in (omega (arith, w .within), w .holds ∙ refused-printed (c .before .before .before .before .before .before .before .before .before .args .bytes .now) (c .before .before .before .before .before .before .before .before .before .args .list .now) _ _ _ (c .before .before .before .before .before .before .value-arg .given .0 .1) (c .before .before .before .before .before .value-arg2 .given .0 .1) (c .before .before .before .before .value .ensures .0) (c .before .before .if1 .taken))
+returns c = let w = c .refusal .ensures in (w .holds ∙ refused-printed (c .before .before .before .before .before .before .before .before .before .args .bytes .now) (c .before .before .before .before .before .before .before .before .before .args .list .now) _ _ _ (c .before .before .before .before .before .before .value-arg .given .0 .1) (c .before .before .before .before .before .value-arg2 .given .0 .1) (c .before .before .before .before .value .ensures .0) (c .before .before .if1 .taken), put-counts w (omega (arith, c .refusal .kept .0, c .before .refusal-arg .given .0 .1)))
 
 value-requires-2 : tie.Need-value-requires-2
 value-requires-2 c κs = search needs
@@ -29,7 +29,7 @@ all-lines-requires : tie.Need-all-lines-requires
 all-lines-requires c κs = let yes-to = program-accepts (c .before .before .before .before .before .before .before .before .before .before .before .before .before .before .before .before .before .before .before .before .before .before .args .bytes .now) (c .before .before .before .before .before .before .before .before .before .before .before .before .before .before .before .before .before .before .before .before .before .before .args .list .now) _ _ _ (c .before .before .before .before .before .before .before .before .before .before .before .before .before .before .before .before .before .before .before .value-arg .given .0 .1) (c .before .before .before .before .before .before .before .before .before .before .before .before .before .before .before .before .before .before .value-arg2 .given .0 .1) (c .before .before .before .before .before .before .before .before .before .before .before .before .before .before .before .before .before .value .ensures .0) (c .before .before .before .before .before .before .before .before .before .before .before .before .before .before .before .if1 .left) in (filled (c .before .before .before .before .before .before .before .before .before .before .before .before .before .before .before .before .before .before .before .before .before .before .args .bytes .now) (c .before .before .before .before .before .before .before .before .before .before .before .before .before .before .before .before .before .before .before .before .before .before .args .list .now) yes-to (c .before .before .before .before .before .all-lines-arg2 .given .0) (c .before .before .before .all-lines-arg4 .given .0) (c .before .all-lines-arg6 .given .0), omega (arith, c .before .before .before .before .before .before .before .value-lines .ensures .within, c .all-lines-arg7 .given .0 .1))
 
 returns-2 : tie.Need-returns-2
-returns-2 c = let yes-to = program-accepts (c .before .before .before .before .before .before .before .before .before .before .before .before .before .before .before .before .before .before .before .before .before .before .before .args .bytes .now) (c .before .before .before .before .before .before .before .before .before .before .before .before .before .before .before .before .before .before .before .before .before .before .before .args .list .now) _ _ _ (c .before .before .before .before .before .before .before .before .before .before .before .before .before .before .before .before .before .before .before .before .value-arg .given .0 .1) (c .before .before .before .before .before .before .before .before .before .before .before .before .before .before .before .before .before .before .before .value-arg2 .given .0 .1) (c .before .before .before .before .before .before .before .before .before .before .before .before .before .before .before .before .before .before .value .ensures .0) (c .before .before .before .before .before .before .before .before .before .before .before .before .before .before .before .before .if1 .left) in let w = put-then (c .before .before .before .before .before .before .before .before .value-lines .ensures) (c .all-lines .ensures) in (omega (arith, w .within), w .holds ∙ accepted-printed (c .before .before .before .before .before .before .before .before .before .before .before .before .before .before .before .before .before .before .before .before .before .before .before .args .bytes .now) (c .before .before .before .before .before .before .before .before .before .before .before .before .before .before .before .before .before .before .before .before .before .before .before .args .list .now) (valued (c .before .before .before .before .before .before .before .before .before .before .before .before .before .before .before .before .before .before .before .before .before .before .before .args .bytes .now) (c .before .before .before .before .before .before .before .before .before .before .before .before .before .before .before .before .before .before .before .before .before .before .before .args .list .now) 0 _ _ _ _ (omega arith) (c .before .before .before .before .before .before .before .before .before .before .before .before .before .before .before .before .before .before .before .before .value-arg .given .0 .1) (c .before .before .before .before .before .before .before .before .before .before .before .before .before .before .before .before .before .before .before .value-arg2 .given .0 .1) yes-to (c .before .before .before .before .before .before .before .before .before .before .before .before .before .before .before .before .before .before .value .ensures .0) (c .before .before .before .before .before .before .before .before .before .before .before .before .before .before .before .before .before .before .value .ensures .1 .1 .0)) (valued (c .before .before .before .before .before .before .before .before .before .before .before .before .before .before .before .before .before .before .before .before .before .before .before .args .bytes .now) (c .before .before .before .before .before .before .before .before .before .before .before .before .before .before .before .before .before .before .before .before .before .before .before .args .list .now) 1 _ _ _ _ (omega arith) (c .before .before .before .before .before .before .before .before .before .before .before .before .before .before .before .value-arg3 .given .0 .1) (c .before .before .before .before .before .before .before .before .before .before .before .before .before .before .value-arg4 .given .0 .1) yes-to (c .before .before .before .before .before .before .before .before .before .before .before .before .before .value2 .ensures .0) (c .before .before .before .before .before .before .before .before .before .before .before .before .before .value2 .ensures .1 .1 .0)) (valued (c .before .before .before .before .before .before .before .before .before .before .before .before .before .before .before .before .before .before .before .before .before .before .before .args .bytes .now) (c .before .before .before .before .before .before .before .before .before .before .before .before .before .before .before .before .before .before .before .before .before .before .before .args .list .now) 2 _ _ _ _ (omega arith) (c .before .before .before .before .before .before .before .before .before .before .before .before .value-arg5 .given .0 .1) (c .before .before .before .before .before .before .before .before .before .before .before .value-arg6 .given .0 .1) yes-to (c .before .before .before .before .before .before .before .before .before .before .value3 .ensures .0) (c .before .before .before .before .before .before .before .before .before .before .value3 .ensures .1 .1 .0)) yes-to)
+returns-2 c = let yes-to = program-accepts (c .before .before .before .before .before .before .before .before .before .before .before .before .before .before .before .before .before .before .before .before .before .before .before .args .bytes .now) (c .before .before .before .before .before .before .before .before .before .before .before .before .before .before .before .before .before .before .before .before .before .before .before .args .list .now) _ _ _ (c .before .before .before .before .before .before .before .before .before .before .before .before .before .before .before .before .before .before .before .before .value-arg .given .0 .1) (c .before .before .before .before .before .before .before .before .before .before .before .before .before .before .before .before .before .before .before .value-arg2 .given .0 .1) (c .before .before .before .before .before .before .before .before .before .before .before .before .before .before .before .before .before .before .value .ensures .0) (c .before .before .before .before .before .before .before .before .before .before .before .before .before .before .before .before .if1 .left) in let w = put-then (c .before .before .before .before .before .before .before .before .value-lines .ensures) (c .all-lines .ensures) in (w .holds ∙ accepted-printed (c .before .before .before .before .before .before .before .before .before .before .before .before .before .before .before .before .before .before .before .before .before .before .before .args .bytes .now) (c .before .before .before .before .before .before .before .before .before .before .before .before .before .before .before .before .before .before .before .before .before .before .before .args .list .now) (valued (c .before .before .before .before .before .before .before .before .before .before .before .before .before .before .before .before .before .before .before .before .before .before .before .args .bytes .now) (c .before .before .before .before .before .before .before .before .before .before .before .before .before .before .before .before .before .before .before .before .before .before .before .args .list .now) 0 _ _ _ _ (omega arith) (c .before .before .before .before .before .before .before .before .before .before .before .before .before .before .before .before .before .before .before .before .value-arg .given .0 .1) (c .before .before .before .before .before .before .before .before .before .before .before .before .before .before .before .before .before .before .before .value-arg2 .given .0 .1) yes-to (c .before .before .before .before .before .before .before .before .before .before .before .before .before .before .before .before .before .before .value .ensures .0) (c .before .before .before .before .before .before .before .before .before .before .before .before .before .before .before .before .before .before .value .ensures .1 .1 .0)) (valued (c .before .before .before .before .before .before .before .before .before .before .before .before .before .before .before .before .before .before .before .before .before .before .before .args .bytes .now) (c .before .before .before .before .before .before .before .before .before .before .before .before .before .before .before .before .before .before .before .before .before .before .before .args .list .now) 1 _ _ _ _ (omega arith) (c .before .before .before .before .before .before .before .before .before .before .before .before .before .before .before .value-arg3 .given .0 .1) (c .before .before .before .before .before .before .before .before .before .before .before .before .before .before .value-arg4 .given .0 .1) yes-to (c .before .before .before .before .before .before .before .before .before .before .before .before .before .value2 .ensures .0) (c .before .before .before .before .before .before .before .before .before .before .before .before .before .value2 .ensures .1 .1 .0)) (valued (c .before .before .before .before .before .before .before .before .before .before .before .before .before .before .before .before .before .before .before .before .before .before .before .args .bytes .now) (c .before .before .before .before .before .before .before .before .before .before .before .before .before .before .before .before .before .before .before .before .before .before .before .args .list .now) 2 _ _ _ _ (omega arith) (c .before .before .before .before .before .before .before .before .before .before .before .before .value-arg5 .given .0 .1) (c .before .before .before .before .before .before .before .before .before .before .before .value-arg6 .given .0 .1) yes-to (c .before .before .before .before .before .before .before .before .before .before .value3 .ensures .0) (c .before .before .before .before .before .before .before .before .before .before .value3 .ensures .1 .1 .0)) yes-to, put-counts w (omega (arith, c .all-lines .kept .1 .1 .1 .1 .1 .0, c .before .all-lines-arg7 .given .0 .1)))
 
 pub print-spec : {M : Type 1} → statement M
 print-spec =
