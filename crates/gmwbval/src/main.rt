@@ -20,18 +20,18 @@ fn main() {
     let terms_length = read(b"terms.bin", &mut terms);
     let mut returns = [0u8; 512];
     let returns_length = read(b"returns.bin", &mut returns);
-    let mut work = [0u32; 8192];
-    let mut fixed = [0u16; 16384];
-    let mut surrendered = [0u16; 16384];
-    let mut free = [0u16; 16384];
+    let mut work: [u32; 8192] = [0; 8192];
+    let mut statics: [u16; 16384] = [0; 16384];
+    let mut mixeds: [u16; 16384] = [0; 16384];
+    let mut dynamics: [u16; 16384] = [0; 16384];
     let mut text = [0u8; 8192];
     let n = report::print(
         &terms[..terms_length],
         &returns[..returns_length],
         &mut work,
-        &mut fixed,
-        &mut surrendered,
-        &mut free,
+        &mut statics,
+        &mut mixeds,
+        &mut dynamics,
         &mut text,
     );
     io::write_all(STDOUT_FILENO, &text[..n]);

@@ -141,9 +141,9 @@ module _ (bytes list : List ℕ) where
       record {
         record-accepted = and-left first second read;
         list-accepted = and-right first second read;
-        fixed-room = omega (arith, room, l₀);
+        static-room = omega (arith, room, l₀);
         mixed-room = omega (arith, room, l₁);
-        free-room = omega (arith, room, l₂);
+        dynamic-room = omega (arith, room, l₂);
       }
 
   -- what a call that is accepted reports and leaves
@@ -169,10 +169,10 @@ module _ (bytes list : List ℕ) where
     return-line : (k : ℕ) → 1 < termsOf bytes .dates → tableLine (termsOf bytes) (returnsOf list) t₀ t₁ t₂ k ≡ returnLine (productOf bytes list) k
     unfolding tableLine returnLine productOf fixedTerm processOf reachBy startOf accountBy behaviourOf
     return-line k later =
-        let fixed-is = x₀ .amounts k later in
+        let static-is = x₀ .amounts k later in
         let mixed-is = x₁ .amounts k later in
-        let free-is = x₂ .amounts k later in
-        λ i. line (decimal k) (accountBy (termsOf bytes) (returnsOf list) k ∷ termsOf bytes .premium ∷ fixed-is i ∷ mixed-is i ∷ free-is i ∷ [])
+        let dynamic-is = x₂ .amounts k later in
+        λ i. line (decimal k) (accountBy (termsOf bytes) (returnsOf list) k ∷ termsOf bytes .premium ∷ static-is i ∷ mixed-is i ∷ dynamic-is i ∷ [])
 
     lines-are : linesOf (tableLine (termsOf bytes) (returnsOf list) t₀ t₁ t₂) (lineCount (productOf bytes list))
         ≡ linesOf (returnLine (productOf bytes list)) (lineCount (productOf bytes list))
@@ -193,10 +193,10 @@ module _ (bytes list : List ℕ) where
         ≡ printed bytes list
     unfolding printed textOf valuesText valueLine behaviourOf
     accepted-printed a =
-        let fixed-is = x₀ .value-is in
+        let static-is = x₀ .value-is in
         let mixed-is = x₁ .value-is in
-        let free-is = x₂ .value-is in
-        (λ i. line (nameOf static) (fixed-is i ∷ []) ++ line (nameOf mixed) (mixed-is i ∷ []) ++ line (nameOf dynamic) (free-is i ∷ []) ++ lines-are i)
+        let dynamic-is = x₂ .value-is in
+        (λ i. line (nameOf static) (static-is i ∷ []) ++ line (nameOf mixed) (mixed-is i ∷ []) ++ line (nameOf dynamic) (dynamic-is i ∷ []) ++ lines-are i)
         ∙ ap (textOf (productOf bytes list)) (sym a)
 
 -- ---- terms and returns that were read, with their tables
@@ -208,7 +208,7 @@ tabled {t₀ = t₀} {t₁ = t₁} {t₂ = t₂} {c = c} x y h f =
     record {
       valid = x .valid;
       listing = ready x y .listing;
-      fixed-layer = room t₀ (f .fixed-room);
+      static-layer = room t₀ (f .static-room);
       mixed-layer = room t₁ (f .mixed-room);
-      free-layer = room t₂ (f .free-room);
+      dynamic-layer = room t₂ (f .dynamic-room);
     }

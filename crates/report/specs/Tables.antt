@@ -24,25 +24,25 @@ unfoldable pub entryBy : Terms → Returns → ℕ → ℕ
 entryBy c rs k = accountBy c rs k * (c .premium + 1) + c .premium
 
 unfoldable pub tableLine : Terms → Returns → List ℕ → List ℕ → List ℕ → ℕ → List ℕ
-tableLine c rs fixed mixed free k =
+tableLine c rs statics mixeds dynamics k =
     let e = entryBy c rs k in
-    line (decimal k) (accountBy c rs k ∷ c .premium ∷ getD fixed e 0 ∷ getD mixed e 0 ∷ getD free e 0 ∷ [])
+    line (decimal k) (accountBy c rs k ∷ c .premium ∷ getD statics e 0 ∷ getD mixeds e 0 ∷ getD dynamics e 0 ∷ [])
 
 -- terms, returns, and tables of at least one layer
-pub record Tabled (c : Terms) (count : ℕ) (list fixed mixed free : List ℕ) : Type 0 where
+pub record Tabled (c : Terms) (count : ℕ) (list statics mixeds dynamics : List ℕ) : Type 0 where
   pub valid : Valid c
   pub listing : Listing list count
-  pub fixed-layer : layerSize c ≤ length fixed
-  pub mixed-layer : layerSize c ≤ length mixed
-  pub free-layer : layerSize c ≤ length free
+  pub static-layer : layerSize c ≤ length statics
+  pub mixed-layer : layerSize c ≤ length mixeds
+  pub dynamic-layer : layerSize c ≤ length dynamics
 
 -- a record and a list that are accepted, and tables with room for every decision date
-pub record Filled (bytes list fixed mixed free : List ℕ) : Type 0 where
+pub record Filled (bytes list statics mixeds dynamics : List ℕ) : Type 0 where
   pub record-accepted : verdict (recordChecks bytes) ≡ accepted
   pub list-accepted : verdict (listChecks list) ≡ accepted
-  pub fixed-room : tableSize (termsOf bytes) ≤ length fixed
-  pub mixed-room : tableSize (termsOf bytes) ≤ length mixed
-  pub free-room : tableSize (termsOf bytes) ≤ length free
+  pub static-room : tableSize (termsOf bytes) ≤ length statics
+  pub mixed-room : tableSize (termsOf bytes) ≤ length mixeds
+  pub dynamic-room : tableSize (termsOf bytes) ≤ length dynamics
 
 -- ---- what one line asks
 pub factor-le : {list : List ℕ} {count k : ℕ} → Listing list count → k < count → word list (4 * k) ≤ factorMost
@@ -58,17 +58,17 @@ module _ {c : Terms} (v : Valid c) (w : ℕ) (h : w ≤ c .top) where
   entry-within = two-digits w (c .premium) (c .top + 1) (c .premium + 1) (omega arith) (omega arith)
 
 -- the amounts in the entry of account w
-pub table-line : (c : Terms) (list fixed mixed free : List ℕ) (k : ℕ) {w a b d : ℕ} → w ≡ nextAccount (c .fee) (c .top) (c .premium) (word list (4 * k))
-    → a ≡ getD fixed (w * (c .premium + 1) + c .premium) 0
-    → b ≡ getD mixed (w * (c .premium + 1) + c .premium) 0
-    → d ≡ getD free (w * (c .premium + 1) + c .premium) 0
-    → line (decimal k) (w ∷ c .premium ∷ a ∷ b ∷ d ∷ []) ≡ tableLine c (returnsOf list) fixed mixed free k
+pub table-line : (c : Terms) (list statics mixeds dynamics : List ℕ) (k : ℕ) {w a b d : ℕ} → w ≡ nextAccount (c .fee) (c .top) (c .premium) (word list (4 * k))
+    → a ≡ getD statics (w * (c .premium + 1) + c .premium) 0
+    → b ≡ getD mixeds (w * (c .premium + 1) + c .premium) 0
+    → d ≡ getD dynamics (w * (c .premium + 1) + c .premium) 0
+    → line (decimal k) (w ∷ c .premium ∷ a ∷ b ∷ d ∷ []) ≡ tableLine c (returnsOf list) statics mixeds dynamics k
 unfolding tableLine entryBy accountBy returnsOf
-table-line c list fixed mixed free k ew ea eb ed =
-    let fixed-is = ea ∙ ap (λ (x : ℕ). getD fixed (x * (c .premium + 1) + c .premium) 0) ew in
-    let mixed-is = eb ∙ ap (λ (x : ℕ). getD mixed (x * (c .premium + 1) + c .premium) 0) ew in
-    let free-is = ed ∙ ap (λ (x : ℕ). getD free (x * (c .premium + 1) + c .premium) 0) ew in
-    λ i. line (decimal k) (ew i ∷ c .premium ∷ fixed-is i ∷ mixed-is i ∷ free-is i ∷ [])
+table-line c list statics mixeds dynamics k ew ea eb ed =
+    let static-is = ea ∙ ap (λ (x : ℕ). getD statics (x * (c .premium + 1) + c .premium) 0) ew in
+    let mixed-is = eb ∙ ap (λ (x : ℕ). getD mixeds (x * (c .premium + 1) + c .premium) 0) ew in
+    let dynamic-is = ed ∙ ap (λ (x : ℕ). getD dynamics (x * (c .premium + 1) + c .premium) 0) ew in
+    λ i. line (decimal k) (ew i ∷ c .premium ∷ static-is i ∷ mixed-is i ∷ dynamic-is i ∷ [])
 
 -- a table with room for every decision date has room for one
 pub one-layer : (c : Terms) (n : ℕ) → 2 ≤ c .dates → tableSize c ≤ n → layerSize c ≤ n

@@ -81,13 +81,13 @@ fn refusal(out: &mut [u8], refused: u32, place: u64) -> usize
 }
 
 // The three lines of the values.
-fn value_lines(out: &mut [u8], fixed: u32, surrendered: u32, free: u32) -> usize
+fn value_lines(out: &mut [u8], statics: u32, mixeds: u32, dynamics: u32) -> usize
     requires { ⌜ 84 ≤ length (now out) ⌝ }
-    ensures { λ r. ⌜ Put 84 (now (out .entry)) 0 (line (nameOf static) (fixed ∷ []) ++ line (nameOf mixed) (surrendered ∷ []) ++ line (nameOf dynamic) (free ∷ [])) r (now (out .exit)) ⌝ }
+    ensures { λ r. ⌜ Put 84 (now (out .entry)) 0 (line (nameOf static) (statics ∷ []) ++ line (nameOf mixed) (mixeds ∷ []) ++ line (nameOf dynamic) (dynamics ∷ [])) r (now (out .exit)) ⌝ }
 {
-    let first = value_line(out, 0, b"static", fixed);
-    let second = value_line(out, first, b"mixed", surrendered);
-    value_line(out, second, b"dynamic", free)
+    let first = value_line(out, 0, b"static", statics);
+    let second = value_line(out, first, b"mixed", mixeds);
+    value_line(out, second, b"dynamic", dynamics)
 }
 
 fn wide(x: u16) -> u64
@@ -110,19 +110,19 @@ fn amounts_line(
     k: u64,
     account: u64,
     guarantee: u64,
-    fixed: u64,
-    surrendered: u64,
-    free: u64,
+    statics: u64,
+    mixeds: u64,
+    dynamics: u64,
 ) -> usize
     requires { ⌜ at + 126 ≤ length (now out) ⌝ }
-    ensures { λ r. ⌜ Put 126 (now (out .entry)) at (line (decimal k) (account ∷ guarantee ∷ fixed ∷ surrendered ∷ free ∷ [])) r (now (out .exit)) ⌝ }
+    ensures { λ r. ⌜ Put 126 (now (out .entry)) at (line (decimal k) (account ∷ guarantee ∷ statics ∷ mixeds ∷ dynamics ∷ [])) r (now (out .exit)) ⌝ }
 {
     let a = digits(out, at, 20, k);
     let b = number(out, a, account);
     let c = number(out, b, guarantee);
-    let d = number(out, c, fixed);
-    let e = number(out, d, surrendered);
-    let f = number(out, e, free);
+    let d = number(out, c, statics);
+    let e = number(out, d, mixeds);
+    let f = number(out, e, dynamics);
     byte(out, f, 10)
 }
 
@@ -132,22 +132,22 @@ fn return_line(
     list: &[u8],
     count: usize,
     k: usize,
-    fixed: &[u16],
-    surrendered: &[u16],
-    free: &[u16],
+    statics: &[u16],
+    mixeds: &[u16],
+    dynamics: &[u16],
     out: &mut [u8],
     at: usize,
 ) -> usize
-    requires { ⌜ Tabled (termsIn c) count (now list) (now fixed) (now surrendered) (now free) ⌝ }
+    requires { ⌜ Tabled (termsIn c) count (now list) (now statics) (now mixeds) (now dynamics) ⌝ }
     requires { ⌜ (k < count) × (at + 126 ≤ length (now out)) ⌝ }
-    ensures { λ r. ⌜ Put 126 (now (out .entry)) at (tableLine (termsIn c) (returnsOf (now (list .entry))) (now (fixed .entry)) (now (surrendered .entry)) (now (free .entry)) k) r (now (out .exit)) ⌝ }
+    ensures { λ r. ⌜ Put 126 (now (out .entry)) at (tableLine (termsIn c) (returnsOf (now (list .entry))) (now (statics .entry)) (now (mixeds .entry)) (now (dynamics .entry)) k) r (now (out .exit)) ⌝ }
 {
     let factor = contract::word(list, Contract::RETURN_BYTES * k);
     let account = date::next_account(c.fee, c.top, c.premium, factor);
     let entry = account * (c.premium + 1) + c.premium;
-    let a = amount(fixed, entry);
-    let b = amount(surrendered, entry);
-    let d = amount(free, entry);
+    let a = amount(statics, entry);
+    let b = amount(mixeds, entry);
+    let d = amount(dynamics, entry);
     amounts_line(out, at, k as u64, account as u64, c.premium as u64, a, b, d)
 }
 
@@ -155,19 +155,19 @@ fn return_lines(
     c: Contract,
     list: &[u8],
     count: usize,
-    fixed: &[u16],
-    surrendered: &[u16],
-    free: &[u16],
+    statics: &[u16],
+    mixeds: &[u16],
+    dynamics: &[u16],
     out: &mut [u8],
     at: usize,
 ) -> usize
-    requires { ⌜ Tabled (termsIn c) count (now list) (now fixed) (now surrendered) (now free) ⌝ }
+    requires { ⌜ Tabled (termsIn c) count (now list) (now statics) (now mixeds) (now dynamics) ⌝ }
     requires { ⌜ at + 126 * count ≤ length (now out) ⌝ }
-    ensures { λ r. ⌜ Put (126 * count) (now (out .entry)) at (linesOf (tableLine (termsIn c) (returnsOf (now (list .entry))) (now (fixed .entry)) (now (surrendered .entry)) (now (free .entry))) count) r (now (out .exit)) ⌝ }
+    ensures { λ r. ⌜ Put (126 * count) (now (out .entry)) at (linesOf (tableLine (termsIn c) (returnsOf (now (list .entry))) (now (statics .entry)) (now (mixeds .entry)) (now (dynamics .entry))) count) r (now (out .exit)) ⌝ }
 {
     let mut next = at;
     for k in 0..count {
-        next = return_line(c, list, count, k, fixed, surrendered, free, out, next);
+        next = return_line(c, list, count, k, statics, mixeds, dynamics, out, next);
     }
     next
 }
@@ -176,15 +176,15 @@ fn return_lines(
 fn all_lines(
     bytes: &[u8],
     list: &[u8],
-    fixed: &[u16],
-    surrendered: &[u16],
-    free: &[u16],
+    statics: &[u16],
+    mixeds: &[u16],
+    dynamics: &[u16],
     out: &mut [u8],
     at: usize,
 ) -> usize
-    requires { ⌜ Filled (now bytes) (now list) (now fixed) (now surrendered) (now free) ⌝ }
+    requires { ⌜ Filled (now bytes) (now list) (now statics) (now mixeds) (now dynamics) ⌝ }
     requires { ⌜ at + 8064 ≤ length (now out) ⌝ }
-    ensures { λ r. ⌜ Put 8064 (now (out .entry)) at (linesOf (tableLine (termsOf (now (bytes .entry))) (returnsOf (now (list .entry))) (now (fixed .entry)) (now (surrendered .entry)) (now (free .entry))) (lineCount (productOf (now (bytes .entry)) (now (list .entry))))) r (now (out .exit)) ⌝ }
+    ensures { λ r. ⌜ Put 8064 (now (out .entry)) at (linesOf (tableLine (termsOf (now (bytes .entry))) (returnsOf (now (list .entry))) (now (statics .entry)) (now (mixeds .entry)) (now (dynamics .entry))) (lineCount (productOf (now (bytes .entry)) (now (list .entry))))) r (now (out .exit)) ⌝ }
 {
     let reading = Contract::read(bytes);
     let Reading::Accepted(c) = reading else {
@@ -197,7 +197,7 @@ fn all_lines(
     let Listing::Accepted(returns) = listing else {
         return at;
     };
-    return_lines(c, list, returns.count, fixed, surrendered, free, out, at)
+    return_lines(c, list, returns.count, statics, mixeds, dynamics, out, at)
 }
 
 // Puts what is printed at the start of the buffer, and answers its length.
@@ -205,20 +205,20 @@ pub fn print(
     bytes: &[u8],
     list: &[u8],
     work: &mut [u32; 8192],
-    fixed: &mut [u16; 16384],
-    surrendered: &mut [u16; 16384],
-    free: &mut [u16; 16384],
+    statics: &mut [u16; 16384],
+    mixeds: &mut [u16; 16384],
+    dynamics: &mut [u16; 16384],
     out: &mut [u8; 8192],
 ) -> usize
     ensures { λ r. ⌜ take r (now (out .exit)) ≡ printed (now (bytes .entry)) (now (list .entry)) ⌝ }
     ensures { λ r. ⌜ Counts r (now (out .exit)) ⌝ }
 {
-    let a = valuing::value(bytes, list, 0, work, fixed);
+    let a = valuing::value(bytes, list, 0, work, statics);
     if a.number != 0 {
         return refusal(out, a.number, a.place);
     }
-    let b = valuing::value(bytes, list, 1, work, surrendered);
-    let d = valuing::value(bytes, list, 2, work, free);
+    let b = valuing::value(bytes, list, 1, work, mixeds);
+    let d = valuing::value(bytes, list, 2, work, dynamics);
     let at = value_lines(out, a.value, b.value, d.value);
-    all_lines(bytes, list, fixed, surrendered, free, out, at)
+    all_lines(bytes, list, statics, mixeds, dynamics, out, at)
 }

@@ -26,7 +26,7 @@ returns c = absurd (not-both (c .before .before .before .before .before .before 
 
 returns-2 : tie.Need-returns-2
 unfolding linesOf
-returns-2 c = let known = read-accepted (c .before .before .before .before .before .before .before .before .before .before .before .before .args .bytes .now) _ (sym (c .before .before .before .before .before .read .ensures) ∙ c .before .before .before .reading .given .1) in put-eq (ap (linesOf (tableLine (termsOf (c .before .before .before .before .before .before .before .before .before .before .before .before .args .bytes .now)) (returnsOf (c .before .before .before .before .before .before .before .before .before .before .before .before .args .list .now)) (c .before .before .before .before .before .before .before .before .before .before .before .before .args .fixed .now) (c .before .before .before .before .before .before .before .before .before .before .before .before .args .surrendered .now) (c .before .before .before .before .before .before .before .before .before .before .before .before .args .free .now))) (sym (no-lines (c .before .before .before .before .before .before .before .before .before .before .before .before .args .list .now) known (c .if1 .taken)))) (put-none _ _ _)
+returns-2 c = let known = read-accepted (c .before .before .before .before .before .before .before .before .before .before .before .before .args .bytes .now) _ (sym (c .before .before .before .before .before .read .ensures) ∙ c .before .before .before .reading .given .1) in put-eq (ap (linesOf (tableLine (termsOf (c .before .before .before .before .before .before .before .before .before .before .before .before .args .bytes .now)) (returnsOf (c .before .before .before .before .before .before .before .before .before .before .before .before .args .list .now)) (c .before .before .before .before .before .before .before .before .before .before .before .before .args .statics .now) (c .before .before .before .before .before .before .before .before .before .before .before .before .args .mixeds .now) (c .before .before .before .before .before .before .before .before .before .before .before .before .args .dynamics .now))) (sym (no-lines (c .before .before .before .before .before .before .before .before .before .before .before .before .args .list .now) known (c .if1 .taken)))) (put-none _ _ _)
 
 read-requires-2 : tie.Need-read-requires-2
 read-requires-2 c κs = search needs
@@ -47,7 +47,7 @@ same-length : tie.Need-same-length
 same-length c = search needs
 
 returns-4 : tie.Need-returns-4
-returns-4 c = let known = read-accepted (c .before .before .before .before .before .before .before .before .before .before .before .before .before .before .before .before .before .before .before .before .args .bytes .now) _ (sym (c .before .before .before .before .before .before .before .before .before .before .before .before .before .read .ensures) ∙ c .before .before .before .before .before .before .before .before .before .before .before .reading .given .1) in let listed = list-accepted (c .before .before .before .before .before .before .before .before .before .before .before .before .before .before .before .before .before .before .before .before .args .list .now) _ (sym (c .before .before .before .before .before .before .before .read2 .ensures) ∙ c .before .before .before .before .before .listing .given .1) in put-eq (ap₂ (λ (t : Terms) (n : ℕ). linesOf (tableLine t (returnsOf (c .before .before .before .before .before .before .before .before .before .before .before .before .before .before .before .before .before .before .before .before .args .list .now)) (c .before .before .before .before .before .before .before .before .before .before .before .before .before .before .before .before .before .before .before .before .args .fixed .now) (c .before .before .before .before .before .before .before .before .before .before .before .before .before .before .before .before .before .before .before .before .args .surrendered .now) (c .before .before .before .before .before .before .before .before .before .before .before .before .before .before .before .before .before .before .before .before .args .free .now)) n) (known .terms) (listed .count ∙ sym (some-lines (c .before .before .before .before .before .before .before .before .before .before .before .before .before .before .before .before .before .before .before .before .args .list .now) known (c .before .before .before .before .before .before .before .before .if1 .left)))) (put-most {m = 126 * c .before .before .before .before .before .listing .given .0 .0 .count} (omega (arith, listed .count, listed .valid .count)) (c .before .before .return-lines .ensures))
+returns-4 c = let known = read-accepted (c .before .before .before .before .before .before .before .before .before .before .before .before .before .before .before .before .before .before .before .before .args .bytes .now) _ (sym (c .before .before .before .before .before .before .before .before .before .before .before .before .before .read .ensures) ∙ c .before .before .before .before .before .before .before .before .before .before .before .reading .given .1) in let listed = list-accepted (c .before .before .before .before .before .before .before .before .before .before .before .before .before .before .before .before .before .before .before .before .args .list .now) _ (sym (c .before .before .before .before .before .before .before .read2 .ensures) ∙ c .before .before .before .before .before .listing .given .1) in put-eq (ap₂ (λ (t : Terms) (n : ℕ). linesOf (tableLine t (returnsOf (c .before .before .before .before .before .before .before .before .before .before .before .before .before .before .before .before .before .before .before .before .args .list .now)) (c .before .before .before .before .before .before .before .before .before .before .before .before .before .before .before .before .before .before .before .before .args .statics .now) (c .before .before .before .before .before .before .before .before .before .before .before .before .before .before .before .before .before .before .before .before .args .mixeds .now) (c .before .before .before .before .before .before .before .before .before .before .before .before .before .before .before .before .before .before .before .before .args .dynamics .now)) n) (known .terms) (listed .count ∙ sym (some-lines (c .before .before .before .before .before .before .before .before .before .before .before .before .before .before .before .before .before .before .before .before .args .list .now) known (c .before .before .before .before .before .before .before .before .if1 .left)))) (put-most {m = 126 * c .before .before .before .before .before .listing .given .0 .0 .count} (omega (arith, listed .count, listed .valid .count)) (c .before .before .return-lines .ensures))
 
 pub all-lines-spec : {M : Type 1} → statement M
 all-lines-spec =

@@ -28,13 +28,13 @@ add-entry-2 : tie.Need-add-entry-2
 add-entry-2 c = let e = row-small (c .before .before .before .before .before .before .before .before .before .pre .0 .valid) (c .before .before .next-account .result) (omega (arith, c .before .before .next-account .ensures, account-le (c .before .before .before .before .before .before .before .before .before .args .c .fee) (c .before .before .before .before .before .before .before .before .before .args .c .top) (c .before .before .before .before .before .before .before .before .before .args .c .premium) (c .before .before .before .word .result))) in omega (arith, e, c .before .before .before .before .before .before .before .before .before .pre .0 .valid .top, c .before .before .before .before .before .before .before .before .before .pre .0 .valid .premium)
 
 amount-requires : tie.Need-amount-requires
-amount-requires c κs = let e = entry-within (c .before .before .before .before .before .before .before .before .before .pre .0 .valid) (c .before .before .next-account .result) (omega (arith, c .before .before .next-account .ensures, account-le (c .before .before .before .before .before .before .before .before .before .args .c .fee) (c .before .before .before .before .before .before .before .before .before .args .c .top) (c .before .before .before .before .before .before .before .before .before .args .c .premium) (c .before .before .before .word .result))) in omega (arith, e, c .before .before .before .before .before .before .before .before .before .pre .0 .fixed-layer)
+amount-requires c κs = let e = entry-within (c .before .before .before .before .before .before .before .before .before .pre .0 .valid) (c .before .before .next-account .result) (omega (arith, c .before .before .next-account .ensures, account-le (c .before .before .before .before .before .before .before .before .before .args .c .fee) (c .before .before .before .before .before .before .before .before .before .args .c .top) (c .before .before .before .before .before .before .before .before .before .args .c .premium) (c .before .before .before .word .result))) in omega (arith, e, c .before .before .before .before .before .before .before .before .before .pre .0 .static-layer)
 
 amount-requires-2 : tie.Need-amount-requires-2
 amount-requires-2 c κs = let e = entry-within (c .before .before .before .before .before .before .before .before .before .before .pre .0 .valid) (c .before .before .before .next-account .result) (omega (arith, c .before .before .before .next-account .ensures, account-le (c .before .before .before .before .before .before .before .before .before .before .args .c .fee) (c .before .before .before .before .before .before .before .before .before .before .args .c .top) (c .before .before .before .before .before .before .before .before .before .before .args .c .premium) (c .before .before .before .before .word .result))) in omega (arith, e, c .before .before .before .before .before .before .before .before .before .before .pre .0 .mixed-layer)
 
 amount-requires-3 : tie.Need-amount-requires-3
-amount-requires-3 c κs = let e = entry-within (c .before .before .before .before .before .before .before .before .before .before .before .pre .0 .valid) (c .before .before .before .before .next-account .result) (omega (arith, c .before .before .before .before .next-account .ensures, account-le (c .before .before .before .before .before .before .before .before .before .before .before .args .c .fee) (c .before .before .before .before .before .before .before .before .before .before .before .args .c .top) (c .before .before .before .before .before .before .before .before .before .before .before .args .c .premium) (c .before .before .before .before .before .word .result))) in omega (arith, e, c .before .before .before .before .before .before .before .before .before .before .before .pre .0 .free-layer)
+amount-requires-3 c κs = let e = entry-within (c .before .before .before .before .before .before .before .before .before .before .before .pre .0 .valid) (c .before .before .before .before .next-account .result) (omega (arith, c .before .before .before .before .next-account .ensures, account-le (c .before .before .before .before .before .before .before .before .before .before .before .args .c .fee) (c .before .before .before .before .before .before .before .before .before .before .before .args .c .top) (c .before .before .before .before .before .before .before .before .before .before .before .args .c .premium) (c .before .before .before .before .before .word .result))) in omega (arith, e, c .before .before .before .before .before .before .before .before .before .before .before .pre .0 .dynamic-layer)
 
 amounts-line-requires : tie.Need-amounts-line-requires
 amounts-line-requires c κs = search needs

@@ -13,10 +13,10 @@ use Rattle.report.proofs.return_lines.Statement.{statement}
 use Rattle.report.proofs.return_lines.Tie as tie
 
 abbrev Inv-loop : tie.InvT-loop
-Inv-loop c list count fixed surrendered free out₀ at next₀ k₀ out next k = (k ≤ count) × (length out ≡ length out₀) × Put (126 * k) out₀ at (linesOf (tableLine (termsIn c) (returnsOf list) fixed surrendered free) k) next out
+Inv-loop c list count statics mixeds dynamics out₀ at next₀ k₀ out next k = (k ≤ count) × (length out ≡ length out₀) × Put (126 * k) out₀ at (linesOf (tableLine (termsIn c) (returnsOf list) statics mixeds dynamics) k) next out
 
 abbrev μ-loop : tie.MeasureT-loop
-μ-loop c list count fixed surrendered free out₀ at next₀ k₀ out next k = count - k
+μ-loop c list count statics mixeds dynamics out₀ at next₀ k₀ out next k = count - k
 
 loop-holds : tie.Need-loop-holds Inv-loop μ-loop
 unfolding linesOf
@@ -32,13 +32,13 @@ loop-less : tie.Need-loop-less Inv-loop μ-loop
 loop-less c = omega (arith, c .before .before .before .before .loop-test .taken)
 
 loop-again : tie.Need-loop-again Inv-loop μ-loop
-loop-again c = (omega (arith, c .before .before .before .before .loop-test .taken), c .before .before .return-line .kept .1 .1 .1 .1 .1 .1 .1 .0 ∙ c .before .before .before .before .before .loop .inv .1, put-line (tableLine (termsIn (c .before .before .before .before .before .before .before .before .before .before .before .args .c)) (returnsOf (c .before .before .before .before .before .before .before .before .before .before .before .args .list .now)) (c .before .before .before .before .before .before .before .before .before .before .before .args .fixed .now) (c .before .before .before .before .before .before .before .before .before .before .before .args .surrendered .now) (c .before .before .before .before .before .before .before .before .before .before .before .args .free .now)) (c .before .before .before .before .before .loop .inv .2) (c .before .before .return-line .ensures))
+loop-again c = (omega (arith, c .before .before .before .before .loop-test .taken), c .before .before .return-line .kept .1 .1 .1 .1 .1 .1 .1 .0 ∙ c .before .before .before .before .before .loop .inv .1, put-line (tableLine (termsIn (c .before .before .before .before .before .before .before .before .before .before .before .args .c)) (returnsOf (c .before .before .before .before .before .before .before .before .before .before .before .args .list .now)) (c .before .before .before .before .before .before .before .before .before .before .before .args .statics .now) (c .before .before .before .before .before .before .before .before .before .before .before .args .mixeds .now) (c .before .before .before .before .before .before .before .before .before .before .before .args .dynamics .now)) (c .before .before .before .before .before .loop .inv .2) (c .before .before .return-line .ensures))
 
 same-length : tie.Need-same-length Inv-loop μ-loop
 same-length c = c .before .loop .inv .1
 
 returns : tie.Need-returns Inv-loop μ-loop
-returns c = let e : c .before .loop .k ≡ c .before .before .before .before .before .before .before .args .count = omega (arith, c .before .loop .inv .0, c .loop-test .left) in put-eq (ap (linesOf (tableLine (termsIn (c .before .before .before .before .before .before .before .args .c)) (returnsOf (c .before .before .before .before .before .before .before .args .list .now)) (c .before .before .before .before .before .before .before .args .fixed .now) (c .before .before .before .before .before .before .before .args .surrendered .now) (c .before .before .before .before .before .before .before .args .free .now))) e) (put-most {m = 126 * c .before .loop .k} (omega arith) (c .before .loop .inv .2))
+returns c = let e : c .before .loop .k ≡ c .before .before .before .before .before .before .before .args .count = omega (arith, c .before .loop .inv .0, c .loop-test .left) in put-eq (ap (linesOf (tableLine (termsIn (c .before .before .before .before .before .before .before .args .c)) (returnsOf (c .before .before .before .before .before .before .before .args .list .now)) (c .before .before .before .before .before .before .before .args .statics .now) (c .before .before .before .before .before .before .before .args .mixeds .now) (c .before .before .before .before .before .before .before .args .dynamics .now))) e) (put-most {m = 126 * c .before .loop .k} (omega arith) (c .before .loop .inv .2))
 
 pub return-lines-spec : {M : Type 1} → statement M
 return-lines-spec =
