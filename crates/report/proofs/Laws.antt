@@ -2,7 +2,7 @@
 use mathlib.Core.Bool.{Bool, true, false, cond, _||_}
 use mathlib.Core.List.{List, [], _∷_, _++_}
 use mathlib.Core.Path.{_≡_, refl, ap, ap₂, sym, _∙_, subst}
-use Prim.Native.Nat.{ℕ, zero, suc, _+_, _-_, _*_, _≤_, _<_}
+use Prim.Native.Nat.{ℕ, zero, suc, _+_, _*_, _≤_, _<_}
 use native.Mathlib.Nat.{zero-mul, zero-add, le-refl}
 use native.Mathlib.Decide.{decLe}
 use native.Mathlib.Omega.{arith}
@@ -11,7 +11,7 @@ use lib.Dec.{ltb}
 use lib.ListN.{length, getD, drop, replicate, length-replicate}
 use Rattle.decision.specs.Layers.{entry, lookup}
 use Rattle.rules.specs.Contract.{Terms, termsOf, Returns, returnsOf}
-use Rattle.rules.specs.Date.{Behaviour, static, mixed, dynamic, nextAccount}
+use Rattle.rules.specs.Date.{Behaviour, static, mixed, dynamic}
 use Rattle.rules.specs.Product.{recordedAmount, contractValue, amountLayers}
 use Rattle.rules.specs.FixedTerm.{InRange, fixedTerm, processOf, startOf, reachBy, layoutOf, layerSize}
 use Rattle.rules.specs.Refusals.{check, Verdict, accepted, refused, verdict, numberOf, placeOf, short, recordChecks, listChecks}

@@ -1,4 +1,5 @@
-// What the program prints for a record and a list, as bytes in a lent buffer.
+// What the program prints for a record and a list, as bytes in a lent buffer. The contracts name the most bytes that a text
+// may take: 20 for a number, 126 for the line of a return.
 ghost use mathlib.Core.Path.{_≡_};
 ghost use mathlib.Core.List.{[], _∷_, _++_};
 ghost use Prim.Native.Nat.{ℕ, _+_, _*_, _≤_, _<_};
