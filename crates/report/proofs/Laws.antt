@@ -8,16 +8,18 @@ use native.Mathlib.Decide.{decLe}
 use native.Mathlib.Omega.{arith}
 use borrow.Author.Tests.{lt-ltb, le-ltb}
 use lib.Dec.{ltb}
-use lib.ListN.{length, getD, drop, replicate, length-replicate}
-use Rattle.decision.specs.Layers.{entry, lookup}
+use lib.ListN.{length, getD, drop, replicate, length-append, length-replicate}
+use lib.Seq.{drop-append-seam}
+use Rattle.decision.specs.Index.{length-tabulate}
+use Rattle.decision.specs.Layers.{entry, lookup, layer}
 use Rattle.rules.specs.Contract.{Terms, termsOf, Returns, returnsOf}
 use Rattle.rules.specs.Date.{Behaviour, static, mixed, dynamic}
-use Rattle.rules.specs.Product.{recordedAmount, contractValue, amountLayers}
+use Rattle.rules.specs.Product.{recordedAmount, contractValue, valueLayer, amountLayers}
 use Rattle.rules.specs.FixedTerm.{InRange, fixedTerm, processOf, startOf, reachBy, layoutOf, layerSize}
-use Rattle.rules.specs.Refusals.{check, Verdict, accepted, refused, verdict, numberOf, placeOf, short, recordChecks, listChecks}
-use Rattle.rules.specs.Operations.{productOf, answer, behaviourNumber, behaviourOf, tableSize, valuingChecks, valuingVerdict, valuingAnswer, valuingTable}
+use Rattle.rules.specs.Refusals.{check, Verdict, accepted, refused, verdict, numberOf, placeOf, onSuccess, short, recordChecks, listChecks}
+use Rattle.rules.specs.Operations.{productOf, answer, behaviourNumber, behaviourOf, tableSize, valuingChecks, valuingVerdict, workAfter, valuingAnswer, valuingWork, valuingTable}
 use Rattle.rules.specs.Printed.{decimal, line, nameOf, refusedWord, linesOf, valueLine, returnLine, lineCount, valuesText, textOf, programVerdict, printed}
-use Rattle.laws.specs.Accepted.{Valid, andThen}
+use Rattle.laws.specs.Accepted.{Valid, andThen, refusal-keeps}
 use Rattle.laws.specs.Valuing.{lentChecks, valuing-verdict, lent-refused, lent-room}
 use Rattle.laws.specs.Date.{account-le}
 use Rattle.laws.specs.Demand.{table-filled}
@@ -30,7 +32,7 @@ use Rattle.contract.specs.declared.Returns as listed
 use Rattle.valuing.proofs.Laws.{ready}
 use Rattle.valuing.specs.declared.Answer as declared
 use Rattle.valuing.specs.Answered.{answerOf}
-use Rattle.report.specs.Tables.{accountBy, entryBy, tableLine, Tabled, Filled, one-layer}
+use Rattle.report.specs.Tables.{accountBy, entryBy, tableLine, Tabled, Filled, one-layer, tableLeft, workLeft}
 
 caseOf : Verdict → ℕ
 caseOf accepted = 0
@@ -212,3 +214,60 @@ tabled {t₀ = t₀} {t₁ = t₁} {t₂ = t₂} {c = c} x y h f =
       mixed-layer = room t₁ (f .mixed-room);
       dynamic-layer = room t₂ (f .dynamic-room);
     }
+
+-- ---- what the arrays hold at the end
+module _ (bytes list : List ℕ) where
+  module _ (behaviour : ℕ) (work table : List ℕ) (h : behaviour ≤ 2) (long : length work ≡ 8192) (long-table : length table ≡ 16384) where
+    pub table-left : valuingTable bytes list behaviour work table ≡ tableLeft bytes list (behaviourOf behaviour) table
+    unfolding valuingTable tableLeft
+    table-left =
+        ap (λ (v : Verdict). onSuccess v (amountLayers (productOf bytes list) (behaviourOf behaviour) ++ drop (tableSize (termsOf bytes)) table) table)
+        (same-verdict bytes list behaviour work table h long long-table)
+
+    pub work-left : valuingWork bytes list behaviour work table ≡ workLeft bytes list (behaviourOf behaviour) work
+    unfolding valuingWork workLeft
+    work-left =
+        ap (λ (v : Verdict). workAfter v (layerSize (termsOf bytes)) (valueLayer (productOf bytes list) (behaviourOf behaviour)) work)
+        (same-verdict bytes list behaviour work table h long long-table)
+
+  -- a refusal leaves all as it was
+  pub refuses : (work table : List ℕ) (r : declared.Answer) → length work ≡ 8192 → length table ≡ 16384
+      → r ≡ answerOf (valuingAnswer bytes list 0 work table) → (r .number ≡ 0 → ⊥) → numberOf (programVerdict bytes list) ≡ 0 → ⊥
+  unfolding valuingAnswer answer
+  refuses work table r long long-table e h z =
+      h (ap (λ (a : declared.Answer). a .number) e ∙ ap numberOf (same-verdict bytes list 0 work table (omega arith) long long-table) ∙ z)
+
+  module _ (h : numberOf (programVerdict bytes list) ≡ 0 → ⊥) where
+    pub table-kept : (b : Behaviour) (table : List ℕ) → table ≡ tableLeft bytes list b table
+    unfolding tableLeft
+    table-kept b table = sym (refusal-keeps (programVerdict bytes list) _ table h)
+
+    pub work-kept : (a b : Behaviour) (work : List ℕ) → workLeft bytes list a work ≡ workLeft bytes list b work
+    unfolding workLeft workAfter
+    work-kept a b work = refusal-keeps (programVerdict bytes list) _ work h ∙ sym (refusal-keeps (programVerdict bytes list) _ work h)
+
+  -- a call on what another left leaves what it would have left alone
+  two-layers : (b : Behaviour) → length (valueLayer (productOf bytes list) b ++ replicate (layerSize (termsOf bytes)) 0) ≡ 2 * layerSize (termsOf bytes)
+  unfolding valueLayer layer productOf fixedTerm layoutOf
+  two-layers b =
+      length-append (valueLayer (productOf bytes list) b) (replicate (layerSize (termsOf bytes)) 0)
+      ∙ ap₂ _+_ (length-tabulate (layerSize (termsOf bytes)) _) (length-replicate {A = ℕ} (layerSize (termsOf bytes)) 0)
+      ∙ omega arith
+
+  pub work-again : (a b : Behaviour) (work : List ℕ) → workLeft bytes list b (workLeft bytes list a work) ≡ workLeft bytes list b work
+  unfolding workLeft workAfter onSuccess
+  work-again a b work = go (programVerdict bytes list)
+    where
+      size : ℕ
+      size = layerSize (termsOf bytes)
+
+      layers : Behaviour → List ℕ
+      layers x = valueLayer (productOf bytes list) x ++ replicate (layerSize (termsOf bytes)) 0
+
+      go : (v : Verdict)
+          → onSuccess v (layers b ++ drop (2 * size) (onSuccess v (layers a ++ drop (2 * size) work) work)) (onSuccess v (layers a ++ drop (2 * size) work) work)
+          ≡ onSuccess v (layers b ++ drop (2 * size) work) work
+      go accepted =
+          ap (λ (rest : List ℕ). layers b ++ rest)
+          (ap (λ (k : ℕ). drop k (layers a ++ drop (2 * size) work)) (sym (two-layers a)) ∙ drop-append-seam (layers a) (drop (2 * size) work))
+      go (refused m p) = refl

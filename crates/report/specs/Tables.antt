@@ -1,17 +1,18 @@
 -- The lines of the returns, as the tables hold their amounts. Assumes nothing.
-use mathlib.Core.List.{List, [], _∷_}
+use mathlib.Core.List.{List, [], _∷_, _++_}
 use mathlib.Core.Path.{_≡_, ap, sym, _∙_}
 use Prim.Native.Nat.{ℕ, _+_, _-_, _*_, _≤_, _<_}
 use native.Mathlib.Nat.{le-trans, le-of-eq, one-mul, mul-le-mul, mul-le-mul-right}
 use native.Mathlib.Omega.{arith}
-use lib.ListN.{length, getD}
+use lib.ListN.{length, getD, drop}
 use Rattle.decision.specs.Layers.{two-digits}
 use Rattle.rules.specs.Contract.{word, Terms, termsOf, Returns, returnsOf, topMost, factorMost}
-use Rattle.rules.specs.Date.{nextAccount}
+use Rattle.rules.specs.Date.{Behaviour, nextAccount}
+use Rattle.rules.specs.Product.{valueLayer, amountLayers}
 use Rattle.rules.specs.FixedTerm.{layerSize}
-use Rattle.rules.specs.Refusals.{accepted, verdict, recordChecks, listChecks}
-use Rattle.rules.specs.Operations.{tableSize}
-use Rattle.rules.specs.Printed.{decimal, line}
+use Rattle.rules.specs.Refusals.{accepted, verdict, onSuccess, recordChecks, listChecks}
+use Rattle.rules.specs.Operations.{productOf, workAfter, tableSize}
+use Rattle.rules.specs.Printed.{decimal, line, programVerdict}
 use Rattle.laws.specs.Accepted.{Valid}
 use Rattle.expect.specs.Expected.{Listing}
 
@@ -43,6 +44,14 @@ pub record Filled (bytes list statics mixeds dynamics : List ℕ) : Type 0 where
   pub static-room : tableSize (termsOf bytes) ≤ length statics
   pub mixed-room : tableSize (termsOf bytes) ≤ length mixeds
   pub dynamic-room : tableSize (termsOf bytes) ≤ length dynamics
+
+-- ---- what the arrays hold at the end: what the last call on each of them leaves
+unfoldable pub tableLeft : List ℕ → List ℕ → Behaviour → List ℕ → List ℕ
+tableLeft bytes list b table =
+    onSuccess (programVerdict bytes list) (amountLayers (productOf bytes list) b ++ drop (tableSize (termsOf bytes)) table) table
+
+unfoldable pub workLeft : List ℕ → List ℕ → Behaviour → List ℕ → List ℕ
+workLeft bytes list b work = workAfter (programVerdict bytes list) (layerSize (termsOf bytes)) (valueLayer (productOf bytes list) b) work
 
 -- ---- what one line asks
 pub factor-le : {list : List ℕ} {count k : ℕ} → Listing list count → k < count → word list (4 * k) ≤ factorMost

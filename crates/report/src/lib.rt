@@ -10,7 +10,7 @@ ghost use Rattle.rules.specs.Operations.{productOf};
 ghost use Rattle.rules.specs.Printed.{digits, decimal, line, nameOf, refusedWord, linesOf, lineCount, printed};
 ghost use Rattle.contract.specs.Reading.{termsIn};
 ghost use Rattle.report.specs.Text.{Put, Counts};
-ghost use Rattle.report.specs.Tables.{tableLine, Tabled, Filled};
+ghost use Rattle.report.specs.Tables.{tableLine, Tabled, Filled, tableLeft, workLeft};
 use contract::Contract;
 use contract::Listing;
 use contract::Reading;
@@ -213,6 +213,10 @@ pub fn print(
 ) -> usize
     ensures { λ r. ⌜ take r (now (out .exit)) ≡ printed (now (bytes .entry)) (now (list .entry)) ⌝ }
     ensures { λ r. ⌜ Counts r (now (out .exit)) ⌝ }
+    ensures { λ _. ⌜ now (work .exit) ≡ workLeft (now (bytes .entry)) (now (list .entry)) dynamic (now (work .entry)) ⌝ }
+    ensures { λ _. ⌜ now (statics .exit) ≡ tableLeft (now (bytes .entry)) (now (list .entry)) static (now (statics .entry)) ⌝ }
+    ensures { λ _. ⌜ now (mixeds .exit) ≡ tableLeft (now (bytes .entry)) (now (list .entry)) mixed (now (mixeds .entry)) ⌝ }
+    ensures { λ _. ⌜ now (dynamics .exit) ≡ tableLeft (now (bytes .entry)) (now (list .entry)) dynamic (now (dynamics .entry)) ⌝ }
 {
     let a = valuing::value(bytes, list, 0, work, statics);
     if a.number != 0 {
