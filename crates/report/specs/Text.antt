@@ -1,41 +1,52 @@
 -- Text put into a buffer of bytes. Assumes nothing.
 use mathlib.Core.List.{List, [], _∷_, _++_, append-assoc, append-nil}
-use mathlib.Core.Path.{_≡_, ap, sym, _∙_}
+use mathlib.Core.Path.{_≡_, refl, ap, sym, _∙_}
 use Prim.Native.Nat.{ℕ, zero, suc, _+_, _-_, _*_, _/_, _%_, _≤_, _<_}
 use native.Mathlib.Nat.{le-refl, mod-eq-of-lt}
 use native.Mathlib.Numerals.{add-one}
 use native.Mathlib.Omega.{arith}
-use lib.ListN.{length, take, set, getD}
-use lib.Seq.{length-take-le, take-suc, take-suc-set}
+use lib.ListN.{length, take, drop, set, getD}
+use lib.Seq.{length-take-le, take-suc, take-suc-set, drop-set-lt}
 use borrow.Author.Tests.{lt-ltb, le-ltb}
 use Rattle.rules.specs.Printed.{digits, linesOf}
 
--- the text stands from `at` on, behind what stood before it; its end is r, at most `most` further
+-- the text stands from `at` on, behind what stood before it; its end is r, at most `most` further, and what lies behind is kept
 pub record Put (most : ℕ) (out : List ℕ) (at : ℕ) (text : List ℕ) (r : ℕ) (out' : List ℕ) : Type 0 where
+  pub from : at ≤ r
   pub within : r ≤ at + most
   pub holds : take r out' ≡ take at out ++ text
+  pub kept : (n : ℕ) → r ≤ n → drop n out' ≡ drop n out
 
 pub put-none : (out : List ℕ) (at most : ℕ) → Put most out at [] at out
-put-none out at most = record { within = omega arith; holds = sym (append-nil (take at out)) }
+put-none out at most = record { from = le-refl at; within = omega arith; holds = sym (append-nil (take at out)); kept = λ n h. refl }
 
 pub put-byte : (out : List ℕ) (at b : ℕ) → at < length out → Put 1 out at (b ∷ []) (at + 1) (set out at b)
 put-byte out at b h = record {
+  from = omega arith;
   within = le-refl (at + 1);
   holds = ap (λ (k : ℕ). take k (set out at b)) (add-one at) ∙ take-suc-set out at b h;
+  kept = λ n l. drop-set-lt n out at b (omega arith);
 }
 
 -- one text behind the other
 pub put-then : {m n at r s : ℕ} {out out' out'' a b : List ℕ} → Put m out at a r out' → Put n out' r b s out'' → Put (m + n) out at (a ++ b) s out''
 put-then {at = at} {out = out} {a = a} {b = b} p q = record {
+  from = omega (arith, p .from, q .from);
   within = omega (arith, p .within, q .within);
   holds = q .holds ∙ ap (λ (l : List ℕ). l ++ b) (p .holds) ∙ append-assoc (take at out) a b;
+  kept = λ n l. q .kept n l ∙ p .kept n (omega (arith, q .from));
 }
 
 pub put-most : {m n at r : ℕ} {out out' a : List ℕ} → m ≤ n → Put m out at a r out' → Put n out at a r out'
-put-most h p = record { within = omega (arith, p .within); holds = p .holds }
+put-most h p = record { from = p .from; within = omega (arith, p .within); holds = p .holds; kept = p .kept }
 
 pub put-eq : {m at r : ℕ} {out out' a b : List ℕ} → a ≡ b → Put m out at a r out' → Put m out at b r out'
-put-eq {at = at} {out = out} e p = record { within = p .within; holds = p .holds ∙ ap (λ (l : List ℕ). take at out ++ l) e }
+put-eq {at = at} {out = out} e p = record {
+  from = p .from;
+  within = p .within;
+  holds = p .holds ∙ ap (λ (l : List ℕ). take at out ++ l) e;
+  kept = p .kept;
+}
 
 -- n counts bytes at the start of xs; both parts are stated, so that a caller may lend `&xs[..n]` with no proof of its own
 abbrev pub Counts : ℕ → List ℕ → Type 0

@@ -3,7 +3,7 @@
 ghost use mathlib.Core.Path.{_≡_};
 ghost use mathlib.Core.List.{[], _∷_, _++_};
 ghost use Prim.Native.Nat.{ℕ, _+_, _*_, _≤_, _<_};
-ghost use lib.ListN.{length, take, getD};
+ghost use lib.ListN.{length, take, drop, getD};
 ghost use Rattle.rules.specs.Contract.{termsOf, returnsOf};
 ghost use Rattle.rules.specs.Date.{static, mixed, dynamic};
 ghost use Rattle.rules.specs.Operations.{productOf};
@@ -213,6 +213,7 @@ pub fn print(
 ) -> usize
     ensures { λ r. ⌜ take r (now (out .exit)) ≡ printed (now (bytes .entry)) (now (list .entry)) ⌝ }
     ensures { λ r. ⌜ Counts r (now (out .exit)) ⌝ }
+    ensures { λ r. ⌜ drop r (now (out .exit)) ≡ drop r (now (out .entry)) ⌝ }
     ensures { λ _. ⌜ now (work .exit) ≡ workLeft (now (bytes .entry)) (now (list .entry)) dynamic (now (work .entry)) ⌝ }
     ensures { λ _. ⌜ now (statics .exit) ≡ tableLeft (now (bytes .entry)) (now (list .entry)) static (now (statics .entry)) ⌝ }
     ensures { λ _. ⌜ now (mixeds .exit) ≡ tableLeft (now (bytes .entry)) (now (list .entry)) mixed (now (mixeds .entry)) ⌝ }
