@@ -15,10 +15,11 @@ use Rattle.rules.specs.Product.{Product, stateValue, recordedAmount, con
 use Rattle.rules.specs.FixedTerm.{State, freeIn, admissibleIn, limitIn, cashIn, afterIn, reachBy, expectOver, startOf, processOf, layerSize, layoutOf, fixedTerm}
 use Rattle.rules.specs.Refusals.{check, checkEach, Verdict, accepted, refused, verdict, numberOf, placeOf, onSuccess, outside, short, termsChecks, recordChecks, badReturn, listChecks}
 use Rattle.rules.specs.Operations.{productOf, Answer, answer, behaviourNumber, behaviourOf, tableSize, valuingChecks, valuingVerdict, valuingAnswer, amountChecks, bookingChecks, bookingVerdict, bookingBytes, bookingBuffer}
+use Rattle.rules.specs.Printed.{digits, decimal, numbered, line, nameOf, linesOf, valueLine, returnLine, lineCount, valuesText, textOf, programVerdict, printed}
 
 -- ---- contracts P and Q
 -- a record's bytes
-packed : Terms → List ℕ
+unfoldable pub packed : Terms → List ℕ
 packed c =
     bytesOf 2 (c .premium)
     ++ bytesOf 2 (c .level)
@@ -29,7 +30,7 @@ packed c =
     ++ bytesOf 4 (c .discount)
 
 -- "U 10, G 5, top 20, N 2, fee 0, penalty 1,000, discount 1,000,000"
-P : Terms
+unfoldable pub P : Terms
 P = record { premium = 10; level = 5; top = 20; dates = 2; fee = 0; penalty = 1000; discount = 1000000 }
 
 -- "P with N 1"
@@ -45,7 +46,7 @@ Q : Terms
 Q = record { premium = 10; level = 5; top = 20; dates = 2; fee = 2000; penalty = 0; discount = 1000000 }
 
 -- "returns (5,000, weight 5,000) and (15,000, weight 5,000)"
-returnsP : List ℕ
+unfoldable pub returnsP : List ℕ
 returnsP = bytesOf 2 5000 ++ bytesOf 2 5000 ++ bytesOf 2 15000 ++ bytesOf 2 5000
 
 -- ---- what is asked and told
@@ -127,3 +128,13 @@ marked =
 pub marked-cases : map (λ r. tell (r .asked)) marked ≡ map (λ r. r .told) marked
 unfolding sum first firstFrom largest smallestBest worth valueOver value recorded startValue word long bytesOf termsOf returnsOf freeAmount largestAmount surrenders admits penalty cash guaranteeAfter balanceAfter nextAccount maturityValue discounted margin stateValue recordedAmount contractValue freeIn admissibleIn limitIn cashIn afterIn reachBy expectOver startOf processOf layerSize layoutOf fixedTerm checkEach verdict numberOf placeOf onSuccess outside short termsChecks recordChecks badReturn listChecks productOf answer behaviourNumber behaviourOf tableSize valuingChecks valuingVerdict valuingAnswer amountChecks bookingChecks bookingVerdict bookingBytes bookingBuffer packed P P-one P-discounted Q returnsP at unless-refused booked valued tell row marked
 marked-cases = refl
+
+-- "The program .. prints exactly": the five lines for P, as ASCII codes
+pub printed-P : printed (packed P) returnsP
+    ≡ 115 ∷ 116 ∷ 97 ∷ 116 ∷ 105 ∷ 99 ∷ 32 ∷ 49 ∷ 50 ∷ 53 ∷ 48 ∷ 48 ∷ 48 ∷ 10 ∷
+    109 ∷ 105 ∷ 120 ∷ 101 ∷ 100 ∷ 32 ∷ 49 ∷ 50 ∷ 53 ∷ 48 ∷ 48 ∷ 48 ∷ 10 ∷
+    100 ∷ 121 ∷ 110 ∷ 97 ∷ 109 ∷ 105 ∷ 99 ∷ 32 ∷ 49 ∷ 50 ∷ 55 ∷ 53 ∷ 48 ∷ 48 ∷ 10 ∷
+    48 ∷ 32 ∷ 53 ∷ 32 ∷ 49 ∷ 48 ∷ 32 ∷ 53 ∷ 32 ∷ 53 ∷ 32 ∷ 48 ∷ 10 ∷
+    49 ∷ 32 ∷ 49 ∷ 53 ∷ 32 ∷ 49 ∷ 48 ∷ 32 ∷ 53 ∷ 32 ∷ 53 ∷ 32 ∷ 49 ∷ 10 ∷ []
+unfolding sum first firstFrom largest smallestBest worth valueOver value recorded startValue word long bytesOf termsOf returnsOf freeAmount largestAmount surrenders admits penalty cash guaranteeAfter balanceAfter nextAccount maturityValue discounted stateValue recordedAmount contractValue freeIn admissibleIn limitIn cashIn afterIn reachBy expectOver startOf processOf layerSize layoutOf fixedTerm checkEach verdict outside short termsChecks recordChecks badReturn listChecks productOf behaviourNumber tableSize valuingChecks valuingVerdict digits decimal numbered line nameOf linesOf valueLine returnLine lineCount valuesText textOf programVerdict printed packed P returnsP
+printed-P = refl

@@ -1,16 +1,19 @@
 -- Facts that pin the definitions down: which checks each operation makes and in which order, what is rounded and when, the
--- sign of the margin. Assumes nothing.
+-- sign of the margin, that no digit of a number is lost. Assumes nothing.
+use mathlib.Core.Bool.{cond}
 use mathlib.Core.List.{List, [], _∷_, _++_, map}
 use mathlib.Core.Logic.{_↔_}
-use mathlib.Core.Path.{_≡_, refl}
-use Prim.Native.Nat.{ℕ, suc, _-_, _*_, _/_, _≤_, _<_, min}
-use native.Mathlib.Nat.{le-trans, le-min, min-le-left, min-le-right, le-div-iff-mul-le}
+use mathlib.Core.Path.{_≡_, refl, subst}
+use Prim.Native.Nat.{ℕ, zero, suc, _+_, _-_, _*_, _/_, _%_, _^_, _≤_, _<_, min}
+use native.Mathlib.Nat.{le-trans, le-min, min-le-left, min-le-right, le-div-iff-mul-le, div-lt-iff-lt-mul, pow-suc}
+use native.Mathlib.Decide.{decLe}
 use native.Mathlib.Omega.{arith}
-use lib.Dec.{lit<}
+use lib.Dec.{lit<, ltb}
 use borrow.Author.Tests.{lt-ltb, le-ltb}
 use lib.IntN.{ℤ, pos, negℤ}
 use Rattle.rules.specs.Date.{nextAccount, discounted, margin}
 use Rattle.rules.specs.Refusals.{Check, check, checkEach, numbers, termsChecks, recordChecks, listChecks}
+use Rattle.rules.specs.Printed.{digits, decimal}
 use Rattle.rules.specs.Operations.{valuingChecks, suppliedChecks, amountChecks, bookingChecks, walkChecks}
 
 -- ---- "Checks run in the order of the table; an operation makes those for which it has the input."
@@ -62,3 +65,31 @@ unfolding margin
 margin-below value premium l =
     let e : 10000 * premium - value ≡ suc (10000 * premium - suc value) = omega arith in
     rw (lt-ltb value (10000 * premium) l, e)
+
+-- ---- "All figures here are decimal": the digits of a number stand for it, so none is cut that has no more than `places`
+unfoldable pub valueFrom : ℕ → List ℕ → ℕ
+valueFrom n [] = n
+valueFrom n (d ∷ ds) = valueFrom (10 * n + (d - 48)) ds
+
+value-append : (n : ℕ) (ds : List ℕ) (d : ℕ) → valueFrom n (ds ++ (d ∷ [])) ≡ 10 * valueFrom n ds + (d - 48)
+unfolding valueFrom
+value-append n [] d = refl
+value-append n (x ∷ ds) d = value-append (10 * n + (x - 48)) ds d
+
+pub digits-value : (places x : ℕ) → x < 10 ^ places → valueFrom 0 (digits places x) ≡ x
+unfolding digits valueFrom
+digits-value zero x l = omega arith
+digits-value (suc places) x l =
+    let m : x < 10 ^ places * 10 = subst (λ (n : ℕ). x < n) (pow-suc 10 places) l in
+    go (digits-value places (x / 10) (div-lt-iff-lt-mul (lit< tt) .1 m)) (decLe 10 x)
+  where
+    go : valueFrom 0 (digits places (x / 10)) ≡ x / 10 → Dec (10 ≤ x)
+        → valueFrom 0 (cond (ltb x 10) ((48 + x) ∷ []) (digits places (x / 10) ++ ((48 + x % 10) ∷ []))) ≡ x
+    go before (no h) = rw (lt-ltb x 10 (omega arith)) (omega arith)
+    go before (yes h) =
+        rw (le-ltb x 10 h, value-append 0 (digits places (x / 10)) (48 + x % 10), before) (omega arith)
+
+-- every number of 64 bits
+pub decimal-value : (x : ℕ) → x < 2 ^ 64 → valueFrom 0 (decimal x) ≡ x
+unfolding decimal
+decimal-value x l = digits-value 20 x (omega arith)

@@ -5,5 +5,6 @@ pub mod Product
 pub mod FixedTerm
 pub mod Refusals
 pub mod Operations
+pub mod Printed
 pub mod Cases
 pub mod Facts

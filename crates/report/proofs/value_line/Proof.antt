@@ -1,0 +1,26 @@
+-- `report::value_line` meets its contract. Assumes nothing.
+use borrow.Author.Needs.{needs}
+use Rattle.report.specs.Text.{put-then}
+use Rattle.rules.specs.Printed.{line, numbered}
+use Rattle.report.proofs.value_line.Statement.{statement}
+use Rattle.report.proofs.value_line.Tie as tie
+
+word-requires : tie.Need-word-requires
+word-requires c κs = search needs
+
+number-requires : tie.Need-number-requires
+number-requires c κs = search needs
+
+byte-requires : tie.Need-byte-requires
+byte-requires c κs = search needs
+
+same-length : tie.Need-same-length
+same-length c = search needs
+
+returns : tie.Need-returns
+unfolding line numbered
+returns c = put-then (c .before .before .before .before .before .before .before .before .before .before .word .ensures) (put-then (c .before .before .before .before .before .before .number .ensures) (c .before .before .byte .ensures))
+
+pub value-line-spec : {M : Type 1} → statement M
+value-line-spec =
+    tie.close (tie.spec word-requires number-requires byte-requires same-length returns)
