@@ -29,7 +29,7 @@ use Rattle.contract.specs.declared.Contract.{Contract}
 use Rattle.contract.specs.Reading.{termsIn}
 use Rattle.contract.specs.Accepted.{Read, Listed}
 use Rattle.contract.specs.declared.Returns as listed
-use Rattle.valuing.proofs.Laws.{ready}
+use Rattle.valuing.specs.First.{ready}
 use Rattle.valuing.specs.declared.Answer as declared
 use Rattle.valuing.specs.Answered.{answerOf}
 use Rattle.report.specs.Tables.{accountBy, entryBy, tableLine, Tabled, Filled, one-layer, tableLeft, workLeft}
