@@ -1,24 +1,24 @@
 -- One date, step by step: the sums, what the dynamic behaviour reads, the states. Assumes nothing.
 use mathlib.Core.List.{List}
-use mathlib.Core.Logic.{inl, inr}
-use mathlib.Core.Path.{_≡_, refl, ap, sym, _∙_, subst}
+use mathlib.Core.Logic.{inr}
+use mathlib.Core.Path.{_≡_, refl, ap, sym, _∙_}
 use Prim.Native.Nat.{ℕ, suc, _+_, _-_, _*_, _≤_, _<_}
 use native.Mathlib.Decide.{decLe}
-use native.Mathlib.Nat.{le-refl, le-trans, le-of-eq, mul-le-mul, zero-add}
+use native.Mathlib.Nat.{le-refl, le-trans, le-of-eq, zero-add}
 use native.Mathlib.Omega.{arith}
 use lib.ListN.{length, getD}
 use borrow.Rule.Slice.PartMut.{midOf, putMid, mid-len}
 use Rattle.slices.specs.Stored.{stored, length-stored, stored-out}
-use Rattle.slices.specs.Rows.{cells, flat, Layer, layer-stored, cells-kept, within-rows, rows-le, rows-before}
-use Rattle.slices.specs.Parts.{put-long, put-in, put-below, put-above}
-use Rattle.rules.specs.Contract.{Terms, Returns, returnsOf}
+use Rattle.slices.specs.Rows.{cells, flat, layer-stored, cells-kept, within-rows, rows-le, rows-before}
+use Rattle.slices.specs.Parts.{put-long, put-in, put-above}
+use Rattle.rules.specs.Contract.{Terms, returnsOf}
 use Rattle.rules.specs.Product.{recordedAmount}
 use Rattle.rules.specs.FixedTerm.{layerSize, fixedTerm}
-use Rattle.laws.specs.Bounds.{state-value-le}
+use Rattle.laws.specs.Bounds.{state-value-le, value-room}
 use Rattle.rules.specs.Operations.{behaviourOf}
 use Rattle.expect.specs.Expected.{expected, expected-le, expected-same}
 use Rattle.further.specs.Further.{Room, furtherValue, furtherAmount}
-use Rattle.choose.specs.State.{Furthered, bestValue, bestAmount, value-same, amount-same}
+use Rattle.choose.specs.State.{bestValue, bestAmount, value-same, amount-same}
 use Rattle.states.specs.Row.{Deciding}
 use Rattle.dates.specs.Dated.{Dating, Dated, Prepared}
 use Rattle.dates.specs.Back.{at, valuesOn, value-back, amount-back, maturity-is, Valued, Starting}
@@ -179,15 +179,8 @@ module _ {behaviour : ℕ} {c : Terms} {count : ℕ} {work₀ table₀ list work
       table-is = mid-len ((i - 1) * layerSize c) (i * layerSize c) table layer-within ∙ (let e = layer-end in omega arith);
       small = λ w a h k.
           le-trans (le-of-eq (v .values w a h k))
-          (le-trans (state-value-le c (returnsOf list) (s .layers .valid) (s .listing .valid) (behaviourOf behaviour) (suc i) (at w a) (record { account = h; guarantee = k })) (bound i));
+          (le-trans (state-value-le c (returnsOf list) (s .layers .valid) (s .listing .valid) (behaviourOf behaviour) (suc i) (at w a) (record { account = h; guarantee = k })) (value-room c (returnsOf list) (s .layers .valid) (s .listing .valid) (suc i)));
     }
-      where
-        bound : (i : ℕ) → 10000 * c .top + (c .dates - suc i) * (10000 * c .top) ≤ 4000000000
-        bound i =
-            let t : 10000 * c .top ≤ 40000000 = omega (arith, s .layers .valid .top) in
-            let n : c .dates - suc i ≤ 40 = omega (arith, s .layers .valid .dates) in
-            let p = mul-le-mul n t in
-            omega arith
 
     module _ (work₁ part₁ : List ℕ)
         (d : Dated (behaviourOf behaviour) c (returnsOf list) (c .penalty) work (midOf ((i - 1) * layerSize c) (i * layerSize c - (i - 1) * layerSize c) table) work₁ part₁)

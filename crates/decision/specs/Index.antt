@@ -61,6 +61,15 @@ getD-tabulate zero e f rest l = absurd (omega arith)
 getD-tabulate (suc n) zero f rest l = refl
 getD-tabulate (suc n) (suc e) f rest l = getD-tabulate n e (λ k. f (suc k)) rest (omega arith)
 
+-- ---- tests
+pub true-is : (b : Bool) → T b → b ≡ true
+true-is true t = refl
+true-is false t = absurd t
+
+pub false-is : (b : Bool) → (T b → ⊥) → b ≡ false
+false-is true f = absurd (f tt)
+false-is false f = refl
+
 -- ---- the first index
 -- what makes r the first of the indexes from i to j that passes, or j
 pub record FirstFrom (test : ℕ → Bool) (i j r : ℕ) : Type 0 where
@@ -116,6 +125,17 @@ is-first {test} {n} x = first-unique (first-is test n) x
 pub first-least : {test : ℕ → Bool} {n r : ℕ} → First test n r → (u : ℕ) → T (test u) → r ≤ u
 first-least {test} {n} {r} x u t = elim (decLe r u) [ yes l ↦ l | no l ↦ absurd (x .none u (omega arith) (omega arith) t) ]
 
+-- where the search comes to its end, every index fails the test, and the other way round
+pub all-fail : (test : ℕ → Bool) (n : ℕ) → n ≤ first test n → (k : ℕ) → k < n → test k ≡ false
+all-fail test n h k l = false-is (test k) (first-is test n .none k (omega arith) (omega arith))
+
+pub none-found : (test : ℕ → Bool) (n : ℕ) → ((k : ℕ) → k < n → test k ≡ false) → n ≤ first test n
+none-found test n h = go (decLe n (first test n)) (first-is test n .passes)
+  where
+    go : Dec (n ≤ first test n) → (first test n < n → T (test (first test n))) → n ≤ first test n
+    go (yes l) passes = l
+    go (no l) passes = absurd (subst T (h (first test n) (omega arith)) (passes (omega arith)))
+
 -- ---- what a loop that counts up holds, where it says k + 1
 pub sum-next : (f : ℕ → ℕ) (k : ℕ) → sum f (k + 1) ≡ sum f k + f k
 unfolding sum
@@ -163,11 +183,7 @@ module _ {test part : ℕ → Bool} {n k m r : ℕ} (x : Searched test n k) (fit
     here = subst (First part m) found (first-is part m)
 
     clear : (e : ℕ) → e < r → test (k + e) ≡ false
-    clear e l = same e (omega (arith, here .within)) ∙ untrue (part e) (here .none e (omega arith) l)
-      where
-        untrue : (b : Bool) → (T b → ⊥) → b ≡ false
-        untrue true f = absurd (f tt)
-        untrue false f = refl
+    clear e l = same e (omega (arith, here .within)) ∙ false-is (part e) (here .none e (omega arith) l)
 
     passed : (j : ℕ) → j < k + r → Dec (suc j ≤ k) → test j ≡ false
     passed j l (yes h) = x .passed j h
@@ -177,10 +193,6 @@ module _ {test part : ℕ → Bool} {n k m r : ℕ} (x : Searched test n k) (fit
     run-hit l =
         search-hit (record { within = omega arith; passed = λ j h. passed j h (decLe (suc j) k) }) (omega arith)
         (same r l ∙ true-is (part r) (here .passes l))
-      where
-        true-is : (b : Bool) → T b → b ≡ true
-        true-is true t = refl
-        true-is false t = absurd t
 
     pub run-end : m ≤ r → Searched test n (k + m)
     run-end l = record { within = fits; passed = λ j h. passed j (omega arith) (decLe (suc j) k) }

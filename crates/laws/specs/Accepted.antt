@@ -1,15 +1,14 @@
 -- What holds of terms and returns that no condition turns away. Assumes nothing.
 use mathlib.Core.Bool.{Bool, true, false, cond, not, _||_}
-use mathlib.Core.List.{List, [], _∷_, _++_, map}
-use mathlib.Core.Path.{_≡_, refl, sym}
-use Prim.Native.Nat.{ℕ, zero, suc, _+_, _*_, _/_, _%_, _≤_, _<_}
-use native.Mathlib.Nat.{le-refl}
+use mathlib.Core.List.{List, [], _∷_, _++_}
+use mathlib.Core.Path.{_≡_, refl, ap, ap₂, _∙_}
+use Prim.Native.Nat.{ℕ, _+_, _*_, _/_, _%_, _≤_, _<_}
 use native.Mathlib.Omega.{arith}
-use lib.Dec.{T, leb, ltb, eqb, eqb→eq, nltb→le, not-T}
+use lib.Dec.{T, ltb, eqb, eqb→eq, nltb→le, not-T}
 use lib.ListN.{length}
 use Rattle.decision.specs.Index.{sum, first, first-is}
-use Rattle.rules.specs.Contract.{Terms, Returns, recordBytes, termsOf, topMost, datesMost, rateMost, discountMost, returnBytes, returnsOf, returnsMost, factorMost, weightMost, weightTotal}
-use Rattle.rules.specs.Refusals.{Check, check, checkEach, Verdict, accepted, refused, verdict, numbers, numberOf, placeOf, onSuccess, outside, termsChecks, recordChecks, badReturn, listChecks}
+use Rattle.rules.specs.Contract.{Terms, Returns, termsOf, topMost, datesMost, rateMost, discountMost, returnBytes, returnsOf, returnsMost, factorMost, weightMost, weightTotal}
+use Rattle.rules.specs.Refusals.{Check, checkEach, Verdict, accepted, refused, verdict, numbers, numberOf, placeOf, onSuccess, outside, termsChecks, recordChecks, badReturn, listChecks}
 
 -- the column of ranges, and refusals 2 to 6, for accepted terms
 pub record Valid (c : Terms) : Type 0 where
@@ -48,6 +47,15 @@ all-pass (k ∷ ks) e = go (k .failed) e (all-pass ks)
         → T (not b) × AllPass ks
     go true e f = let z : _≡_ {A = ℕ} 0 1 = cc in absurd (omega arith)
     go false e f = (tt, f e)
+
+pub passes : (ks : List Check) → AllPass ks → verdict ks ≡ accepted
+unfolding verdict AllPass
+passes [] p = refl
+passes (k ∷ ks) (t, p) = go (k .failed) t (passes ks p)
+  where
+    go : (b : Bool) → T (not b) → verdict ks ≡ accepted → cond b (refused (k .number) (k .place)) (verdict ks) ≡ accepted
+    go true t e = absurd t
+    go false t e = e
 
 -- no refusal has number 0, so number 0 is success
 unfoldable pub Positive : List ℕ → Type 0
@@ -172,6 +180,17 @@ verdict-append (k ∷ ks) ls = go (k .failed) (verdict-append ks ls)
         → cond b (refused (k .number) (k .place)) (verdict (ks ++ ls)) ≡ andThen (cond b (refused (k .number) (k .place)) (verdict ks)) (verdict ls)
     go true e = refl
     go false e = e
+
+-- .. in three: the record's, the list's, the operation's own
+pub parts-accepted : (ks ls ms : List Check) → verdict ks ≡ accepted → verdict ls ≡ accepted → verdict (ks ++ ls ++ ms) ≡ verdict ms
+parts-accepted ks ls ms e f =
+    verdict-append (ks ++ ls) ms
+    ∙ ap (λ (v : Verdict). andThen v (verdict ms)) (verdict-append ks ls ∙ ap₂ andThen e f)
+
+pub parts-refused : (ks ls ms : List Check) {n p : ℕ} → andThen (verdict ks) (verdict ls) ≡ refused n p → verdict (ks ++ ls ++ ms) ≡ refused n p
+parts-refused ks ls ms e =
+    verdict-append (ks ++ ls) ms
+    ∙ ap (λ (v : Verdict). andThen v (verdict ms)) (verdict-append ks ls ∙ e)
 
 -- ---- what a verdict tells
 pub success-reports : {A : Type 0} {v : Verdict} (new old : A) → v ≡ accepted → onSuccess v new old ≡ new

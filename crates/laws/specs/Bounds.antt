@@ -1,17 +1,17 @@
 -- Values, cash, amounts and accounts of an accepted contract fit the widths of the slices. Assumes nothing.
-use mathlib.Core.Path.{_≡_, ap, _∙_}
-use Prim.Native.Nat.{ℕ, suc, _+_, _-_, _*_, _/_, _^_, _≤_, _<_, min, max}
-use native.Mathlib.Nat.{le-trans, le-refl, le-of-eq, mul-le-mul, mul-le-mul-left, div-le-of-le-mul, sub-le, max-le, min-le-left, min-le-right}
+use mathlib.Core.Path.{ap, _∙_}
+use Prim.Native.Nat.{ℕ, _+_, _-_, _*_, _/_, _^_, _≤_, _<_}
+use native.Mathlib.Nat.{le-trans, le-of-eq, mul-le-mul, mul-le-mul-left, div-le-of-le-mul, sub-le, max-le, min-le-left, min-le-right}
 use native.Mathlib.Omega.{arith}
 use lib.Dec.{T}
-use Rattle.decision.specs.Index.{sum, sum-le, sum-times}
-use Rattle.decision.specs.Process.{Process, Table, tableValue, Decides, Open, Closed}
+use Rattle.decision.specs.Index.{sum-le, sum-times}
+use Rattle.decision.specs.Process.{Table, tableValue, Decides}
 use Rattle.decision.specs.Optimal.{recorded-best}
 use Rattle.decision.specs.Bounds.{value-bounded, start-bounded, table-bounded}
-use Rattle.rules.specs.Contract.{Terms, Returns, topMost, datesMost, discountMost, weightTotal}
-use Rattle.rules.specs.Date.{Behaviour, dynamic, freeAmount, largestAmount, penalty, cash, nextAccount, maturityValue, discounted}
+use Rattle.rules.specs.Contract.{Terms, Returns, discountMost, weightTotal}
+use Rattle.rules.specs.Date.{Behaviour, dynamic, freeAmount, penalty, cash, nextAccount, maturityValue, discounted}
 use Rattle.rules.specs.Product.{stateValue, recordedAmount, contractValue}
-use Rattle.rules.specs.FixedTerm.{State, Held, InRange, freeIn, admissibleIn, limitIn, cashIn, reachBy, expectOver, processOf, fixedTerm}
+use Rattle.rules.specs.FixedTerm.{State, Held, InRange, freeIn, admissibleIn, cashIn, reachBy, expectOver, processOf, fixedTerm}
 use Rattle.laws.specs.Accepted.{Valid, ValidReturns}
 use Rattle.laws.specs.Date.{admits-within}
 use Rattle.laws.specs.FixedTerm.{opened, closed}
@@ -68,18 +68,19 @@ module _ (c : Terms) (rs : Returns) (v : Valid c) (u : ValidReturns rs) where
   contract-value-le b =
       start-bounded (processOf c rs) (admissibleIn c b) (opened c rs b) (InRange c) (closed c rs b) (10000 * c .top) (10000 * c .top) ends (pays b) averages
 
-  -- .. so every value fits 32 bits (and the largest is 1,600,000,000)
-  fits : (n x : ℕ) → n ≤ 39 → x ≤ 10000 * c .top + n * (10000 * c .top) → x < 2 ^ 32
-  fits n x l h =
+  -- .. so every value fits 32 bits (the largest is 1,600,000,000), with room for the cash of one more date
+  pub value-room : (i : ℕ) → 10000 * c .top + (c .dates - i) * (10000 * c .top) ≤ 4000000000
+  value-room i =
       let t : 10000 * c .top ≤ 40000000 = omega (arith, v .top) in
-      let p = mul-le-mul l t in
+      let n : c .dates - i ≤ 40 = omega (arith, v .dates) in
+      let p = mul-le-mul n t in
       omega arith
 
-  pub state-value-fits : (b : Behaviour) (i : ℕ) (s : State) → 1 ≤ i → InRange c s → stateValue (fixedTerm c rs) b i s < 2 ^ 32
-  state-value-fits b i s l g = fits (c .dates - i) _ (omega (arith, v .dates)) (state-value-le b i s g)
+  pub state-value-fits : (b : Behaviour) (i : ℕ) (s : State) → InRange c s → stateValue (fixedTerm c rs) b i s < 2 ^ 32
+  state-value-fits b i s g = let l = state-value-le b i s g in let m = value-room i in omega arith
 
   pub contract-value-fits : (b : Behaviour) → contractValue (fixedTerm c rs) b < 2 ^ 32
-  contract-value-fits b = fits (c .dates - 1) _ (omega (arith, v .dates)) (contract-value-le b)
+  contract-value-fits b = let l = contract-value-le b in let m = value-room 1 in omega arith
 
   -- .. as do cash and penalty; amounts and accounts fit 16
   pub cash-fits : (b : Behaviour) (i : ℕ) (s : State) (t : ℕ) → InRange c s → T (admissibleIn c b s t) → cashIn c i s t < 2 ^ 32

@@ -1,14 +1,13 @@
 -- The fixed-term contract is sound: it owes the third demand nothing more. Assumes nothing.
-use mathlib.Core.Path.{_≡_}
 use Prim.Native.Nat.{ℕ, _+_, _*_, _≤_, _<_}
-use native.Mathlib.Nat.{le-refl, le-trans, min-le-left, mul-le-mul-left}
+use native.Mathlib.Nat.{le-refl, le-trans, min-le-left, mul-le-mul-left, mul-pos}
 use native.Mathlib.Omega.{arith}
 use Rattle.decision.specs.Index.{sum-le}
 use Rattle.decision.specs.Process.{Monotone, Open, Closed}
 use Rattle.decision.specs.Layers.{Placed, low-digit, high-digit, two-digits}
 use Rattle.rules.specs.Contract.{Terms, Returns}
 use Rattle.rules.specs.Date.{Behaviour, largestAmount, nextAccount, discounted}
-use Rattle.rules.specs.FixedTerm.{State, InRange, freeIn, admissibleIn, limitIn, afterIn, reachBy, expectOver, startOf, processOf, layerSize, layoutOf, fixedTerm}
+use Rattle.rules.specs.FixedTerm.{InRange, freeIn, admissibleIn, limitIn, afterIn, reachBy, expectOver, startOf, processOf, layerSize, layoutOf, fixedTerm}
 use Rattle.laws.specs.Accepted.{Valid}
 use Rattle.laws.specs.Date.{static-mixed, mixed-dynamic, admits-free, admits-within, guarantee-le}
 use Rattle.laws.specs.Demand.{Sound}
@@ -40,6 +39,10 @@ closed c rs b = record {
     guarantee = le-trans (guarantee-le (freeIn c s) (s .account) (s .guarantee) t) (omega (arith, g .guarantee));
   };
 }
+
+pub size-some : (c : Terms) → 0 < layerSize c
+unfolding layerSize
+size-some c = mul-pos {m = c .top + 1} {n = c .premium + 1} (omega arith) (omega arith)
 
 placed : (c : Terms) → Placed (layoutOf c)
 unfolding layoutOf layerSize

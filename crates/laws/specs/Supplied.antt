@@ -1,47 +1,34 @@
--- A supplied table: how its checks follow those of the record and the list, and what its value is worth. Assumes nothing.
-use mathlib.Core.Bool.{Bool, true, false, not, _||_}
-use mathlib.Core.List.{List, [], _∷_, _++_}
+-- A supplied table: its checks beyond the record and the list, and what its value is worth. Assumes nothing.
+use mathlib.Core.Bool.{true, false, not, _||_}
+use mathlib.Core.List.{List, [], _++_}
 use mathlib.Core.Path.{_≡_, refl, ap, sym, _∙_, subst}
-use Prim.Native.Nat.{ℕ, suc, _+_, _-_, _*_, _%_, _≤_, _<_}
-use native.Mathlib.Nat.{zero-add, le-trans, le-of-eq}
+use Prim.Native.Nat.{ℕ, suc, _+_, _-_, _*_, _/_, _%_, _≤_, _<_}
+use native.Mathlib.Nat.{zero-add, le-trans, le-of-eq, div-lt-iff-lt-mul}
 use native.Mathlib.Omega.{arith}
 use lib.Dec.{T, ltb, nltb→le}
-use lib.ListN.{getD, length, drop}
-use Rattle.decision.specs.Index.{first, First, first-is}
-use Rattle.decision.specs.Process.{Decides, startValue, startTableValue, startEarned, startFollow, StartKeeps}
-use Rattle.decision.specs.Optimal.{start-table-earned, start-table-kept, start-filled}
-use Rattle.decision.specs.Layers.{lookup, entry, entry-within, entry-state}
+use lib.ListN.{getD, length, drop, length-append}
+use borrow.Author.Tests.{le-ltb}
+use Rattle.decision.specs.Index.{length-tabulate, getD-tabulate, true-is, first, all-fail, none-found}
+use Rattle.decision.specs.Process.{Decides, startEarned, startFollow}
+use Rattle.decision.specs.Optimal.{recorded-best, start-table-earned, start-table-kept}
+use Rattle.decision.specs.Layers.{lookup, layers, entry, entry-within, entry-state}
 use Rattle.rules.specs.Contract.{Terms, Returns, termsOf, returnsOf}
-use Rattle.rules.specs.Date.{Behaviour, dynamic}
-use Rattle.rules.specs.Product.{Product, contractValue, suppliedValue, amountLayers}
-use Rattle.rules.specs.FixedTerm.{State, Held, InRange, admissibleIn, layerSize, layoutOf, processOf, fixedTerm}
-use Rattle.rules.specs.Refusals.{Check, check, checkEach, Verdict, accepted, refused, verdict, short, recordChecks, listChecks}
-use Rattle.rules.specs.Operations.{tableSize, suppliedChecks, suppliedVerdict}
-use Rattle.laws.specs.Accepted.{Valid, andThen, verdict-append}
-use Rattle.laws.specs.FixedTerm.{sound}
-use Rattle.laws.specs.Demand.{table-attains, table-filled}
-
--- refusal 14 of entry e, of a layer and of a table
-unfoldable pub badAt : Terms → ℕ → ℕ → Bool
-badAt c e t = not (admissibleIn c dynamic (layoutOf c .stateAt e) t)
-
-abbrev pub badEntry : Terms → List ℕ → ℕ → Bool
-badEntry c table e = badAt c (e % layerSize c) (getD table e 0)
-
--- the checks beyond the record and the list
-unfoldable pub tableChecks : Terms → List ℕ → List ℕ → List Check
-tableChecks c work table =
-    check 11 0 (short (2 * layerSize c) work || short (tableSize c) table) ∷ checkEach 14 0 (badEntry c table) (tableSize c) ∷ []
-
-pub supplied-verdict : (bytes list work table : List ℕ)
-    → suppliedVerdict bytes list work table
-    ≡ andThen (andThen (verdict (recordChecks bytes)) (verdict (listChecks list))) (verdict (tableChecks (termsOf bytes) work table))
-unfolding suppliedVerdict suppliedChecks tableChecks badAt
-supplied-verdict bytes list work table =
-    verdict-append (recordChecks bytes ++ listChecks list) _
-    ∙ ap (λ (v : Verdict). andThen v (verdict (tableChecks (termsOf bytes) work table))) (verdict-append (recordChecks bytes) (listChecks list))
+use Rattle.rules.specs.Date.{Behaviour, static, mixed, dynamic}
+use Rattle.rules.specs.Product.{recordedAmount, contractValue, suppliedValue, amountLayers}
+use Rattle.rules.specs.FixedTerm.{State, InRange, admissibleIn, layerSize, layoutOf, processOf, fixedTerm}
+use Rattle.rules.specs.Refusals.{checkEach, accepted, refused, verdict, short, recordChecks, listChecks}
+use Rattle.rules.specs.Operations.{productOf, answer, behaviourOf, tableSize, valuingChecks, valuingVerdict, valuingAnswer, valuingTable, badAt, badEntry, tableChecks, suppliedChecks, suppliedVerdict, suppliedAnswer}
+use Rattle.rules.specs.Facts.{supplied-order}
+use Rattle.laws.specs.Accepted.{Valid, Positive, zero-accepts, AllPass, all-pass, passes, pass-left, pass-right, not-not, valid-record, parts-accepted, success-reports}
+use Rattle.laws.specs.FixedTerm.{opened, size-some, sound}
+use Rattle.laws.specs.Demand.{table-attains}
+use Rattle.laws.specs.ThirdDemand.{valuing-accepts, valuing-terms, valuing-leaves}
 
 module _ (c : Terms) (work table : List ℕ) where
+  lent-long : 2 * layerSize c ≤ length work → tableSize c ≤ length table → (short (2 * layerSize c) work || short (tableSize c) table) ≡ false
+  unfolding short
+  lent-long h l = rw (le-ltb (length work) (2 * layerSize c) h, le-ltb (length table) (tableSize c) l)
+
   pub slices-refused : (short (2 * layerSize c) work || short (tableSize c) table) ≡ true → verdict (tableChecks c work table) ≡ refused 11 0
   unfolding tableChecks verdict
   slices-refused e = rw e
@@ -64,35 +51,106 @@ all-admitted c rs table valid h i s g =
     let placed = sound c rs valid .placed in
     let e = entry (layoutOf c) i s in
     let within = entry-within (layoutOf c) placed (c .dates - 1) i s (g .from) (omega (arith, g .before)) (g .range) in
-    let none = first-is (badEntry c table) ((c .dates - 1) * layerSize c) .none e (omega arith) (omega arith) in
-    yes-of (admissibleIn c dynamic s (getD table e 0)) (λ t. none (subst (λ (x : State). T (not (admissibleIn c dynamic x (getD table e 0)))) (sym (entry-state (layoutOf c) placed i s (g .range))) t))
-  where
-    yes-of : (b : Bool) → (T (not b) → ⊥) → T b
-    yes-of true f = tt
-    yes-of false f = absurd (f tt)
+    let good = all-fail (badEntry c table) ((c .dates - 1) * layerSize c) h e within in
+    not-not (admissibleIn c dynamic s (getD table e 0)) (subst (λ (x : State). T (not (not (admissibleIn c dynamic x (getD table e 0))))) (entry-state (layoutOf c) placed i s (g .range)) (rw good tt))
 
-module _ (c : Terms) (rs : Returns) (valid : Valid c) where
-  -- a table whose entries are admissible earns at most the dynamic value: its value is what following it earns
-  pub supplied-earned : (table : List ℕ)
-      → startEarned (processOf c rs) (startFollow (processOf c rs) (lookup (layoutOf c) table)) ≡ suppliedValue (fixedTerm c rs) table
-  unfolding suppliedValue fixedTerm
-  supplied-earned table = start-table-earned (processOf c rs) (sound c rs valid .monotone) (lookup (layoutOf c) table)
+-- the value of a table is what following it earns
+supplied-earned : (c : Terms) (rs : Returns) → Valid c → (table : List ℕ)
+    → startEarned (processOf c rs) (startFollow (processOf c rs) (lookup (layoutOf c) table)) ≡ suppliedValue (fixedTerm c rs) table
+unfolding suppliedValue fixedTerm
+supplied-earned c rs valid table = start-table-earned (processOf c rs) (sound c rs valid .monotone) (lookup (layoutOf c) table)
 
-  pub supplied-at-most : (table : List ℕ) → tableSize c ≤ first (badEntry c table) (tableSize c)
-      → suppliedValue (fixedTerm c rs) table ≤ contractValue (fixedTerm c rs) dynamic
-  unfolding suppliedValue contractValue fixedTerm processOf layoutOf
-  supplied-at-most table h =
+-- ---- a call that answers number 0
+module _ (bytes list work table : List ℕ) (zero-number : suppliedAnswer bytes list work table .number ≡ 0) where
+  supplied-accepts : suppliedVerdict bytes list work table ≡ accepted
+  unfolding suppliedAnswer answer suppliedVerdict Positive
+  supplied-accepts = zero-accepts (suppliedChecks bytes list work table) (rw supplied-order (omega arith)) zero-number
+
+  checks : AllPass (recordChecks bytes ++ listChecks list ++ tableChecks (termsOf bytes) work table)
+  unfolding suppliedVerdict suppliedChecks
+  checks = all-pass _ supplied-accepts
+
+  valid : Valid (termsOf bytes)
+  valid = valid-record bytes (pass-left (recordChecks bytes) _ (pass-left (recordChecks bytes ++ listChecks list) _ checks))
+
+  none-bad : tableSize (termsOf bytes) ≤ first (badEntry (termsOf bytes) table) (tableSize (termsOf bytes))
+  unfolding tableChecks AllPass checkEach
+  none-bad = nltb→le _ _ (pass-right (recordChecks bytes ++ listChecks list) _ checks .1 .0)
+
+  reports : suppliedAnswer bytes list work table .value ≡ suppliedValue (productOf bytes list) table
+  unfolding suppliedAnswer answer
+  reports = success-reports _ _ supplied-accepts
+
+  -- it reports what following the table earns
+  pub supplied-follows : startEarned (productOf bytes list .process) (startFollow (productOf bytes list .process) (lookup (productOf bytes list .layout) table))
+      ≡ suppliedAnswer bytes list work table .value
+  unfolding productOf fixedTerm
+  supplied-follows = supplied-earned (termsOf bytes) (returnsOf list) valid table ∙ sym reports
+
+  -- .. which is at most the dynamic value
+  pub supplied-most : suppliedAnswer bytes list work table .value ≤ contractValue (productOf bytes list) dynamic
+  unfolding productOf contractValue fixedTerm processOf layoutOf
+  supplied-most =
+      let c = termsOf bytes in
+      let rs = returnsOf list in
       let s = sound c rs valid in
       let d = lookup (layoutOf c) table in
-      let kept = start-table-kept (processOf c rs) (s .monotone) d (admissibleIn c dynamic) (InRange c) (s .closed dynamic) (all-admitted c rs table valid h) (s .dates) in
-      le-trans (le-of-eq (sym (supplied-earned table))) (table-attains (fixedTerm c rs) s dynamic [] .start-most (startFollow (processOf c rs) d) kept)
+      let kept = start-table-kept (processOf c rs) (s .monotone) d (admissibleIn c dynamic) (InRange c) (s .closed dynamic) (all-admitted c rs table valid none-bad) (s .dates) in
+      le-trans (le-of-eq (sym supplied-follows)) (table-attains (fixedTerm c rs) s dynamic [] .start-most (startFollow (processOf c rs) d) kept)
 
-  attains-start : (b : Behaviour) (rest : List ℕ)
-      → startEarned (processOf c rs) (startFollow (processOf c rs) (lookup (layoutOf c) (amountLayers (fixedTerm c rs) b ++ rest))) ≡ contractValue (fixedTerm c rs) b
+-- ---- the table that a valuing call leaves
+module _ (c : Terms) (rs : Returns) (valid : Valid c) (b : Behaviour) (rest : List ℕ) where
+  wider : (b : Behaviour) (s : State) (t : ℕ) → T (admissibleIn c b s t) → T (admissibleIn c dynamic s t)
+  unfolding fixedTerm
+  wider static s t p = sound c rs valid .mixed-dynamic s t (sound c rs valid .static-mixed s t p)
+  wider mixed s t p = sound c rs valid .mixed-dynamic s t p
+  wider dynamic s t p = p
+
+  recorded-good : (e : ℕ) → e < tableSize c → badEntry c (amountLayers (fixedTerm c rs) b ++ rest) e ≡ false
+  unfolding badAt amountLayers layers recordedAmount tableSize fixedTerm processOf layoutOf
+  recorded-good e l =
+      let size = layerSize c in
+      let s = layoutOf c .stateAt (e % size) in
+      let before = div-lt-iff-lt-mul (size-some c) .1 l in
+      let p = recorded-best (processOf c rs) (admissibleIn c b) (opened c rs b) (suc (e / size)) s (omega arith) .passes in
+      ap (λ (t : ℕ). not (admissibleIn c dynamic s t)) (getD-tabulate _ e _ rest l) ∙ ap not (true-is (admissibleIn c dynamic s (recordedAmount (fixedTerm c rs) b (suc (e / size)) s)) (wider b s _ p))
+
+  long-enough : tableSize c ≤ length (amountLayers (fixedTerm c rs) b ++ rest)
+  unfolding amountLayers layers tableSize fixedTerm processOf layoutOf
+  long-enough =
+      let long = length-append (amountLayers (fixedTerm c rs) b) rest ∙ ap (λ (n : ℕ). n + length rest) (length-tabulate ((c .dates - 1) * layerSize c) _) in
+      omega arith
+
+  earned-again : suppliedValue (fixedTerm c rs) (amountLayers (fixedTerm c rs) b ++ rest) ≡ contractValue (fixedTerm c rs) b
   unfolding contractValue fixedTerm
-  attains-start b rest = table-attains (fixedTerm c rs) (sound c rs valid) b rest .start-earned
+  earned-again =
+      sym (supplied-earned c rs valid (amountLayers (fixedTerm c rs) b ++ rest))
+      ∙ table-attains (fixedTerm c rs) (sound c rs valid) b rest .start-earned
 
-  -- the table that a valuing call leaves, supplied back, has the value that the call reported
-  pub supplied-back : (b : Behaviour) (rest : List ℕ)
-      → suppliedValue (fixedTerm c rs) (amountLayers (fixedTerm c rs) b ++ rest) ≡ contractValue (fixedTerm c rs) b
-  supplied-back b rest = sym (supplied-earned (amountLayers (fixedTerm c rs) b ++ rest)) ∙ attains-start b rest
+-- supplied back, it gets the answer that the call gave
+module _ (bytes list : List ℕ) (behaviour : ℕ) (work table work' : List ℕ) (zero-number : valuingAnswer bytes list behaviour work table .number ≡ 0)
+    (room : 2 * layerSize (termsOf bytes) ≤ length work')
+  where
+    yes-to : valuingVerdict bytes list behaviour work table ≡ accepted
+    yes-to = valuing-accepts bytes list behaviour work table zero-number
+
+    left : List ℕ
+    left = amountLayers (productOf bytes list) (behaviourOf behaviour) ++ drop (tableSize (termsOf bytes)) table
+
+    back-accepted : suppliedVerdict bytes list work' left ≡ accepted
+    unfolding suppliedVerdict suppliedChecks valuingVerdict valuingChecks left productOf
+    back-accepted =
+        let c = termsOf bytes in
+        let v = valuing-terms bytes list behaviour work table yes-to in
+        let before = pass-left (recordChecks bytes ++ listChecks list) _ (all-pass _ yes-to) in
+        let rest = drop (tableSize c) table in
+        let long = long-enough c (returnsOf list) v (behaviourOf behaviour) rest in
+        parts-accepted (recordChecks bytes) (listChecks list) _ (passes _ (pass-left (recordChecks bytes) _ before)) (passes _ (pass-right (recordChecks bytes) _ before))
+        ∙ table-accepted c work' left (lent-long c work' left room long)
+        (le-ltb _ _ (none-found (badEntry c left) (tableSize c) (recorded-good c (returnsOf list) v (behaviourOf behaviour) rest)))
+
+    pub supplied-back : suppliedAnswer bytes list work' (valuingTable bytes list behaviour work table) ≡ valuingAnswer bytes list behaviour work table
+    unfolding suppliedAnswer valuingAnswer answer left productOf
+    supplied-back =
+        let v = valuing-terms bytes list behaviour work table yes-to in
+        rw (valuing-leaves bytes list behaviour work table yes-to, back-accepted, yes-to, earned-again (termsOf bytes) (returnsOf list) v (behaviourOf behaviour) (drop (tableSize (termsOf bytes)) table)) refl

@@ -1,19 +1,23 @@
 -- A walk, date by date, and what it conserves. Assumes nothing.
-use mathlib.Core.List.{List, [], _∷_, _++_}
-use mathlib.Core.Path.{_≡_, refl, ap, _∙_}
-use Prim.Native.Nat.{ℕ, zero, suc, _+_, _-_, _≤_, _<_, min}
+use mathlib.Core.List.{List, _++_}
+use mathlib.Core.Path.{_≡_, ap, _∙_}
+use Prim.Native.Nat.{ℕ, zero, suc, _+_, _-_, _≤_, _<_}
 use native.Mathlib.Nat.{min-le-right}
 use native.Mathlib.Omega.{arith}
+use lib.Dec.{eqb, eqb→eq}
 use lib.ListN.{getD, length, take}
 use lib.Seq.{take-suc, length-take-le}
 use Rattle.decision.specs.Index.{sum}
-use Rattle.decision.specs.Process.{Process, met, startMet}
+use Rattle.decision.specs.Process.{met, startMet}
 use Rattle.decision.specs.Layers.{lookup}
 use Rattle.decision.specs.Optimal.{Steps, startMet-steps}
-use Rattle.rules.specs.Contract.{Terms, Returns}
+use Rattle.rules.specs.Contract.{Terms, Returns, termsOf, returnsOf}
 use Rattle.rules.specs.Date.{freeAmount}
 use Rattle.rules.specs.Product.{Product, walkState, walkAmount}
-use Rattle.rules.specs.FixedTerm.{State, Held, freeIn, afterIn, reachBy, startOf, processOf, fixedTerm}
+use Rattle.rules.specs.FixedTerm.{State, freeIn, afterIn, reachBy, startOf, processOf, fixedTerm}
+use Rattle.rules.specs.Refusals.{accepted, recordChecks, listChecks}
+use Rattle.rules.specs.Operations.{productOf, pathChecks, walkChecks, walkVerdict}
+use Rattle.laws.specs.Accepted.{AllPass, all-pass, pass-right, not-not}
 use Rattle.laws.specs.Date.{guarantee-free}
 
 module _ {S H : Type 0} (X : Product S H) (table path : List ℕ) where
@@ -49,3 +53,13 @@ walk-conserves c rs table path (suc n) l free =
     let falls = guarantee-free (freeIn c s) (s .account) (s .guarantee) t small in
     let most = min-le-right (c .level) (s .guarantee) in
     omega arith
+
+-- .. of a walk that is accepted, on every date up to maturity
+pub walk-keeps : (bytes list table path cashes : List ℕ) → walkVerdict bytes list table path cashes ≡ accepted → (n : ℕ) → n < termsOf bytes .dates
+    → ((j : ℕ) → j < n → walkAmount (productOf bytes list) table path (suc j) ≤ freeIn (termsOf bytes) (walkState (productOf bytes list) table path (suc j)))
+    → sum (λ j. walkAmount (productOf bytes list) table path (suc j)) n + walkState (productOf bytes list) table path (suc n) .guarantee ≡ termsOf bytes .premium
+unfolding walkVerdict walkChecks pathChecks productOf AllPass
+walk-keeps bytes list table path cashes e n l free =
+    let checks = pass-right (recordChecks bytes ++ listChecks list) _ (all-pass _ e) in
+    let long = eqb→eq (length path) (termsOf bytes .dates) (not-not (eqb (length path) (termsOf bytes .dates)) (checks .1 .0)) in
+    walk-conserves (termsOf bytes) (returnsOf list) table path n (omega arith) free

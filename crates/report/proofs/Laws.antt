@@ -1,5 +1,5 @@
 -- What the valuing calls of the program answer and leave, as it is printed. Assumes nothing.
-use mathlib.Core.Bool.{Bool, true, false, cond, _||_}
+use mathlib.Core.Bool.{Bool, cond, _||_}
 use mathlib.Core.List.{List, [], _∷_, _++_}
 use mathlib.Core.Path.{_≡_, refl, ap, ap₂, sym, _∙_, subst}
 use Prim.Native.Nat.{ℕ, zero, suc, _+_, _*_, _≤_, _<_}
@@ -7,7 +7,7 @@ use native.Mathlib.Nat.{zero-mul, zero-add, le-refl}
 use native.Mathlib.Decide.{decLe}
 use native.Mathlib.Omega.{arith}
 use borrow.Author.Tests.{lt-ltb, le-ltb}
-use lib.Dec.{ltb}
+use lib.Dec.{ltb, nltb→le}
 use lib.ListN.{length, getD, drop, replicate, length-append, length-replicate}
 use lib.Seq.{drop-append-seam}
 use Rattle.decision.specs.Index.{length-tabulate}
@@ -17,10 +17,9 @@ use Rattle.rules.specs.Date.{Behaviour, static, mixed, dynamic}
 use Rattle.rules.specs.Product.{recordedAmount, contractValue, valueLayer, amountLayers}
 use Rattle.rules.specs.FixedTerm.{InRange, fixedTerm, processOf, startOf, reachBy, layoutOf, layerSize}
 use Rattle.rules.specs.Refusals.{check, Verdict, accepted, refused, verdict, numberOf, placeOf, onSuccess, short, recordChecks, listChecks}
-use Rattle.rules.specs.Operations.{productOf, answer, behaviourNumber, behaviourOf, tableSize, valuingChecks, valuingVerdict, workAfter, valuingAnswer, valuingWork, valuingTable}
+use Rattle.rules.specs.Operations.{productOf, answer, behaviourNumber, behaviourOf, tableSize, lentChecks, valuingChecks, valuingVerdict, workAfter, valuingAnswer, valuingWork, valuingTable}
 use Rattle.rules.specs.Printed.{decimal, line, nameOf, refusedWord, linesOf, valueLine, returnLine, lineCount, valuesText, textOf, programVerdict, printed}
-use Rattle.laws.specs.Accepted.{Valid, andThen, refusal-keeps}
-use Rattle.laws.specs.Valuing.{lentChecks, valuing-verdict, lent-refused, lent-room}
+use Rattle.laws.specs.Accepted.{Valid, AllPass, all-pass, passes, pass-left, pass-right, nor-right, refusal-keeps}
 use Rattle.laws.specs.Date.{account-le}
 use Rattle.laws.specs.Demand.{table-filled}
 use Rattle.laws.specs.FixedTerm.{sound}
@@ -41,21 +40,6 @@ caseOf (refused n p) = 1
 pub not-both : {v : Verdict} {n p : ℕ} → v ≡ accepted → v ≡ refused n p → ⊥
 unfolding caseOf
 not-both e f = let z : _≡_ {A = ℕ} 0 1 = ap caseOf (sym e ∙ f) in omega arith
-
-and-left : (v w : Verdict) → andThen v w ≡ accepted → v ≡ accepted
-and-left accepted w e = refl
-and-left (refused n p) w e = e
-
-and-right : (v w : Verdict) → andThen v w ≡ accepted → w ≡ accepted
-and-right accepted w e = e
-and-right (refused n p) w e = absurd (not-both e refl)
-
-lent-within : (c : Terms) (work table : List ℕ) → verdict (lentChecks c 0 work table) ≡ accepted → tableSize c ≤ length table
-lent-within c work table a = go (short (2 * layerSize c) work || short (tableSize c) table) refl
-  where
-    go : (b : Bool) → (short (2 * layerSize c) work || short (tableSize c) table) ≡ b → tableSize c ≤ length table
-    go true e = absurd (not-both a (lent-refused c 0 work table (le-ltb 2 0 (omega arith)) e))
-    go false e = lent-room c 0 work table e .1
 
 -- ---- how many lines
 module _ {bytes : List ℕ} (list : List ℕ) {c : Contract} (x : Read bytes c) where
@@ -98,7 +82,7 @@ module _ (bytes list : List ℕ) where
   -- the checks ask no more of the slices than their lengths
   pub same-verdict : (behaviour : ℕ) (work table : List ℕ) → behaviour ≤ 2 → length work ≡ 8192 → length table ≡ 16384
       → valuingVerdict bytes list behaviour work table ≡ programVerdict bytes list
-  unfolding programVerdict valuingVerdict valuingChecks short behaviourNumber
+  unfolding programVerdict valuingVerdict lentChecks valuingChecks short behaviourNumber
   same-verdict behaviour work table h long long-table =
       let known : ltb 2 behaviour ≡ ltb 2 0 = le-ltb 2 behaviour h ∙ sym (le-ltb 2 0 (omega arith)) in
       let work-is : length work ≡ length {A = ℕ} (replicate 8192 0) = long ∙ sym (length-replicate {A = ℕ} 8192 0) in
@@ -128,21 +112,19 @@ module _ (bytes list : List ℕ) where
 
   -- what was accepted, and that the tables have room
   pub filled : {t₀ t₁ t₂ : List ℕ} → programVerdict bytes list ≡ accepted → length t₀ ≡ 16384 → length t₁ ≡ 16384 → length t₂ ≡ 16384 → Filled bytes list t₀ t₁ t₂
-  unfolding programVerdict behaviourNumber
+  unfolding programVerdict behaviourNumber valuingVerdict valuingChecks lentChecks AllPass short
   filled a l₀ l₁ l₂ =
       let work = replicate {A = ℕ} 8192 0 in
       let table = replicate {A = ℕ} 16384 0 in
       let c = termsOf bytes in
-      let whole = sym (valuing-verdict bytes list 0 work table) ∙ a in
-      let first = verdict (recordChecks bytes) in
-      let second = verdict (listChecks list) in
-      let last = verdict (lentChecks c 0 work table) in
-      let read = and-left (andThen first second) last whole in
-      let lent = and-right (andThen first second) last whole in
-      let room = subst (λ (n : ℕ). tableSize c ≤ n) (length-replicate {A = ℕ} 16384 0) (lent-within c work table lent) in
+      let checks = all-pass (valuingChecks bytes list 0 work table) a in
+      let read = pass-left (recordChecks bytes ++ listChecks list) _ checks in
+      let lent = pass-right (recordChecks bytes ++ listChecks list) _ checks in
+      let within = nltb→le (length table) (tableSize c) (nor-right (short (2 * layerSize c) work) (short (tableSize c) table) (lent .1 .0)) in
+      let room = subst (λ (n : ℕ). tableSize c ≤ n) (length-replicate {A = ℕ} 16384 0) within in
       record {
-        record-accepted = and-left first second read;
-        list-accepted = and-right first second read;
+        record-accepted = passes (recordChecks bytes) (pass-left (recordChecks bytes) _ read);
+        list-accepted = passes (listChecks list) (pass-right (recordChecks bytes) _ read);
         static-room = omega (arith, room, l₀);
         mixed-room = omega (arith, room, l₁);
         dynamic-room = omega (arith, room, l₂);

@@ -1,20 +1,20 @@
 -- Facts that pin the definitions down: which checks each operation makes and in which order, what is rounded and when, the
 -- sign of the margin, that no digit of a number is lost. Assumes nothing.
 use mathlib.Core.Bool.{cond}
-use mathlib.Core.List.{List, [], _∷_, _++_, map}
+use mathlib.Core.List.{List, [], _∷_, _++_}
 use mathlib.Core.Logic.{_↔_}
 use mathlib.Core.Path.{_≡_, refl, subst}
-use Prim.Native.Nat.{ℕ, zero, suc, _+_, _-_, _*_, _/_, _%_, _^_, _≤_, _<_, min}
+use Prim.Native.Nat.{ℕ, zero, suc, _+_, _-_, _*_, _/_, _%_, _^_, _≤_, _<_}
 use native.Mathlib.Nat.{le-trans, le-min, min-le-left, min-le-right, le-div-iff-mul-le, div-lt-iff-lt-mul, pow-suc}
 use native.Mathlib.Decide.{decLe}
 use native.Mathlib.Omega.{arith}
 use lib.Dec.{lit<, ltb}
 use borrow.Author.Tests.{lt-ltb, le-ltb}
-use lib.IntN.{ℤ, pos, negℤ}
+use lib.IntN.{pos, negℤ}
 use Rattle.rules.specs.Date.{nextAccount, discounted, margin}
-use Rattle.rules.specs.Refusals.{Check, check, checkEach, numbers, termsChecks, recordChecks, listChecks}
+use Rattle.rules.specs.Refusals.{checkEach, numbers, termsChecks, recordChecks, listChecks}
 use Rattle.rules.specs.Printed.{digits, decimal}
-use Rattle.rules.specs.Operations.{valuingChecks, suppliedChecks, amountChecks, bookingChecks, walkChecks}
+use Rattle.rules.specs.Operations.{lentChecks, valuingChecks, tableChecks, suppliedChecks, amountChecks, bookingChecks, pathChecks, walkChecks}
 
 -- ---- "Checks run in the order of the table; an operation makes those for which it has the input."
 pub record-order : (bytes : List ℕ) → numbers (recordChecks bytes) ≡ 1 ∷ 2 ∷ 3 ∷ 4 ∷ 5 ∷ 6 ∷ []
@@ -23,12 +23,12 @@ record-order bytes = refl
 
 pub valuing-order : (bytes list : List ℕ) (behaviour : ℕ) (work table : List ℕ)
     → numbers (valuingChecks bytes list behaviour work table) ≡ 1 ∷ 2 ∷ 3 ∷ 4 ∷ 5 ∷ 6 ∷ 7 ∷ 8 ∷ 9 ∷ 10 ∷ 11 ∷ []
-unfolding numbers termsChecks recordChecks listChecks checkEach valuingChecks
+unfolding numbers termsChecks recordChecks listChecks lentChecks valuingChecks checkEach
 valuing-order bytes list behaviour work table = refl
 
 pub supplied-order : (bytes list work table : List ℕ)
     → numbers (suppliedChecks bytes list work table) ≡ 1 ∷ 2 ∷ 3 ∷ 4 ∷ 5 ∷ 6 ∷ 7 ∷ 8 ∷ 9 ∷ 11 ∷ 14 ∷ []
-unfolding numbers termsChecks recordChecks listChecks checkEach suppliedChecks
+unfolding numbers termsChecks recordChecks listChecks tableChecks suppliedChecks checkEach
 supplied-order bytes list work table = refl
 
 pub booking-order : (bytes : List ℕ) (date w a t : ℕ) (buffer : List ℕ)
@@ -38,7 +38,7 @@ booking-order bytes date w a t buffer = refl
 
 pub walk-order : (bytes list table path cashes : List ℕ)
     → numbers (walkChecks bytes list table path cashes) ≡ 1 ∷ 2 ∷ 3 ∷ 4 ∷ 5 ∷ 6 ∷ 7 ∷ 8 ∷ 9 ∷ 11 ∷ 13 ∷ 13 ∷ 14 ∷ []
-unfolding numbers termsChecks recordChecks listChecks checkEach walkChecks
+unfolding numbers termsChecks recordChecks listChecks pathChecks walkChecks checkEach
 walk-order bytes list table path cashes = refl
 
 -- ---- "rounded down a single time": the next account is the largest that top and the exact product allow

@@ -1,6 +1,6 @@
 -- Document 01, 'Lent slices' and 'What an office is told': the whole answer of each operation, and what it leaves in each
 -- slice, on every input. `bytes` is the contract record, `list` the return list. Assumes nothing.
-use mathlib.Core.Bool.{not, _||_}
+use mathlib.Core.Bool.{Bool, not, _||_}
 use mathlib.Core.List.{List, [], _∷_, _++_}
 use Prim.Native.Nat.{ℕ, zero, suc, _-_, _*_, _%_}
 use lib.Dec.{leb, ltb, eqb}
@@ -8,7 +8,7 @@ use lib.IntN.{ℤ, pos}
 use lib.ListN.{getD, length, drop, replicate}
 use Rattle.rules.specs.Contract.{Terms, Returns, bytesOf, termsOf, returnsOf}
 use Rattle.rules.specs.Date.{Behaviour, static, mixed, dynamic, freeAmount, admits, penalty, cash, guaranteeAfter, balanceAfter, margin}
-use Rattle.rules.specs.Product.{Product, decisions, contractValue, valueLayer, amountLayers, suppliedValue, suppliedLayer, walkState, walkAmount, walkCash}
+use Rattle.rules.specs.Product.{Product, contractValue, valueLayer, amountLayers, suppliedValue, suppliedLayer, walkState, walkAmount, walkCash}
 use Rattle.rules.specs.FixedTerm.{State, Held, admissibleIn, layerSize, layoutOf, fixedTerm}
 use Rattle.rules.specs.Refusals.{Check, check, checkEach, Verdict, verdict, numberOf, placeOf, onSuccess, outside, short, recordChecks, listChecks}
 
@@ -58,12 +58,14 @@ behaviourOf (suc (suc n)) = dynamic
 unfoldable pub tableSize : Terms → ℕ
 tableSize c = (c .dates - 1) * layerSize c
 
+-- 10, and 11 "a lent slice shorter than needed"
+unfoldable pub lentChecks : Terms → ℕ → List ℕ → List ℕ → List Check
+lentChecks c behaviour work table =
+    check 10 0 (ltb 2 behaviour) ∷ check 11 0 (short (2 * layerSize c) work || short (tableSize c) table) ∷ []
+
 unfoldable pub valuingChecks : List ℕ → List ℕ → ℕ → List ℕ → List ℕ → List Check
 valuingChecks bytes list behaviour work table =
-    let c = termsOf bytes in
-    recordChecks bytes
-    ++ listChecks list
-    ++ (check 10 0 (ltb 2 behaviour) ∷ check 11 0 (short (2 * layerSize c) work || short (tableSize c) table) ∷ [])
+    recordChecks bytes ++ listChecks list ++ lentChecks (termsOf bytes) behaviour work table
 
 unfoldable pub valuingVerdict : List ℕ → List ℕ → ℕ → List ℕ → List ℕ → Verdict
 valuingVerdict bytes list behaviour work table = verdict (valuingChecks bytes list behaviour work table)
@@ -83,17 +85,20 @@ valuingTable bytes list behaviour work table =
     table
 
 -- ---- valuing a supplied table
--- "checked in every entry, reachable or not, against the dynamic set"
+-- "checked in every entry, reachable or not, against the dynamic set": amount t at entry e of a layer, and entry e of a table
+unfoldable pub badAt : Terms → ℕ → ℕ → Bool
+badAt c e t = not (admissibleIn c dynamic (layoutOf c .stateAt e) t)
+
+abbrev pub badEntry : Terms → List ℕ → ℕ → Bool
+badEntry c table e = badAt c (e % layerSize c) (getD table e 0)
+
+-- 14, first bad table entry
+unfoldable pub tableChecks : Terms → List ℕ → List ℕ → List Check
+tableChecks c work table =
+    check 11 0 (short (2 * layerSize c) work || short (tableSize c) table) ∷ checkEach 14 0 (badEntry c table) (tableSize c) ∷ []
+
 unfoldable pub suppliedChecks : List ℕ → List ℕ → List ℕ → List ℕ → List Check
-suppliedChecks bytes list work table =
-    let c = termsOf bytes in
-    recordChecks bytes
-    ++ listChecks list
-    ++ (
-    check 11 0 (short (2 * layerSize c) work || short (tableSize c) table)
-    ∷ checkEach 14 0 (λ e. not (admissibleIn c dynamic (layoutOf c .stateAt (e % layerSize c)) (getD table e 0))) (tableSize c)
-    ∷ []
-    )
+suppliedChecks bytes list work table = recordChecks bytes ++ listChecks list ++ tableChecks (termsOf bytes) work table
 
 unfoldable pub suppliedVerdict : List ℕ → List ℕ → List ℕ → List ℕ → Verdict
 suppliedVerdict bytes list work table = verdict (suppliedChecks bytes list work table)
@@ -136,21 +141,25 @@ bookingBuffer bytes date w a t buffer =
     onSuccess (bookingVerdict bytes date w a t buffer) (bookingBytes (termsOf bytes) date w a t) buffer
 
 -- ---- walking a contract along a path
+-- "It checks only the table entries it meets.": the amount met on date suc j
+unfoldable pub badDate : Terms → Returns → List ℕ → List ℕ → ℕ → Bool
+badDate c rs table path j =
+    let X = fixedTerm c rs in
+    not (admissibleIn c dynamic (walkState X table path (suc j)) (walkAmount X table path (suc j)))
+
 -- 13: "count not N (looked at first), or no such return"
--- 14 with the date as its place: "It checks only the table entries it meets."
-unfoldable pub walkChecks : List ℕ → List ℕ → List ℕ → List ℕ → List ℕ → List Check
-walkChecks bytes list table path cashes =
-    let c = termsOf bytes in
-    let X = productOf bytes list in
-    recordChecks bytes
-    ++ listChecks list
-    ++ (
+-- 14: the date is its place
+unfoldable pub pathChecks : Terms → Returns → List ℕ → List ℕ → List ℕ → List Check
+pathChecks c rs table path cashes =
     check 11 0 (short (tableSize c) table || short (c .dates) cashes)
     ∷ check 13 (c .dates) (not (eqb (length path) (c .dates)))
-    ∷ checkEach 13 0 (λ j. leb (returnsOf list .count) (getD path j 0)) (c .dates)
-    ∷ checkEach 14 1 (λ j. not (admissibleIn c dynamic (walkState X table path (suc j)) (walkAmount X table path (suc j)))) (c .dates - 1)
+    ∷ checkEach 13 0 (λ j. leb (rs .count) (getD path j 0)) (c .dates)
+    ∷ checkEach 14 1 (badDate c rs table path) (c .dates - 1)
     ∷ []
-    )
+
+unfoldable pub walkChecks : List ℕ → List ℕ → List ℕ → List ℕ → List ℕ → List Check
+walkChecks bytes list table path cashes =
+    recordChecks bytes ++ listChecks list ++ pathChecks (termsOf bytes) (returnsOf list) table path cashes
 
 unfoldable pub walkVerdict : List ℕ → List ℕ → List ℕ → List ℕ → List ℕ → Verdict
 walkVerdict bytes list table path cashes = verdict (walkChecks bytes list table path cashes)

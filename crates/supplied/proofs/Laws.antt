@@ -1,9 +1,9 @@
 -- What the loops that follow a table read and store. Assumes nothing.
 use mathlib.Core.List.{List, _++_}
-use mathlib.Core.Logic.{inl, inr}
+use mathlib.Core.Logic.{inr}
 use mathlib.Core.Path.{_≡_, refl, ap, ap₂, sym, _∙_, subst}
-use Prim.Native.Nat.{ℕ, suc, _+_, _-_, _*_, _/_, _%_, _≤_, _<_, max}
-use native.Mathlib.Nat.{zero-add, le-trans, le-of-eq, max-le, min-le-right, sub-le, mul-le-mul}
+use Prim.Native.Nat.{ℕ, suc, _+_, _-_, _*_, _≤_, _<_, max}
+use native.Mathlib.Nat.{zero-add, le-trans, le-of-eq, max-le, min-le-right, sub-le}
 use native.Mathlib.Omega.{arith}
 use lib.Dec.{T}
 use lib.ListN.{length, getD, drop, replicate}
@@ -13,18 +13,18 @@ use Rattle.decision.specs.Process.{worth, startTableValue}
 use Rattle.decision.specs.Optimal.{table-step, table-last}
 use Rattle.decision.specs.Layers.{low-digit, lookup, entry, layer}
 use Rattle.slices.specs.Parts.{part-at}
-use Rattle.slices.specs.Stored.{stored, length-stored, stored-in, stored-out}
+use Rattle.slices.specs.Stored.{stored, length-stored, stored-out}
 use Rattle.slices.specs.Rows.{cells, flat, cells-kept, within-rows, rows-le, rows-step, rows-before, row-next, layer-stored}
 use Rattle.rules.specs.Contract.{Terms, termsOf, Returns, returnsOf}
 use Rattle.rules.specs.Date.{dynamic, freeAmount, admits, cash, balanceAfter, guaranteeAfter, maturityValue, margin}
 use Rattle.rules.specs.Product.{suppliedValue, suppliedLayer}
 use Rattle.rules.specs.Refusals.{Verdict, accepted, refused, verdict, numberOf, placeOf, onSuccess, recordChecks, listChecks}
 use Rattle.rules.specs.FixedTerm.{freeIn, admissibleIn, cashIn, afterIn, reachBy, expectOver, startOf, processOf, layerSize, layoutOf, fixedTerm}
-use Rattle.rules.specs.Operations.{productOf, answer, workAfter, tableSize, suppliedVerdict, suppliedAnswer, suppliedWork}
-use Rattle.laws.specs.Supplied.{badAt, badEntry, tableChecks, supplied-verdict, all-admitted}
+use Rattle.rules.specs.Operations.{productOf, answer, workAfter, tableSize, badAt, badEntry, tableChecks, suppliedChecks, suppliedVerdict, suppliedAnswer, suppliedWork}
+use Rattle.laws.specs.Supplied.{all-admitted}
 use Rattle.laws.specs.Date.{dynamic-is, guarantee-le}
-use Rattle.laws.specs.Accepted.{Valid, andThen}
-use Rattle.laws.specs.Bounds.{cash-le, table-value-le}
+use Rattle.laws.specs.Accepted.{Valid, andThen, parts-accepted, parts-refused}
+use Rattle.laws.specs.Bounds.{cash-le, table-value-le, value-room}
 use Rattle.expect.specs.Expected.{expected, reachedSum, Listing, expected-le, expected-same}
 use Rattle.choose.specs.State.{worthOver, State}
 use Rattle.dates.specs.Back.{at}
@@ -221,16 +221,9 @@ module _ {c : Terms} {count : ℕ} {work₀ table list work : List ℕ} (s : Sta
       admitted = λ w a h l. admitted-is w a h l;
       small = λ w a h l.
           le-trans (le-of-eq (v .values w a h l))
-          (le-trans (table-value-le c (returnsOf list) (s .layers .valid) (s .listing .valid) (lookup (layoutOf c) table) (all-admitted c (returnsOf list) table (s .layers .valid) (s .none-bad)) (suc i) (at w a) (omega arith) (omega arith) (record { account = h; guarantee = l })) bound);
+          (le-trans (table-value-le c (returnsOf list) (s .layers .valid) (s .listing .valid) (lookup (layoutOf c) table) (all-admitted c (returnsOf list) table (s .layers .valid) (s .none-bad)) (suc i) (at w a) (omega arith) (omega arith) (record { account = h; guarantee = l })) (value-room c (returnsOf list) (s .layers .valid) (s .listing .valid) (suc i)));
     }
       where
-        bound : 10000 * c .top + (c .dates - suc i) * (10000 * c .top) ≤ 4000000000
-        bound =
-            let t : 10000 * c .top ≤ 40000000 = omega (arith, s .layers .valid .top) in
-            let n : c .dates - suc i ≤ 40 = omega (arith, s .layers .valid .dates) in
-            let p = mul-le-mul n t in
-            omega arith
-
         admitted-is : (w a : ℕ) → w ≤ c .top → a ≤ c .premium
             → T (admits dynamic (freeAmount (c .level) a) w (cells (midOf ((i - 1) * layerSize c) (i * layerSize c - (i - 1) * layerSize c) table) 0 (c .premium + 1) w a))
         admitted-is w a h l = subst (λ (t : ℕ). T (admits dynamic (freeAmount (c .level) a) w t)) (sym (amount-is w a h l)) (admitted-at c (returnsOf list) table (s .layers .valid) (s .none-bad) i w a some before h l)
@@ -307,17 +300,14 @@ module _ (bytes list work table : List ℕ) (r : declared.Answer) where
 
   pub whole : (work' : List ℕ) → verdict (recordChecks bytes) ≡ accepted → verdict (listChecks list) ≡ accepted → (c : Terms) → c ≡ termsOf bytes
       → Answered c (returnsOf list) (verdict (tableChecks c work table)) work table r work' → Whole work'
-  unfolding suppliedAnswer suppliedWork productOf
+  unfolding suppliedVerdict suppliedChecks suppliedAnswer suppliedWork productOf
   whole work' e f c same a =
-      let all : suppliedVerdict bytes list work table ≡ verdict (tableChecks (termsOf bytes) work table) =
-      supplied-verdict bytes list work table
-      ∙ ap₂ (λ (x y : Verdict). andThen (andThen x y) (verdict (tableChecks (termsOf bytes) work table))) e f in
+      let all = parts-accepted (recordChecks bytes) (listChecks list) (tableChecks (termsOf bytes) work table) e f in
       let b = subst (λ (x : Terms). Answered x (returnsOf list) (verdict (tableChecks x work table)) work table r work') same a in
       record { answer-is = rw all (b .answer-is); work-is = rw all (b .work-is) }
 
   pub whole-refused : (n p : ℕ) → andThen (verdict (recordChecks bytes)) (verdict (listChecks list)) ≡ refused n p → r ≡ refusal n p → Whole work
-  unfolding suppliedAnswer suppliedWork answer workAfter onSuccess numberOf placeOf
+  unfolding suppliedVerdict suppliedChecks suppliedAnswer suppliedWork answer workAfter onSuccess numberOf placeOf
   whole-refused n p e f =
-      let all : suppliedVerdict bytes list work table ≡ refused n p =
-      supplied-verdict bytes list work table ∙ ap (λ (x : Verdict). andThen x (verdict (tableChecks (termsOf bytes) work table))) e in
+      let all = parts-refused (recordChecks bytes) (listChecks list) (tableChecks (termsOf bytes) work table) e in
       record { answer-is = rw all f; work-is = rw all }

@@ -1,20 +1,19 @@
 -- Following a supplied table: what the loops hand to each other. Assumes nothing.
-use mathlib.Core.List.{List, _++_}
+use mathlib.Core.List.{List}
 use mathlib.Core.Path.{_≡_}
-use Prim.Native.Nat.{ℕ, suc, _+_, _-_, _*_, _≤_, _<_}
+use Prim.Native.Nat.{ℕ, _+_, _-_, _*_, _≤_, _<_}
 use lib.Dec.{T}
 use lib.ListN.{length, getD}
 use Rattle.decision.specs.Index.{first}
 use Rattle.decision.specs.Process.{tableValue}
 use Rattle.decision.specs.Layers.{lookup}
 use Rattle.slices.specs.Rows.{cells}
-use Rattle.rules.specs.Contract.{Terms, Returns, topMost, rateMost}
+use Rattle.rules.specs.Contract.{Terms, Returns, rateMost}
 use Rattle.rules.specs.Date.{dynamic, freeAmount, admits, maturityValue}
 use Rattle.rules.specs.Product.{suppliedValue, suppliedLayer}
 use Rattle.rules.specs.FixedTerm.{layerSize, layoutOf, processOf, fixedTerm}
 use Rattle.rules.specs.Refusals.{Verdict}
-use Rattle.rules.specs.Operations.{answer, workAfter, tableSize}
-use Rattle.laws.specs.Supplied.{badEntry}
+use Rattle.rules.specs.Operations.{answer, workAfter, tableSize, badEntry}
 use Rattle.expect.specs.Expected.{expected, Listing, Layers}
 use Rattle.choose.specs.State.{worthOver}
 use Rattle.dates.specs.Back.{at}

@@ -2,39 +2,34 @@
 use mathlib.Core.Bool.{Bool, true, false, cond}
 use mathlib.Core.List.{List, _++_}
 use mathlib.Core.Logic.{inl, inr, _⊎_}
-use mathlib.Core.Path.{_≡_, refl, ap, ap₂, sym, _∙_, subst}
+use mathlib.Core.Path.{_≡_, refl, ap, sym, _∙_, subst}
 use Prim.Native.Nat.{ℕ, zero, suc, _+_, _-_, _*_, _/_, _%_, _≤_, _<_}
-use native.Mathlib.Nat.{mul-le-mul, mul-pos, mod-lt, div-add-mod', div-lt-iff-lt-mul, zero-add, le-trans}
+use native.Mathlib.Nat.{mod-lt, div-add-mod', div-lt-iff-lt-mul, zero-add}
 use native.Mathlib.Omega.{arith}
 use lib.Dec.{ltb}
 use lib.IntN.{pos, negsuc, _-ℤ_, subℕ}
 use lib.Signed.{mag}
 use borrow.Author.Tests.{le-ltb}
 use lib.ListN.{length, getD, drop, replicate}
-use Rattle.decision.specs.Index.{tabulate}
 use Rattle.decision.specs.Process.{startValue, Attained}
 use Rattle.decision.specs.Layers.{lookup, layer, layers}
-use Rattle.slices.specs.Stored.{stored, length-stored, stored-out, is-stored, stored-front, stored-zeros}
-use Rattle.slices.specs.Rows.{cells, flat, layer-stored}
+use Rattle.slices.specs.Stored.{stored, length-stored, is-stored, stored-front}
+use Rattle.slices.specs.Rows.{cells, flat}
 use Rattle.rules.specs.Contract.{Terms, termsOf, Returns, returnsOf}
 use Rattle.rules.specs.Date.{Behaviour, maturityValue, margin}
 use Rattle.rules.specs.Product.{contractValue, valueLayer, amountLayers, stateValue, recordedAmount, Claim}
 use Rattle.rules.specs.FixedTerm.{fixedTerm, processOf, expectOver, startOf, reachBy, layoutOf, layerSize}
 use Rattle.rules.specs.Refusals.{Verdict, accepted, refused, verdict, numberOf, placeOf, onSuccess, recordChecks, listChecks}
-use Rattle.rules.specs.Operations.{productOf, answer, workAfter, behaviourOf, tableSize, valuingVerdict, valuingAnswer, valuingWork, valuingTable}
-use Rattle.laws.specs.Accepted.{Valid, andThen}
-use Rattle.laws.specs.Valuing.{lentChecks, valuing-verdict}
+use Rattle.rules.specs.Operations.{productOf, answer, workAfter, behaviourOf, tableSize, lentChecks, valuingChecks, valuingVerdict, valuingAnswer, valuingWork, valuingTable}
+use Rattle.laws.specs.Accepted.{Valid, andThen, parts-accepted, parts-refused}
+use Rattle.laws.specs.FixedTerm.{size-some}
 use Rattle.laws.specs.ThirdDemand.{valuing-claim}
-use Rattle.contract.specs.declared.Outcome.{Outcome}
-use Rattle.contract.specs.declared.Contract.{Contract}
 use Rattle.contract.specs.declared.Returns as listed
-use Rattle.contract.specs.Reading.{termsIn}
-use Rattle.contract.specs.Accepted.{Read, Listed}
 use Rattle.expect.specs.Expected.{expected, reachedSum, Listing, expected-same}
 use Rattle.dates.specs.Back.{at, valuesOn, Valued, Starting}
 use Rattle.valuing.specs.declared.Answer as declared
 use Rattle.valuing.specs.Answered.{answerOf, refusal, Settled, Answered}
-use Rattle.valuing.specs.First.{size-some, First, first-layer, first-from, first-mature}
+use Rattle.valuing.specs.First.{First, first-layer, first-from, first-mature}
 
 pub diff : (a b : ℕ) → pos a -ℤ pos b ≡ subℕ a b
 diff a zero = rw (le-ltb a 0 (omega arith)) (ap pos (omega arith))
@@ -146,11 +141,9 @@ module _ (bytes list : List ℕ) (behaviour : ℕ) (work table : List ℕ) (r : 
   -- terms and returns that were read
   pub whole : verdict (recordChecks bytes) ≡ accepted → verdict (listChecks list) ≡ accepted → (c : Terms) → c ≡ termsOf bytes
       → Answered (behaviourOf behaviour) c (returnsOf list) (verdict (lentChecks c behaviour work table)) work table r work' table' → Whole
-  unfolding valuingAnswer valuingWork valuingTable productOf
+  unfolding valuingVerdict valuingChecks valuingAnswer valuingWork valuingTable productOf
   whole e f c same a =
-      let all : valuingVerdict bytes list behaviour work table ≡ verdict (lentChecks (termsOf bytes) behaviour work table) =
-      valuing-verdict bytes list behaviour work table
-      ∙ ap₂ (λ (x y : Verdict). andThen (andThen x y) (verdict (lentChecks (termsOf bytes) behaviour work table))) e f in
+      let all = parts-accepted (recordChecks bytes) (listChecks list) (lentChecks (termsOf bytes) behaviour work table) e f in
       let b = subst (λ (x : Terms). Answered (behaviourOf behaviour) x (returnsOf list) (verdict (lentChecks x behaviour work table)) work table r work' table') same a in
       record { answer-is = rw all (b .answer-is); work-is = rw all (b .work-is); table-is = rw all (b .table-is) }
 
@@ -169,8 +162,7 @@ module _ (bytes list : List ℕ) (behaviour : ℕ) (work table : List ℕ) (r : 
   -- a record or a list that was refused
   pub whole-refused : (n p : ℕ) → andThen (verdict (recordChecks bytes)) (verdict (listChecks list)) ≡ refused n p → r ≡ refusal n p
       → Whole bytes list behaviour work table r work table
-  unfolding valuingAnswer valuingWork valuingTable answer workAfter onSuccess numberOf placeOf
+  unfolding valuingVerdict valuingChecks valuingAnswer valuingWork valuingTable answer workAfter onSuccess numberOf placeOf
   whole-refused n p e f =
-      let all : valuingVerdict bytes list behaviour work table ≡ refused n p =
-      valuing-verdict bytes list behaviour work table ∙ ap (λ (x : Verdict). andThen x (verdict (lentChecks (termsOf bytes) behaviour work table))) e in
+      let all = parts-refused (recordChecks bytes) (listChecks list) (lentChecks (termsOf bytes) behaviour work table) e in
       record { answer-is = rw all f; work-is = rw all; table-is = rw all }

@@ -3,7 +3,7 @@ use mathlib.Core.List.{List, _++_}
 use mathlib.Core.Logic.{inr}
 use mathlib.Core.Path.{_≡_, ap, sym, _∙_}
 use Prim.Native.Nat.{ℕ, _+_, _-_, _*_, _/_, _%_, _≤_, _<_}
-use native.Mathlib.Nat.{mul-le-mul, mul-pos, mod-lt, div-add-mod', div-lt-iff-lt-mul}
+use native.Mathlib.Nat.{mul-le-mul, mod-lt, div-add-mod', div-lt-iff-lt-mul}
 use native.Mathlib.Omega.{arith}
 use lib.ListN.{length, getD, drop, replicate}
 use Rattle.decision.specs.Index.{tabulate}
@@ -31,10 +31,6 @@ size-le {c} v =
 
 pub dates-le : {c : Terms} → Valid c → (c .dates - 1) * ((c .top + 1) * (c .premium + 1)) ≤ 39 * 16008001
 dates-le {c} v = let d : c .dates - 1 ≤ 39 = omega (arith, v .dates) in mul-le-mul d (size-le v)
-
-pub size-some : (c : Terms) → 0 < layerSize c
-unfolding layerSize
-size-some c = mul-pos {m = c .top + 1} {n = c .premium + 1} (omega arith) (omega arith)
 
 -- the first layer holds f, and what stands behind both layers is kept
 pub record First (f : ℕ → ℕ → ℕ) (c : Terms) (work work' : List ℕ) : Type 0 where

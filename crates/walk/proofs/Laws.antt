@@ -1,7 +1,7 @@
 -- What is met on a walk, date by date. Assumes nothing.
 use mathlib.Core.Bool.{Bool, true, false, not, _||_}
 use mathlib.Core.List.{List, [], _∷_, _++_}
-use mathlib.Core.Path.{_≡_, refl, ap, ap₂, sym, _∙_, subst}
+use mathlib.Core.Path.{_≡_, ap, ap₂, sym, _∙_, subst}
 use Prim.Native.Nat.{ℕ, suc, _+_, _-_, _*_, _≤_, _<_, max}
 use native.Mathlib.Nat.{le-trans, sub-le, zero-add}
 use native.Mathlib.Numerals.{add-one}
@@ -11,7 +11,7 @@ use lib.Seq.{drop-cons, append-snoc, set-append-seam}
 use borrow.Author.Tests.{leb-false}
 use lib.ListN.{length, getD, set, drop}
 use borrow.Rule.Slice.PartMut.{midOf, mid-len}
-use Rattle.decision.specs.Index.{tabulate, length-tabulate, first, First, first-is}
+use Rattle.decision.specs.Index.{tabulate, length-tabulate, first, all-fail}
 use Rattle.slices.specs.Stored.{stored, stored-front}
 use Rattle.decision.specs.Layers.{lookup, entry}
 use Rattle.slices.specs.Parts.{part-at}
@@ -21,15 +21,14 @@ use Rattle.rules.specs.Date.{dynamic, freeAmount, admits, cash, balanceAfter, g
 use Rattle.rules.specs.Product.{walkState, walkAmount, walkCash}
 use Rattle.rules.specs.FixedTerm.{State, startOf, reachBy, afterIn, cashIn, freeIn, admissibleIn, processOf, layerSize, layoutOf, fixedTerm}
 use Rattle.rules.specs.Refusals.{Verdict, accepted, refused, verdict, checkEach, numberOf, placeOf, onSuccess, short, recordChecks, listChecks}
-use Rattle.rules.specs.Operations.{productOf, tableSize, walkVerdict, walkCashes}
-use Rattle.laws.specs.Accepted.{Valid, nor-left, nor-right, andThen}
+use Rattle.rules.specs.Operations.{productOf, tableSize, badDate, pathChecks, walkChecks, walkVerdict, walkCashes}
+use Rattle.laws.specs.Accepted.{Valid, nor-left, nor-right, not-not, andThen, parts-accepted, parts-refused}
 use Rattle.contract.specs.declared.Outcome.{Outcome}
 use Rattle.contract.specs.Reading.{outcomeAt, outcomeOf}
 use Rattle.expect.specs.Expected.{Listing}
 use Rattle.laws.specs.Date.{account-le, guarantee-le, dynamic-is}
 use Rattle.laws.specs.Walk.{walk-first, walk-next}
-use Rattle.dates.specs.Back.{at}
-use Rattle.walk.specs.Walked.{badDate, pathChecks, walk-verdict, Walking, Met, paid, paidLast, Walked}
+use Rattle.walk.specs.Walked.{Walking, Met, paid, paidLast, Walked}
 
 module _ {c : Terms} {count : ℕ} {list table path : List ℕ} (h : Walking c count list table path) where
   pub first-met : Met c (returnsOf list) table path 1 (nextAccount (c .fee) (c .top) (c .premium) (returnsOf list .factor (getD path 0 0))) (c .premium)
@@ -101,11 +100,8 @@ module _ {c : Terms} {rs : Returns} {table path : List ℕ} {i w a : ℕ} (m : M
   pub amount-within : c .dates - 1 ≤ first (badDate c rs table path) (c .dates - 1) → i < c .dates
       → walkAmount (fixedTerm c rs) table path i ≤ max w (freeAmount (c .level) a)
   amount-within none before =
-      dynamic-is (freeAmount (c .level) a) w _ (true-of (admits dynamic (freeAmount (c .level) a) w (walkAmount (fixedTerm c rs) table path i)) (subst (λ (b : Bool). T b → ⊥) bad-is (first-is (badDate c rs table path) (c .dates - 1) .none (i - 1) (omega arith) (omega arith))))
-    where
-      true-of : (b : Bool) → (T (not b) → ⊥) → T b
-      true-of true f = tt
-      true-of false f = absurd (f tt)
+      let good = sym bad-is ∙ all-fail (badDate c rs table path) (c .dates - 1) none (i - 1) (omega arith) in
+      dynamic-is (freeAmount (c .level) a) w _ (not-not (admits dynamic (freeAmount (c .level) a) w (walkAmount (fixedTerm c rs) table path i)) (rw good tt))
 
 -- the cash as the rules list it
 cash-list : (c : Terms) (rs : Returns) (table path cashes : List ℕ) → 1 ≤ c .dates → c .dates ≤ length cashes
@@ -146,19 +142,16 @@ module _ (bytes list table path cashes : List ℕ) (r : Outcome) where
 
   pub whole : (cashes' : List ℕ) → verdict (recordChecks bytes) ≡ accepted → verdict (listChecks list) ≡ accepted → (c : Terms) → c ≡ termsOf bytes
       → Walked c (returnsOf list) (verdict (pathChecks c (returnsOf list) table path cashes)) table path cashes r cashes' → Whole cashes'
-  unfolding walkCashes productOf
+  unfolding walkVerdict walkChecks walkCashes productOf
   whole cashes' e f c same a =
-      let all : walkVerdict bytes list table path cashes ≡ verdict (pathChecks (termsOf bytes) (returnsOf list) table path cashes) =
-      walk-verdict bytes list table path cashes
-      ∙ ap₂ (λ (x y : Verdict). andThen (andThen x y) (verdict (pathChecks (termsOf bytes) (returnsOf list) table path cashes))) e f in
+      let all = parts-accepted (recordChecks bytes) (listChecks list) (pathChecks (termsOf bytes) (returnsOf list) table path cashes) e f in
       let b = subst (λ (x : Terms). Walked x (returnsOf list) (verdict (pathChecks x (returnsOf list) table path cashes)) table path cashes r cashes') same a in
       record { outcome-is = rw all (b .outcome-is); cash-is = rw all (b .cash-is) }
 
   pub whole-refused : (n p : ℕ) → andThen (verdict (recordChecks bytes)) (verdict (listChecks list)) ≡ refused n p → r ≡ outcomeAt n p → Whole cashes
-  unfolding walkCashes onSuccess numberOf placeOf
+  unfolding walkVerdict walkChecks walkCashes onSuccess numberOf placeOf
   whole-refused n p e f =
-      let all : walkVerdict bytes list table path cashes ≡ refused n p =
-      walk-verdict bytes list table path cashes ∙ ap (λ (x : Verdict). andThen x (verdict (pathChecks (termsOf bytes) (returnsOf list) table path cashes))) e in
+      let all = parts-refused (recordChecks bytes) (listChecks list) (pathChecks (termsOf bytes) (returnsOf list) table path cashes) e in
       record { outcome-is = rw all f; cash-is = rw all }
 
 -- ---- the verdict, check by check
@@ -208,12 +201,5 @@ walking {c} {count} path valid listing room long none = record {
   listing = listing;
   entries = room;
   long = long;
-  numbers = λ j l. below (getD path j 0) (first-is (λ (j : ℕ). leb count (getD path j 0)) (c .dates) .none j (omega arith) (omega arith));
+  numbers = λ j l. leb-false count (getD path j 0) (all-fail (λ (j : ℕ). leb count (getD path j 0)) (c .dates) none j l);
 }
-  where
-    below : (x : ℕ) → (T (leb count x) → ⊥) → x < count
-    below x f = leb-false count x (untrue (leb count x) f)
-      where
-        untrue : (b : Bool) → (T b → ⊥) → b ≡ false
-        untrue true f = absurd (f tt)
-        untrue false f = refl

@@ -6,9 +6,8 @@ use native.Mathlib.Nat.{zero-mul}
 use native.Mathlib.Omega.{arith}
 use Rattle.contract.specs.Reading.{termsIn}
 use Rattle.decision.specs.Index.{Searched, search-none, search-end, run-hit, run-end}
-use Rattle.laws.specs.Supplied.{badEntry}
 use Rattle.rules.specs.FixedTerm.{layerSize}
-use Rattle.rules.specs.Operations.{tableSize}
+use Rattle.rules.specs.Operations.{tableSize, badEntry}
 use Rattle.slices.specs.Rows.{rows-step, rows-le}
 use Rattle.valuing.specs.First.{size-le, dates-le}
 use Rattle.supplied.proofs.Laws.{search-fits, search-same}

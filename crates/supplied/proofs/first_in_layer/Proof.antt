@@ -5,7 +5,7 @@ use mathlib.Core.Path.{sym, _∙_}
 use native.Mathlib.Omega.{arith}
 use Rattle.contract.specs.Reading.{termsIn}
 use Rattle.decision.specs.Index.{Searched, search-none, search-more, search-hit, search-end}
-use Rattle.laws.specs.Supplied.{badAt}
+use Rattle.rules.specs.Operations.{badAt}
 use Rattle.supplied.proofs.first_in_layer.Statement.{statement}
 use Rattle.supplied.proofs.first_in_layer.Tie as tie
 

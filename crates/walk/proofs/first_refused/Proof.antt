@@ -10,7 +10,8 @@ use Rattle.decision.specs.Index.{Searched, search-none, search-more, search-hit
 use Rattle.laws.specs.Date.{dynamic-is}
 use Rattle.rules.specs.Contract.{returnsOf}
 use Rattle.rules.specs.Date.{dynamic, freeAmount, admits}
-use Rattle.walk.specs.Walked.{badDate, Met}
+use Rattle.rules.specs.Operations.{badDate}
+use Rattle.walk.specs.Walked.{Met}
 use Rattle.walk.proofs.Laws.{bad-is, met-up}
 use Rattle.walk.proofs.first_refused.Statement.{statement}
 use Rattle.walk.proofs.first_refused.Tie as tie
