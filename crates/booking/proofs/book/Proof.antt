@@ -29,11 +29,21 @@ outcome-requires c κs = search needs
 returns : tie.Need-returns
 unfolding bookingBuffer onSuccess numberOf placeOf
 returns c =
+    let args = c .before .before .before .before .before .before .args in
+    let buffer₀ = args .buffer .now in
+    let bytes₀ = args .bytes .now in
+    let date₀ = args .date in
+    let w₀ = args .w in
+    let a₀ = args .a in
+    let t₀ = args .t in
+    let read = c .before .before .before .read in
     let told = c .before .enum-told .given .1 in
-    let refusal = read-refused (c .before .before .before .before .before .before .args .bytes .now) _ (sym (c .before .before .before .read .ensures) ∙ told) in
-    let whole = booking-verdict (c .before .before .before .before .before .before .args .bytes .now) (c .before .before .before .before .before .before .args .date) (c .before .before .before .before .before .before .args .w) (c .before .before .before .before .before .before .args .a) (c .before .before .before .before .before .before .args .t) (c .before .before .before .before .before .before .args .buffer .now) ∙ ap (λ (v : Verdict). andThen v (verdict (amountChecks (termsOf (c .before .before .before .before .before .before .args .bytes .now)) (c .before .before .before .before .before .before .args .date) (c .before .before .before .before .before .before .args .w) (c .before .before .before .before .before .before .args .a) (c .before .before .before .before .before .before .args .t) (c .before .before .before .before .before .before .args .buffer .now)))) refusal in (
+    let refusal = read-refused bytes₀ _ (sym (read .ensures) ∙ told) in
+    let whole =
+    booking-verdict bytes₀ date₀ w₀ a₀ t₀ buffer₀
+    ∙ ap (λ (v : Verdict). andThen v (verdict (amountChecks (termsOf bytes₀) date₀ w₀ a₀ t₀ buffer₀))) refusal in (
       c .outcome .ensures ∙ ap (λ (r : Reading). outcomeOf (readingVerdict r)) told ∙ ap outcomeOf (sym whole),
-      sym (ap (λ (v : Verdict). onSuccess v (bookingBytes (termsOf (c .before .before .before .before .before .before .args .bytes .now)) (c .before .before .before .before .before .before .args .date) (c .before .before .before .before .before .before .args .w) (c .before .before .before .before .before .before .args .a) (c .before .before .before .before .before .before .args .t)) (c .before .before .before .before .before .before .args .buffer .now)) whole),
+      sym (ap (λ (v : Verdict). onSuccess v (bookingBytes (termsOf bytes₀) date₀ w₀ a₀ t₀) buffer₀) whole),
     )
 
 booked-requires : tie.Need-booked-requires
@@ -45,16 +55,26 @@ same-length c = search needs
 returns-2 : tie.Need-returns-2
 unfolding bookingBuffer
 returns-2 c =
-    let x = c .before .before .before .before .before .before .before .before .before .before .args in
-    let known = read-accepted (x .bytes .now) _ (sym (c .before .before .before .before .before .before .before .read .ensures) ∙ c .before .before .before .before .before .reading .given .1) in
-    let whole = booking-verdict (c .before .before .before .before .before .before .before .before .before .before .args .bytes .now) (c .before .before .before .before .before .before .before .before .before .before .args .date) (c .before .before .before .before .before .before .before .before .before .before .args .w) (c .before .before .before .before .before .before .before .before .before .before .args .a) (c .before .before .before .before .before .before .before .before .before .before .args .t) (c .before .before .before .before .before .before .before .before .before .before .args .buffer .now) ∙ ap (λ (v : Verdict). andThen v (verdict (amountChecks (termsOf (c .before .before .before .before .before .before .before .before .before .before .args .bytes .now)) (c .before .before .before .before .before .before .before .before .before .before .args .date) (c .before .before .before .before .before .before .before .before .before .before .args .w) (c .before .before .before .before .before .before .before .before .before .before .args .a) (c .before .before .before .before .before .before .before .before .before .before .args .t) (c .before .before .before .before .before .before .before .before .before .before .args .buffer .now)))) (known .accepts) in
+    let args = c .before .before .before .before .before .before .before .before .before .before .args in
+    let buffer₀ = args .buffer .now in
+    let bytes₀ = args .bytes .now in
+    let date₀ = args .date in
+    let w₀ = args .w in
+    let a₀ = args .a in
+    let t₀ = args .t in
+    let read = c .before .before .before .before .before .before .before .read in
+    let reading = c .before .before .before .before .before .reading in
+    let booked = c .before .before .booked in
+    let x = args in
+    let known = read-accepted (x .bytes .now) _ (sym (read .ensures) ∙ reading .given .1) in
+    let whole =
+    booking-verdict bytes₀ date₀ w₀ a₀ t₀ buffer₀
+    ∙ ap (λ (v : Verdict). andThen v (verdict (amountChecks (termsOf bytes₀) date₀ w₀ a₀ t₀ buffer₀))) (known .accepts) in
     let terms = known .terms in
     let same = ap (λ (c : Terms). verdict (amountChecks c (x .date) (x .w) (x .a) (x .t) (x .buffer .now))) terms ∙ sym whole in
     let bytes = ap (λ (c : Terms). bookingBytes c (x .date) (x .w) (x .a) (x .t)) terms in
-    let told = c .before .before .booked .ensures in (
-      told .outcome-is ∙ ap outcomeOf same,
-      told .buffer-is ∙ ap₂ (λ (v : Verdict) (new : List ℕ). onSuccess v new (x .buffer .now)) same bytes,
-    )
+    let told = booked .ensures in
+    (told .outcome-is ∙ ap outcomeOf same, told .buffer-is ∙ ap₂ (λ (v : Verdict) (new : List ℕ). onSuccess v new (x .buffer .now)) same bytes)
 
 pub book-spec : {M : Type 1} → statement M
 book-spec =

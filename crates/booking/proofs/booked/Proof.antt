@@ -15,10 +15,14 @@ use Rattle.booking.proofs.booked.Tie as tie
 
 -- past the checks the booking is accepted
 accepted-by : (c : tie.Else1) → verdict (amountChecks (termsIn (c .before .before .before .before .args .c)) (c .before .before .before .before .args .date) (c .before .before .before .before .args .w) (c .before .before .before .before .args .a) (c .before .before .before .before .args .t) (c .before .before .before .before .args .buffer .now)) ≡ accepted
-accepted-by c = amount-accepts (termsIn (c .before .before .before .before .args .c)) (c .before .before .before .before .args .date) (c .before .before .before .before .args .w) (c .before .before .before .before .args .a) (c .before .before .before .before .args .t) (c .before .before .before .before .args .buffer .now) (sym (c .before .refused-by .ensures) ∙ c .if1 .left)
+accepted-by c =
+    let args = c .before .before .before .before .args in
+    amount-accepts (termsIn (args .c)) (args .date) (args .w) (args .a) (args .t) (args .buffer .now) (sym (c .before .refused-by .ensures) ∙ c .if1 .left)
 
 able : (c : tie.Else1) → Bookable (termsIn (c .before .before .before .before .args .c)) (c .before .before .before .before .args .w) (c .before .before .before .before .args .a) (c .before .before .before .before .args .t) (c .before .before .before .before .args .buffer .now)
-able c = bookable (termsIn (c .before .before .before .before .args .c)) (c .before .before .before .before .args .date) (c .before .before .before .before .args .w) (c .before .before .before .before .args .a) (c .before .before .before .before .args .t) (c .before .before .before .before .args .buffer .now) (accepted-by c)
+able c =
+    let args = c .before .before .before .before .args in
+    bookable (termsIn (args .c)) (args .date) (args .w) (args .a) (args .t) (args .buffer .now) (accepted-by c)
 
 small : (c : tie.Else1) → (c .before .before .before .before .args .w ≤ topMost) × (c .before .before .before .before .args .a ≤ topMost) × (c .before .before .before .before .args .t ≤ topMost)
 small c = bookable-small (c .before .before .before .before .pre) (able c)
@@ -30,10 +34,18 @@ same-length : tie.Need-same-length
 same-length c = search needs
 
 returns : tie.Need-returns
-returns c = record {
-  outcome-is = λ i. record { number = c .before .refused-by .ensures i; place = sym (no-place (amountChecks (termsIn (c .before .before .before .before .args .c)) (c .before .before .before .before .args .date) (c .before .before .before .before .args .w) (c .before .before .before .before .args .a) (c .before .before .before .before .args .t) (c .before .before .before .before .args .buffer .now)) (amount-places (termsIn (c .before .before .before .before .args .c)) (c .before .before .before .before .args .date) (c .before .before .before .before .args .w) (c .before .before .before .before .args .a) (c .before .before .before .before .args .t) (c .before .before .before .before .args .buffer .now))) i };
-  buffer-is = sym (refusal-keeps (verdict (amountChecks (termsIn (c .before .before .before .before .args .c)) (c .before .before .before .before .args .date) (c .before .before .before .before .args .w) (c .before .before .before .before .args .a) (c .before .before .before .before .args .t) (c .before .before .before .before .args .buffer .now))) (bookingBytes (termsIn (c .before .before .before .before .args .c)) (c .before .before .before .before .args .date) (c .before .before .before .before .args .w) (c .before .before .before .before .args .a) (c .before .before .before .before .args .t)) (c .before .before .before .before .args .buffer .now) (λ e. c .if1 .taken (c .before .refused-by .ensures ∙ e)));
-}
+returns c =
+    let args = c .before .before .before .before .args in
+    let buffer₀ = args .buffer .now in
+    let date₀ = args .date in
+    let c₀ = args .c in
+    let w₀ = args .w in
+    let a₀ = args .a in
+    let t₀ = args .t in
+    record {
+      outcome-is = λ i. record { number = c .before .refused-by .ensures i; place = sym (no-place (amountChecks (termsIn c₀) date₀ w₀ a₀ t₀ buffer₀) (amount-places (termsIn c₀) date₀ w₀ a₀ t₀ buffer₀)) i };
+      buffer-is = sym (refusal-keeps (verdict (amountChecks (termsIn c₀) date₀ w₀ a₀ t₀ buffer₀)) (bookingBytes (termsIn c₀) date₀ w₀ a₀ t₀) buffer₀ (λ e. c .if1 .taken (c .before .refused-by .ensures ∙ e)));
+    }
 
 free-amount-requires : tie.Need-free-amount-requires
 free-amount-requires c κs = search needs

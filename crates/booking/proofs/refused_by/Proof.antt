@@ -28,11 +28,23 @@ admits-dynamic-requires c κs = search needs
 
 returns-3 : tie.Need-returns-3
 unfolding numberOf verdict amountChecks
-returns-3 c = simp (eq-eqb _ _ (c .before .before .before .before .before .if1 .left), sym (c .before .before .before .before .bad-state .ensures) ∙ c .before .before .before .if2 .left, ap (λ (m : ℕ). admits dynamic m (c .before .before .before .before .before .before .before .args .w) (c .before .before .before .before .before .before .before .args .t)) (sym (c .before .before .free-amount .ensures)) ∙ sym (c .before .admits-dynamic .ensures) ∙ c .if3 .taken)
+returns-3 c =
+    let args = c .before .before .before .before .before .before .before .args in
+    let if1 = c .before .before .before .before .before .if1 in
+    let bad-state = c .before .before .before .before .bad-state in
+    let if2 = c .before .before .before .if2 in
+    let free-amount = c .before .before .free-amount in
+    simp (eq-eqb _ _ (if1 .left), sym (bad-state .ensures) ∙ if2 .left, ap (λ (m : ℕ). admits dynamic m (args .w) (args .t)) (sym (free-amount .ensures)) ∙ sym (c .before .admits-dynamic .ensures) ∙ c .if3 .taken)
 
 returns-4 : tie.Need-returns-4
 unfolding numberOf verdict amountChecks
-returns-4 c = simp (eq-eqb _ _ (c .before .before .before .before .before .if1 .left), sym (c .before .before .before .before .bad-state .ensures) ∙ c .before .before .before .if2 .left, ap (λ (m : ℕ). admits dynamic m (c .before .before .before .before .before .before .before .args .w) (c .before .before .before .before .before .before .before .args .t)) (sym (c .before .before .free-amount .ensures)) ∙ sym (c .before .admits-dynamic .ensures) ∙ c .if3 .left)
+returns-4 c =
+    let args = c .before .before .before .before .before .before .before .args in
+    let if1 = c .before .before .before .before .before .if1 in
+    let bad-state = c .before .before .before .before .bad-state in
+    let if2 = c .before .before .before .if2 in
+    let free-amount = c .before .before .free-amount in
+    simp (eq-eqb _ _ (if1 .left), sym (bad-state .ensures) ∙ if2 .left, ap (λ (m : ℕ). admits dynamic m (args .w) (args .t)) (sym (free-amount .ensures)) ∙ sym (c .before .admits-dynamic .ensures) ∙ c .if3 .left)
 
 pub refused-by-spec : {M : Type 1} → statement M
 refused-by-spec =

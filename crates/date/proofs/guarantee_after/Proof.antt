@@ -33,7 +33,11 @@ smaller-requires c κs = search needs
 
 returns-2 : tie.Need-returns-2
 unfolding guaranteeAfter
-returns-2 c = rw (lt-leb _ _ (c .before .before .if1 .left)) (c .smaller .ensures ∙ ap (λ (x : ℕ). min x (c .before .before .before .args .a * (c .before .before .before .args .w - c .before .before .before .args .t) / c .before .before .before .args .w)) (c .before .less2 .ensures))
+returns-2 c =
+    let args = c .before .before .before .args in
+    let w₀ = args .w in
+    let if1 = c .before .before .if1 in
+    rw (lt-leb _ _ (if1 .left)) (c .smaller .ensures ∙ ap (λ (x : ℕ). min x (args .a * (w₀ - args .t) / w₀)) (c .before .less2 .ensures))
 
 pub guarantee-after-spec : {M : Type 1} → statement M
 guarantee-after-spec =

@@ -38,31 +38,65 @@ sub-from c = omega arith
 
 mul-from : tie.Need-mul-from Inv-loop μ-loop
 unfolding layerSize
-mul-from c = let e = layer-end (c .before .before .before .before .before .before .before .before .pre) (c .loop-test .taken) (c .before .loop .inv .0) (c .before .loop .inv .1) in let t = layer-within (c .before .before .before .before .before .before .before .before .pre) (c .loop-test .taken) (c .before .loop .inv .0) (c .before .loop .inv .1) in omega arith
+mul-from c =
+    let pre = c .before .before .before .before .before .before .before .before .pre in
+    let loop = c .before .loop in
+    let e = layer-end pre (c .loop-test .taken) (loop .inv .0) (loop .inv .1) in
+    let t = layer-within pre (c .loop-test .taken) (loop .inv .0) (loop .inv .1) in
+    omega arith
 
 mul-to : tie.Need-mul-to Inv-loop μ-loop
 unfolding layerSize
-mul-to c = let e = layer-end (c .before .before .before .before .before .before .before .before .pre) (c .loop-test .taken) (c .before .loop .inv .0) (c .before .loop .inv .1) in let t = layer-within (c .before .before .before .before .before .before .before .before .pre) (c .loop-test .taken) (c .before .loop .inv .0) (c .before .loop .inv .1) in omega arith
+mul-to c =
+    let pre = c .before .before .before .before .before .before .before .before .pre in
+    let loop = c .before .loop in
+    let e = layer-end pre (c .loop-test .taken) (loop .inv .0) (loop .inv .1) in
+    let t = layer-within pre (c .loop-test .taken) (loop .inv .0) (loop .inv .1) in
+    omega arith
 
 mul-one-date : tie.Need-mul-one-date Inv-loop μ-loop
 unfolding layerSize
-mul-one-date c = let e = layer-end (c .before .before .before .before .before .before .before .before .before .pre) (c .before .loop-test .taken) (c .before .before .loop .inv .0) (c .before .before .loop .inv .1) in let t = layer-within (c .before .before .before .before .before .before .before .before .before .pre) (c .before .loop-test .taken) (c .before .before .loop .inv .0) (c .before .before .loop .inv .1) in omega arith
+mul-one-date c =
+    let pre = c .before .before .before .before .before .before .before .before .before .pre in
+    let loop = c .before .before .loop in
+    let e = layer-end pre (c .before .loop-test .taken) (loop .inv .0) (loop .inv .1) in
+    let t = layer-within pre (c .before .loop-test .taken) (loop .inv .0) (loop .inv .1) in
+    omega arith
 
 sub-one-date : tie.Need-sub-one-date Inv-loop μ-loop
 unfolding layerSize
-sub-one-date c = let e = layer-end (c .before .before .before .before .before .before .before .before .before .pre) (c .before .loop-test .taken) (c .before .before .loop .inv .0) (c .before .before .loop .inv .1) in let t = layer-within (c .before .before .before .before .before .before .before .before .before .pre) (c .before .loop-test .taken) (c .before .before .loop .inv .0) (c .before .before .loop .inv .1) in omega arith
+sub-one-date c =
+    let pre = c .before .before .before .before .before .before .before .before .before .pre in
+    let loop = c .before .before .loop in
+    let e = layer-end pre (c .before .loop-test .taken) (loop .inv .0) (loop .inv .1) in
+    let t = layer-within pre (c .before .loop-test .taken) (loop .inv .0) (loop .inv .1) in
+    omega arith
 
 part-one-date-start : tie.Need-part-one-date-start Inv-loop μ-loop
 unfolding layerSize
-part-one-date-start c = let e = layer-end (c .before .before .before .before .before .before .before .before .before .pre) (c .before .loop-test .taken) (c .before .before .loop .inv .0) (c .before .before .loop .inv .1) in let t = layer-within (c .before .before .before .before .before .before .before .before .before .pre) (c .before .loop-test .taken) (c .before .before .loop .inv .0) (c .before .before .loop .inv .1) in omega arith
+part-one-date-start c =
+    let pre = c .before .before .before .before .before .before .before .before .before .pre in
+    let loop = c .before .before .loop in
+    let e = layer-end pre (c .before .loop-test .taken) (loop .inv .0) (loop .inv .1) in
+    let t = layer-within pre (c .before .loop-test .taken) (loop .inv .0) (loop .inv .1) in
+    omega arith
 
 part-one-date-end : tie.Need-part-one-date-end Inv-loop μ-loop
 unfolding layerSize
-part-one-date-end c = let e = layer-end (c .before .before .before .before .before .before .before .before .before .pre) (c .before .loop-test .taken) (c .before .before .loop .inv .0) (c .before .before .loop .inv .1) in let t = layer-within (c .before .before .before .before .before .before .before .before .before .pre) (c .before .loop-test .taken) (c .before .before .loop .inv .0) (c .before .before .loop .inv .1) in omega arith
+part-one-date-end c =
+    let pre = c .before .before .before .before .before .before .before .before .before .pre in
+    let loop = c .before .before .loop in
+    let e = layer-end pre (c .before .loop-test .taken) (loop .inv .0) (loop .inv .1) in
+    let t = layer-within pre (c .before .loop-test .taken) (loop .inv .0) (loop .inv .1) in
+    omega arith
 
 one-date-requires : tie.Need-one-date-requires Inv-loop μ-loop
 unfolding layerSize
-one-date-requires c κs = dating (c .before .before .before .before .before .before .before .before .before .before .pre) (c .before .before .loop-test .taken) (c .before .before .before .loop .inv .0) (c .before .before .before .loop .inv .1)
+one-date-requires c κs =
+    let pre = c .before .before .before .before .before .before .before .before .before .before .pre in
+    let loop = c .before .before .before .loop in
+    let loop-test = c .before .before .loop-test in
+    dating pre (loop-test .taken) (loop .inv .0) (loop .inv .1)
 
 sub-i-2 : tie.Need-sub-i-2 Inv-loop μ-loop
 sub-i-2 c = omega arith
@@ -72,7 +106,14 @@ loop-less c = omega arith
 
 loop-again : tie.Need-loop-again Inv-loop μ-loop
 unfolding layerSize
-loop-again c = (omega arith, valued-before (c .before .before .before .before .before .before .before .before .before .before .before .before .before .before .before .pre) (c .before .before .before .before .before .before .before .loop-test .taken) (c .before .before .before .before .before .before .before .before .loop .inv .0) (c .before .before .before .before .before .before .before .before .loop .inv .1) (c .before .before .before .before .one-date .last .1 .0) (c .before .before .before .before .one-date .last .1 .1 .0) (c .before .before .before .before .one-date .ensures))
+loop-again c =
+    let pre = c .before .before .before .before .before .before .before .before .before .before .before .before .before .before .before .pre in
+    let loop = c .before .before .before .before .before .before .before .before .loop in
+    let loop-test = c .before .before .before .before .before .before .before .loop-test in
+    let one-date = c .before .before .before .before .one-date in (
+      omega arith,
+      valued-before pre (loop-test .taken) (loop .inv .0) (loop .inv .1) (one-date .last .1 .0) (one-date .last .1 .1 .0) (one-date .ensures),
+    )
 
 same-length : tie.Need-same-length Inv-loop μ-loop
 same-length c = c .before .loop .inv .1 .long

@@ -20,7 +20,16 @@ loop-holds : tie.Need-loop-holds Inv-loop μ-loop
 loop-holds c = (omega arith, stored-none _ _ _ _)
 
 maturity-row-requires : tie.Need-maturity-row-requires Inv-loop μ-loop
-maturity-row-requires c κs = let lw : length (c .before .before .loop .work) ≡ length (c .before .before .before .before .args .work .now) = ap length (c .before .before .loop .inv .1) ∙ length-stored _ _ _ _ in let s = rows-step (c .before .before .before .before .args .stride) (c .before .before .loop .w) in let k = rows-le (c .before .before .before .before .args .stride) (c .before .before .loop .w + 1) (c .before .before .before .before .args .n) (omega arith) in (omega (arith, c .before .before .before .before .pre .0), c .before .before .before .before .pre .1, omega (arith, c .before .before .before .before .pre .2))
+maturity-row-requires c κs =
+    let args = c .before .before .before .before .args in
+    let stride₀ = args .stride in
+    let pre = c .before .before .before .before .pre in
+    let loop = c .before .before .loop in
+    let w' = loop .w in
+    let lw : length (loop .work) ≡ length (args .work .now) = ap length (loop .inv .1) ∙ length-stored _ _ _ _ in
+    let s = rows-step stride₀ w' in
+    let k = rows-le stride₀ (w' + 1) (args .n) (omega arith) in
+    (omega (arith, pre .0), pre .1, omega (arith, pre .2))
 
 add-w : tie.Need-add-w Inv-loop μ-loop
 add-w c = omega arith
@@ -29,7 +38,17 @@ loop-less : tie.Need-loop-less Inv-loop μ-loop
 loop-less c = omega arith
 
 loop-again : tie.Need-loop-again Inv-loop μ-loop
-loop-again c = (omega arith, c .before .before .maturity-row .ensures ∙ ap (λ (xs : List ℕ). stored xs (c .before .before .before .before .before .loop .w * c .before .before .before .before .before .before .before .args .stride) (maturityValue (c .before .before .before .before .before .loop .w)) (c .before .before .before .before .before .before .before .args .stride)) (c .before .before .before .before .before .loop .inv .1) ∙ row-next _ _ _ maturityValue _ (λ a l. refl))
+loop-again c =
+    let args = c .before .before .before .before .before .before .before .args in
+    let stride₀ = args .stride in
+    let loop = c .before .before .before .before .before .loop in
+    let w' = loop .w in
+    let maturity-row = c .before .before .maturity-row in (
+      omega arith,
+      maturity-row .ensures
+          ∙ ap (λ (xs : List ℕ). stored xs (w' * stride₀) (maturityValue w') stride₀) (loop .inv .1)
+          ∙ row-next _ _ _ maturityValue _ (λ a l. refl),
+    )
 
 same-length : tie.Need-same-length Inv-loop μ-loop
 same-length c = ap length (c .before .loop .inv .1) ∙ length-stored _ _ _ _

@@ -43,7 +43,10 @@ loop-less : tie.Need-loop-less Inv-loop μ-loop
 loop-less c = omega arith
 
 loop-again : tie.Need-loop-again Inv-loop μ-loop
-loop-again c = (omega arith, (λ i. set (c .before .before .loop .inv .1 i) (c .before .before .before .before .args .w * c .before .before .before .before .args .stride + c .before .before .loop .a) (c .maturity-value .ensures .0 i)) ∙ stored-next _ _ _ _)
+loop-again c =
+    let args = c .before .before .before .before .args in
+    let loop = c .before .before .loop in
+    (omega arith, (λ i. set (loop .inv .1 i) (args .w * args .stride + loop .a) (c .maturity-value .ensures .0 i)) ∙ stored-next _ _ _ _)
 
 same-length : tie.Need-same-length Inv-loop μ-loop
 same-length c = ap length (c .before .loop .inv .1) ∙ length-stored _ _ _ _

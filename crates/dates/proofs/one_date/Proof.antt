@@ -21,11 +21,18 @@ expect-layer-requires c κs = search needs
 
 prepare-requires : tie.Need-prepare-requires
 unfolding layerSize
-prepare-requires c κs = (room-first (c .before .before .before .before .before .before .before .before .before .before .before .pre) (c .before .before .before .before .expect-layer .last .0) (c .before .before .before .before .expect-layer .ensures), c .before .before .before .before .before .before .before .before .before .before .before .pre .rate-is)
+prepare-requires c κs =
+    let pre = c .before .before .before .before .before .before .before .before .before .before .before .pre in
+    let expect-layer = c .before .before .before .before .expect-layer in
+    (room-first pre (expect-layer .last .0) (expect-layer .ensures), pre .rate-is)
 
 decide-layer-requires : tie.Need-decide-layer-requires
 unfolding layerSize
-decide-layer-requires c κs = (deciding (c .before .before .before .before .before .before .before .before .before .before .before .before .before .before .before .before .before .before .pre) (c .before .before .before .before .before .before .before .before .before .before .before .expect-layer .last .0) (c .before .before .before .before .before .before .before .before .before .before .before .expect-layer .ensures) (c .before .before .before .before .before .before .prepare .last .1 .0) (c .before .before .before .before .before .before .prepare .last .1 .1 .0) (c .before .before .before .before .before .before .prepare .ensures), omega arith)
+decide-layer-requires c κs =
+    let pre = c .before .before .before .before .before .before .before .before .before .before .before .before .before .before .before .before .before .before .pre in
+    let expect-layer = c .before .before .before .before .before .before .before .before .before .before .before .expect-layer in
+    let prepare = c .before .before .before .before .before .before .prepare in
+    (deciding pre (expect-layer .last .0) (expect-layer .ensures) (prepare .last .1 .0) (prepare .last .1 .1 .0) (prepare .ensures), omega arith)
 
 same-length : tie.Need-same-length
 same-length c = search needs
@@ -35,7 +42,12 @@ same-length-2 c = search needs
 
 returns : tie.Need-returns
 unfolding layerSize
-returns c = dated (c .before .before .before .before .before .before .before .before .before .before .before .before .before .before .before .before .before .before .before .before .before .before .before .pre) (c .before .before .before .before .before .before .before .before .before .before .before .before .before .before .before .before .expect-layer .last .0) (c .before .before .before .before .before .before .before .before .before .before .before .before .before .before .before .before .expect-layer .ensures) (c .before .before .before .before .before .before .before .before .before .before .before .prepare .last .1 .0) (c .before .before .before .before .before .before .before .before .before .before .before .prepare .last .1 .1 .0) (c .before .before .before .before .before .before .before .before .before .before .before .prepare .ensures) (c .before .before .before .before .decide-layer .last .1 .0) (c .before .before .before .before .decide-layer .last .1 .1 .0) (c .before .before .before .before .decide-layer .ensures .0) (c .before .before .before .before .decide-layer .ensures .1)
+returns c =
+    let pre = c .before .before .before .before .before .before .before .before .before .before .before .before .before .before .before .before .before .before .before .before .before .before .before .pre in
+    let expect-layer = c .before .before .before .before .before .before .before .before .before .before .before .before .before .before .before .before .expect-layer in
+    let prepare = c .before .before .before .before .before .before .before .before .before .before .before .prepare in
+    let decide-layer = c .before .before .before .before .decide-layer in
+    dated pre (expect-layer .last .0) (expect-layer .ensures) (prepare .last .1 .0) (prepare .last .1 .1 .0) (prepare .ensures) (decide-layer .last .1 .0) (decide-layer .last .1 .1 .0) (decide-layer .ensures .0) (decide-layer .ensures .1)
 
 pub one-date-spec : {M : Type 1} → statement M
 one-date-spec =

@@ -22,7 +22,11 @@ same-length-2 : tie.Need-same-length-2
 same-length-2 c = search needs
 
 returns : tie.Need-returns
-returns c = prepared-further (10000 - c .before .before .before .before .before .before .before .before .before .before .args .rate) (c .before .before .before .before .before .before .before .before .before .before .pre .0) (c .before .before .before .before .further-layer .ensures .0) (c .before .before .before .before .further-layer .ensures .1)
+returns c =
+    let args = c .before .before .before .before .before .before .before .before .before .before .args in
+    let pre = c .before .before .before .before .before .before .before .before .before .before .pre in
+    let further-layer = c .before .before .before .before .further-layer in
+    prepared-further (10000 - args .rate) (pre .0) (further-layer .ensures .0) (further-layer .ensures .1)
 
 returns-2 : tie.Need-returns-2
 returns-2 c = prepared-not (c .if1 .left)

@@ -25,7 +25,11 @@ loop-again : tie.Need-loop-again Inv-loop μ-loop
 loop-again c = (c .add-next .ensures .2, c .add-next .ensures .0)
 
 returns : tie.Need-returns Inv-loop μ-loop
-returns c = let e : c .before .loop .k ≡ c .before .before .before .args .count = omega arith in subst (Summed (c .before .before .before .args .work .now) (c .before .before .before .args .starts .now) (c .before .before .before .args .weights .now) (c .before .loop .sums) (c .before .before .before .args .from) (c .before .before .before .args .n)) e (c .before .loop .inv .1)
+returns c =
+    let args = c .before .before .before .args in
+    let loop = c .before .loop in
+    let e : loop .k ≡ args .count = omega arith in
+    subst (Summed (args .work .now) (args .starts .now) (args .weights .now) (loop .sums) (args .from) (args .n)) e (loop .inv .1)
 
 pub add-all-spec : {M : Type 1} → statement M
 add-all-spec =

@@ -25,25 +25,50 @@ add-a : tie.Need-add-a Inv-loop μ-loop
 add-a c = let b = run-read (c .before .before .before .pre .0) (c .before .before .before .args .k) (c .before .loop .j) (omega arith) (c .loop-test .taken) in omega arith
 
 product-requires : tie.Need-product-requires Inv-loop μ-loop
-product-requires c κs = let r = c .before .before .before .pre .0 in let k = c .before .before .before .args .k in (omega (arith, r .few), r .light k (omega arith), run-read r k (c .before .loop .j) (omega arith) (c .loop-test .taken))
+product-requires c κs =
+    let args = c .before .before .before .args in
+    let pre = c .before .before .before .pre in
+    let r = pre .0 in
+    let k = args .k in
+    (omega (arith, r .few), r .light k (omega arith), run-read r k (c .before .loop .j) (omega arith) (c .loop-test .taken))
 
 add-product : tie.Need-add-product Inv-loop μ-loop
 add-product c = omega (arith, c .before .before .before .before .pre .0 .few)
 
 product-requires-2 : tie.Need-product-requires-2 Inv-loop μ-loop
-product-requires-2 c κs = let r = c .before .before .before .before .pre .0 in let k = c .before .before .before .before .args .k + 1 in (omega (arith, r .few), r .light k (omega arith), run-read r k (c .before .before .loop .j) (omega arith) (c .before .loop-test .taken))
+product-requires-2 c κs =
+    let args = c .before .before .before .before .args in
+    let pre = c .before .before .before .before .pre in
+    let loop = c .before .before .loop in
+    let r = pre .0 in
+    let k = args .k + 1 in
+    (omega (arith, r .few), r .light k (omega arith), run-read r k (loop .j) (omega arith) (c .before .loop-test .taken))
 
 add-product-2 : tie.Need-add-product-2 Inv-loop μ-loop
 add-product-2 c = omega (arith, c .before .before .before .before .before .pre .0 .few)
 
 product-requires-3 : tie.Need-product-requires-3 Inv-loop μ-loop
-product-requires-3 c κs = let r = c .before .before .before .before .before .pre .0 in let k = c .before .before .before .before .before .args .k + 2 in (omega (arith, r .few), r .light k (omega arith), run-read r k (c .before .before .before .loop .j) (omega arith) (c .before .before .loop-test .taken))
+product-requires-3 c κs =
+    let args = c .before .before .before .before .before .args in
+    let pre = c .before .before .before .before .before .pre in
+    let loop = c .before .before .before .loop in
+    let loop-test = c .before .before .loop-test in
+    let r = pre .0 in
+    let k = args .k + 2 in
+    (omega (arith, r .few), r .light k (omega arith), run-read r k (loop .j) (omega arith) (loop-test .taken))
 
 add-product-3 : tie.Need-add-product-3 Inv-loop μ-loop
 add-product-3 c = omega (arith, c .before .before .before .before .before .before .pre .0 .few)
 
 product-requires-4 : tie.Need-product-requires-4 Inv-loop μ-loop
-product-requires-4 c κs = let r = c .before .before .before .before .before .before .pre .0 in let k = c .before .before .before .before .before .before .args .k + 3 in (omega (arith, r .few), r .light k (omega arith), run-read r k (c .before .before .before .before .loop .j) (omega arith) (c .before .before .before .loop-test .taken))
+product-requires-4 c κs =
+    let args = c .before .before .before .before .before .before .args in
+    let pre = c .before .before .before .before .before .before .pre in
+    let loop = c .before .before .before .before .loop in
+    let loop-test = c .before .before .before .loop-test in
+    let r = pre .0 in
+    let k = args .k + 3 in
+    (omega (arith, r .few), r .light k (omega arith), run-read r k (loop .j) (omega arith) (loop-test .taken))
 
 add-sums : tie.Need-add-sums Inv-loop μ-loop
 add-sums c = omega (arith, c .before .before .before .product .ensures .1, c .before .before .product2 .ensures .1, c .before .product3 .ensures .1, c .product4 .ensures .1)
@@ -62,10 +87,22 @@ element-copy-out-sums c = omega (arith, c .before .before .before .before .befor
 
 add-sums-4 : tie.Need-add-sums-4 Inv-loop μ-loop
 add-sums-4 c =
-    let j = c .before .before .before .before .before .before .loop .j in
-    let read : getD (c .before .before .before .before .before .before .loop .sums) j 0 ≡ sum (term (c .before .before .before .before .before .before .before .before .args .work .now) (c .before .before .before .before .before .before .before .before .args .starts .now) (c .before .before .before .before .before .before .before .before .args .weights .now) (c .before .before .before .before .before .before .before .before .args .from + j)) (c .before .before .before .before .before .before .before .before .args .k) = ap (λ (xs : List ℕ). getD xs j 0) (c .before .before .before .before .before .before .loop .inv .1) ∙ sum-read (c .before .before .before .before .before .before .before .before .pre .1) _ j (c .before .before .before .before .before .loop-test .taken) in
-    let s = sum-small (c .before .before .before .before .before .before .before .before .pre .0) (λ i. c .before .before .before .before .before .before .before .shared-slice-known .given i .fits) (c .before .before .before .before .before .before .before .before .args .from + j) (c .before .before .before .before .before .before .before .before .args .k) (omega arith) in
-    omega (arith, c .before .before .before .before .before .before .before .before .pre .0 .few, c .before .before .before .before .product .ensures .1, c .before .before .before .product2 .ensures .1, c .before .before .product3 .ensures .1, c .before .product4 .ensures .1)
+    let args = c .before .before .before .before .before .before .before .before .args in
+    let from₀ = args .from in
+    let k₀ = args .k in
+    let pre = c .before .before .before .before .before .before .before .before .pre in
+    let shared-slice-known = c .before .before .before .before .before .before .before .shared-slice-known in
+    let loop = c .before .before .before .before .before .before .loop in
+    let loop-test = c .before .before .before .before .before .loop-test in
+    let product = c .before .before .before .before .product in
+    let product2 = c .before .before .before .product2 in
+    let product3 = c .before .before .product3 in
+    let j = loop .j in
+    let read : getD (loop .sums) j 0 ≡ sum (term (args .work .now) (args .starts .now) (args .weights .now) (from₀ + j)) k₀ =
+    ap (λ (xs : List ℕ). getD xs j 0) (loop .inv .1)
+    ∙ sum-read (pre .1) _ j (loop-test .taken) in
+    let s = sum-small (pre .0) (λ i. shared-slice-known .given i .fits) (from₀ + j) k₀ (omega arith) in
+    omega (arith, pre .0 .few, product .ensures .1, product2 .ensures .1, product3 .ensures .1, c .before .product4 .ensures .1)
 
 element-write-sums : tie.Need-element-write-sums Inv-loop μ-loop
 element-write-sums c = omega (arith, c .before .before .before .before .before .before .before .before .pre .0 .short)
@@ -78,10 +115,27 @@ loop-less c = omega arith
 
 loop-again : tie.Need-loop-again Inv-loop μ-loop
 loop-again c =
-    let j = c .before .before .before .before .before .before .loop .j in
-    let read : getD (c .before .before .before .before .before .before .loop .sums) j 0 ≡ sum (term (c .before .before .before .before .before .before .before .before .args .work .now) (c .before .before .before .before .before .before .before .before .args .starts .now) (c .before .before .before .before .before .before .before .before .args .weights .now) (c .before .before .before .before .before .before .before .before .args .from + j)) (c .before .before .before .before .before .before .before .before .args .k) = ap (λ (xs : List ℕ). getD xs j 0) (c .before .before .before .before .before .before .loop .inv .1) ∙ sum-read (c .before .before .before .before .before .before .before .before .pre .1) _ j (c .before .before .before .before .before .loop-test .taken) in
-    let four = ap₂ (λ (x y : ℕ). x + y) (ap₂ (λ (x y : ℕ). x + y) (ap₂ (λ (x y : ℕ). x + y) (c .before .before .before .before .product .ensures .0) (c .before .before .before .product2 .ensures .0)) (c .before .before .product3 .ensures .0)) (c .before .product4 .ensures .0) in
-    (omega arith, (λ i. set (c .before .before .before .before .before .before .loop .inv .1 i) j ((ap₂ (λ (x y : ℕ). x + y) read four ∙ sym (sum-four (term (c .before .before .before .before .before .before .before .before .args .work .now) (c .before .before .before .before .before .before .before .before .args .starts .now) (c .before .before .before .before .before .before .before .before .args .weights .now) (c .before .before .before .before .before .before .before .before .args .from + j)) (c .before .before .before .before .before .before .before .before .args .k))) i)) ∙ stored-push _ _ _)
+    let args = c .before .before .before .before .before .before .before .before .args in
+    let weights₀ = args .weights .now in
+    let starts₀ = args .starts .now in
+    let work₀ = args .work .now in
+    let from₀ = args .from in
+    let k₀ = args .k in
+    let pre = c .before .before .before .before .before .before .before .before .pre in
+    let loop = c .before .before .before .before .before .before .loop in
+    let loop-test = c .before .before .before .before .before .loop-test in
+    let product = c .before .before .before .before .product in
+    let product2 = c .before .before .before .product2 in
+    let product3 = c .before .before .product3 in
+    let j = loop .j in
+    let read : getD (loop .sums) j 0 ≡ sum (term work₀ starts₀ weights₀ (from₀ + j)) k₀ =
+    ap (λ (xs : List ℕ). getD xs j 0) (loop .inv .1)
+    ∙ sum-read (pre .1) _ j (loop-test .taken) in
+    let four = ap₂ (λ (x y : ℕ). x + y) (ap₂ (λ (x y : ℕ). x + y) (ap₂ (λ (x y : ℕ). x + y) (product .ensures .0) (product2 .ensures .0)) (product3 .ensures .0)) (c .before .product4 .ensures .0) in (
+      omega arith,
+      (λ i. set (loop .inv .1 i) j ((ap₂ (λ (x y : ℕ). x + y) read four ∙ sym (sum-four (term work₀ starts₀ weights₀ (from₀ + j)) k₀)) i))
+          ∙ stored-push _ _ _,
+    )
 
 returns : tie.Need-returns Inv-loop μ-loop
 returns c =

@@ -25,7 +25,12 @@ add-product : tie.Need-add-product Inv-loop μ-loop
 add-product c = let b = run-read (c .before .before .before .pre .0) (c .before .before .before .args .k) (c .before .loop .j) (omega arith) (c .loop-test .taken) in omega arith
 
 product-requires : tie.Need-product-requires Inv-loop μ-loop
-product-requires c κs = let r = c .before .before .before .pre .0 in let k = c .before .before .before .args .k in (omega (arith, r .few), r .light k (omega arith), run-read r k (c .before .loop .j) (omega arith) (c .loop-test .taken))
+product-requires c κs =
+    let args = c .before .before .before .args in
+    let pre = c .before .before .before .pre in
+    let r = pre .0 in
+    let k = args .k in
+    (omega (arith, r .few), r .light k (omega arith), run-read r k (c .before .loop .j) (omega arith) (c .loop-test .taken))
 
 mul-sums : tie.Need-mul-sums Inv-loop μ-loop
 mul-sums c = omega (arith, c .before .before .before .before .pre .0 .short)
@@ -35,10 +40,19 @@ element-copy-out-sums c = omega (arith, c .before .before .before .before .pre .
 
 add-sums : tie.Need-add-sums Inv-loop μ-loop
 add-sums c =
-    let j = c .before .before .before .loop .j in
-    let read : getD (c .before .before .before .loop .sums) j 0 ≡ sum (term (c .before .before .before .before .before .args .work .now) (c .before .before .before .before .before .args .starts .now) (c .before .before .before .before .before .args .weights .now) (c .before .before .before .before .before .args .from + j)) (c .before .before .before .before .before .args .k) = ap (λ (xs : List ℕ). getD xs j 0) (c .before .before .before .loop .inv .1) ∙ sum-read (c .before .before .before .before .before .pre .1) _ j (c .before .before .loop-test .taken) in
-    let s = sum-small (c .before .before .before .before .before .pre .0) (λ i. c .before .before .before .before .shared-slice-known .given i .fits) (c .before .before .before .before .before .args .from + j) (c .before .before .before .before .before .args .k) (omega arith) in
-    omega (arith, c .before .before .before .before .before .pre .0 .few, c .before .product .ensures .1)
+    let args = c .before .before .before .before .before .args in
+    let from₀ = args .from in
+    let k₀ = args .k in
+    let pre = c .before .before .before .before .before .pre in
+    let shared-slice-known = c .before .before .before .before .shared-slice-known in
+    let loop = c .before .before .before .loop in
+    let loop-test = c .before .before .loop-test in
+    let j = loop .j in
+    let read : getD (loop .sums) j 0 ≡ sum (term (args .work .now) (args .starts .now) (args .weights .now) (from₀ + j)) k₀ =
+    ap (λ (xs : List ℕ). getD xs j 0) (loop .inv .1)
+    ∙ sum-read (pre .1) _ j (loop-test .taken) in
+    let s = sum-small (pre .0) (λ i. shared-slice-known .given i .fits) (from₀ + j) k₀ (omega arith) in
+    omega (arith, pre .0 .few, c .before .product .ensures .1)
 
 element-write-sums : tie.Need-element-write-sums Inv-loop μ-loop
 element-write-sums c = omega (arith, c .before .before .before .before .before .pre .0 .short)
@@ -51,9 +65,23 @@ loop-less c = omega arith
 
 loop-again : tie.Need-loop-again Inv-loop μ-loop
 loop-again c =
-    let j = c .before .before .before .loop .j in
-    let read : getD (c .before .before .before .loop .sums) j 0 ≡ sum (term (c .before .before .before .before .before .args .work .now) (c .before .before .before .before .before .args .starts .now) (c .before .before .before .before .before .args .weights .now) (c .before .before .before .before .before .args .from + j)) (c .before .before .before .before .before .args .k) = ap (λ (xs : List ℕ). getD xs j 0) (c .before .before .before .loop .inv .1) ∙ sum-read (c .before .before .before .before .before .pre .1) _ j (c .before .before .loop-test .taken) in
-    (omega arith, (λ i. set (c .before .before .before .loop .inv .1 i) j ((ap₂ (λ (x y : ℕ). x + y) read (c .before .product .ensures .0) ∙ sym (sum-next (term (c .before .before .before .before .before .args .work .now) (c .before .before .before .before .before .args .starts .now) (c .before .before .before .before .before .args .weights .now) (c .before .before .before .before .before .args .from + j)) (c .before .before .before .before .before .args .k))) i)) ∙ stored-push _ _ _)
+    let args = c .before .before .before .before .before .args in
+    let weights₀ = args .weights .now in
+    let starts₀ = args .starts .now in
+    let work₀ = args .work .now in
+    let from₀ = args .from in
+    let k₀ = args .k in
+    let pre = c .before .before .before .before .before .pre in
+    let loop = c .before .before .before .loop in
+    let loop-test = c .before .before .loop-test in
+    let j = loop .j in
+    let read : getD (loop .sums) j 0 ≡ sum (term work₀ starts₀ weights₀ (from₀ + j)) k₀ =
+    ap (λ (xs : List ℕ). getD xs j 0) (loop .inv .1)
+    ∙ sum-read (pre .1) _ j (loop-test .taken) in (
+      omega arith,
+      (λ i. set (loop .inv .1 i) j ((ap₂ (λ (x y : ℕ). x + y) read (c .before .product .ensures .0) ∙ sym (sum-next (term work₀ starts₀ weights₀ (from₀ + j)) k₀)) i))
+          ∙ stored-push _ _ _,
+    )
 
 returns : tie.Need-returns Inv-loop μ-loop
 returns c =

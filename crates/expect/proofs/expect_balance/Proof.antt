@@ -33,7 +33,13 @@ same-length : tie.Need-same-length
 same-length c = search needs
 
 returns : tie.Need-returns
-returns c = c .before .before .expect-row .ensures ∙ stored-eq _ _ _ _ (c .before .before .before .before .before .before .before .before .before .args .stride) (λ k l. balance-cells (c .before .before .before .before .before .before .before .before .before .pre) (c .before .before .before .before .before .fill-starts .last .0) (starts-are (c .before .before .before)) k)
+returns c =
+    let args = c .before .before .before .before .before .before .before .before .before .args in
+    let pre = c .before .before .before .before .before .before .before .before .before .pre in
+    let fill-starts = c .before .before .before .before .before .fill-starts in
+    let expect-row = c .before .before .expect-row in
+    expect-row .ensures
+    ∙ stored-eq _ _ _ _ (args .stride) (λ k l. balance-cells pre (fill-starts .last .0) (starts-are (c .before .before .before)) k)
 
 pub expect-balance-spec : {M : Type 1} → statement M
 expect-balance-spec =

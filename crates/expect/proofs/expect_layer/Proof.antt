@@ -42,14 +42,19 @@ loop-holds c = (omega arith, stored-none _ _ _ _)
 
 expect-balance-requires : tie.Need-expect-balance-requires Inv-loop μ-loop
 unfolding layerSize
-expect-balance-requires c κs = record {
-  listing = c .before .before .before .before .before .before .before .before .before .before .before .pre .0;
-  layers = record { valid = c .before .before .before .before .before .before .before .before .before .before .before .pre .1 .valid; room = let e : length (c .before .before .before .loop .work) ≡ length (c .before .before .before .before .before .before .before .before .before .before .before .args .work .now) = ap length (c .before .before .before .loop .inv .1) ∙ length-stored _ _ _ _ in omega (arith, c .before .before .before .before .before .before .before .before .before .before .before .pre .1 .room) };
-  weights-are = λ k l. ap (λ (xs : List ℕ). getD xs k 0) (c .before .before .before .before .before .fill-weights .ensures) ∙ stored-first _ _ _ k (c .before .before .before .before .before .before .before .before .before .before .before .pre .0 .few) l;
-  balance-is = omega arith;
-  stride-is = refl;
-  size-is = refl;
-}
+expect-balance-requires c κs =
+    let args = c .before .before .before .before .before .before .before .before .before .before .before .args in
+    let pre = c .before .before .before .before .before .before .before .before .before .before .before .pre in
+    let fill-weights = c .before .before .before .before .before .fill-weights in
+    let loop = c .before .before .before .loop in
+    record {
+      listing = pre .0;
+      layers = record { valid = pre .1 .valid; room = let e : length (loop .work) ≡ length (args .work .now) = ap length (loop .inv .1) ∙ length-stored _ _ _ _ in omega (arith, pre .1 .room) };
+      weights-are = λ k l. ap (λ (xs : List ℕ). getD xs k 0) (fill-weights .ensures) ∙ stored-first _ _ _ k (pre .0 .few) l;
+      balance-is = omega arith;
+      stride-is = refl;
+      size-is = refl;
+    }
 
 add-balance : tie.Need-add-balance Inv-loop μ-loop
 add-balance c = omega (arith, c .before .before .before .before .before .before .before .before .before .before .before .before .before .before .pre .1 .valid .top)
@@ -59,16 +64,27 @@ loop-less c = omega arith
 
 loop-again : tie.Need-loop-again Inv-loop μ-loop
 loop-again c =
-    let step = expect-step (termsIn (c .before .before .before .before .before .before .before .before .before .before .before .before .before .before .args .c)) (returnsOf (c .before .before .before .before .before .before .before .before .before .before .before .before .before .before .args .list .now)) (c .before .before .before .before .before .before .before .before .before .before .before .before .before .before .args .work .now) (c .before .before .before .before .before .before .before .before .before .before .before .before .before .before .args .c .premium + 1) ((c .before .before .before .before .before .before .before .before .before .before .before .before .before .before .args .c .top + 1) * (c .before .before .before .before .before .before .before .before .before .before .before .before .before .before .args .c .premium + 1)) refl (c .before .before .before .before .before .before .loop .balance) in
-    let moved = ap (λ (xs : List ℕ). stored xs (((c .before .before .before .before .before .before .before .before .before .before .before .before .before .before .args .c .top + 1) * (c .before .before .before .before .before .before .before .before .before .before .before .before .before .before .args .c .premium + 1)) + c .before .before .before .before .before .before .loop .balance * (c .before .before .before .before .before .before .before .before .before .before .before .before .before .before .args .c .premium + 1)) (expected (termsIn (c .before .before .before .before .before .before .before .before .before .before .before .before .before .before .args .c)) (returnsOf (c .before .before .before .before .before .before .before .before .before .before .before .before .before .before .args .list .now)) (cells xs 0 (c .before .before .before .before .before .before .before .before .before .before .before .before .before .before .args .c .premium + 1)) (c .before .before .before .before .before .before .loop .balance)) (c .before .before .before .before .before .before .before .before .before .before .before .before .before .before .args .c .premium + 1)) (c .before .before .before .before .before .before .loop .inv .1) in
-    (omega arith, c .before .before .expect-balance .ensures ∙ moved ∙ step)
+    let args = c .before .before .before .before .before .before .before .before .before .before .before .before .before .before .args in
+    let list₀ = args .list .now in
+    let c₀ = args .c in
+    let loop = c .before .before .before .before .before .before .loop in
+    let balance' = loop .balance in
+    let expect-balance = c .before .before .expect-balance in
+    let step = expect-step (termsIn c₀) (returnsOf list₀) (args .work .now) (args .c .premium + 1) ((args .c .top + 1) * (args .c .premium + 1)) refl balance' in
+    let moved = ap (λ (xs : List ℕ). stored xs (((args .c .top + 1) * (args .c .premium + 1)) + balance' * (args .c .premium + 1)) (expected (termsIn c₀) (returnsOf list₀) (cells xs 0 (args .c .premium + 1)) balance') (args .c .premium + 1)) (loop .inv .1) in
+    (omega arith, expect-balance .ensures ∙ moved ∙ step)
 
 same-length : tie.Need-same-length Inv-loop μ-loop
 same-length c = ap length (c .before .loop .inv .1) ∙ length-stored _ _ _ _
 
 returns : tie.Need-returns Inv-loop μ-loop
 unfolding layerSize
-returns c = let e : c .before .loop .balance ≡ c .before .before .before .before .before .before .before .before .before .args .c .top + 1 = omega arith in c .before .loop .inv .1 ∙ ap (λ (b : ℕ). stored (c .before .before .before .before .before .before .before .before .before .args .work .now) ((c .before .before .before .before .before .before .before .before .before .args .c .top + 1) * (c .before .before .before .before .before .before .before .before .before .args .c .premium + 1)) (flat (c .before .before .before .before .before .before .before .before .before .args .c .premium + 1) (expected (termsIn (c .before .before .before .before .before .before .before .before .before .args .c)) (returnsOf (c .before .before .before .before .before .before .before .before .before .args .list .now)) (cells (c .before .before .before .before .before .before .before .before .before .args .work .now) 0 (c .before .before .before .before .before .before .before .before .before .args .c .premium + 1)))) (b * (c .before .before .before .before .before .before .before .before .before .args .c .premium + 1))) e
+returns c =
+    let args = c .before .before .before .before .before .before .before .before .before .args in
+    let work₀ = args .work .now in
+    let e : c .before .loop .balance ≡ args .c .top + 1 = omega arith in
+    c .before .loop .inv .1
+    ∙ ap (λ (b : ℕ). stored work₀ ((args .c .top + 1) * (args .c .premium + 1)) (flat (args .c .premium + 1) (expected (termsIn (args .c)) (returnsOf (args .list .now)) (cells work₀ 0 (args .c .premium + 1)))) (b * (args .c .premium + 1))) e
 
 pub expect-layer-spec : {M : Type 1} → statement M
 expect-layer-spec =

@@ -31,8 +31,11 @@ smaller-requires c κs = search needs
 
 expect-run-requires : tie.Need-expect-run-requires Inv-loop μ-loop
 expect-run-requires c κs =
-    let long = ap length (c .before .before .before .loop .inv .1) ∙ length-stored _ _ _ _ in
-    (row-part (c .before .before .before .before .before .pre) (c .before .before .before .loop .work) (c .before .before .before .loop .from + c .before .smaller .result) long (let e = c .before .smaller .ensures in omega arith), let e = c .before .smaller .ensures in omega arith)
+    let pre = c .before .before .before .before .before .pre in
+    let loop = c .before .before .before .loop in
+    let smaller = c .before .smaller in
+    let long = ap length (loop .inv .1) ∙ length-stored _ _ _ _ in
+    (row-part pre (loop .work) (loop .from + smaller .result) long (let e = smaller .ensures in omega arith), let e = smaller .ensures in omega arith)
 
 add-from : tie.Need-add-from Inv-loop μ-loop
 add-from c = let e = c .before .before .before .before .smaller .ensures in omega (arith, c .before .before .before .before .before .before .before .before .pre .room)
@@ -42,12 +45,21 @@ loop-less c = let e = c .before .before .before .before .smaller .ensures in ome
 
 loop-again : tie.Need-loop-again Inv-loop μ-loop
 loop-again c =
-    let y = c .before .before .before .before .before .before .before .before .args in
-    let from = c .before .before .before .before .before .before .loop .from in
-    let n = c .before .before .before .before .smaller .result in
-    let e = c .before .before .before .before .smaller .ensures in
-    let moved = ap (λ (xs : List ℕ). stored xs (y .to + from) (λ j. discounted (y .discount) (sum (term xs (y .starts .now) (y .weights .now) (from + j)) (y .count))) n) (c .before .before .before .before .before .before .loop .inv .1) in
-    (omega arith, c .before .before .expect-run .ensures ∙ moved ∙ stored-join (y .work .now) (y .to) _ _ from n (λ j l. ap (discounted (y .discount)) (row-sum (c .before .before .before .before .before .before .before .before .pre) _ from (from + j) (omega arith))))
+    let args = c .before .before .before .before .before .before .before .before .args in
+    let pre = c .before .before .before .before .before .before .before .before .pre in
+    let loop = c .before .before .before .before .before .before .loop in
+    let smaller = c .before .before .before .before .smaller in
+    let expect-run = c .before .before .expect-run in
+    let y = args in
+    let from = loop .from in
+    let n = smaller .result in
+    let e = smaller .ensures in
+    let moved = ap (λ (xs : List ℕ). stored xs (y .to + from) (λ j. discounted (y .discount) (sum (term xs (y .starts .now) (y .weights .now) (from + j)) (y .count))) n) (loop .inv .1) in (
+      omega arith,
+      expect-run .ensures
+          ∙ moved
+          ∙ stored-join (y .work .now) (y .to) _ _ from n (λ j l. ap (discounted (y .discount)) (row-sum pre _ from (from + j) (omega arith))),
+    )
 
 same-length : tie.Need-same-length Inv-loop μ-loop
 same-length c = ap length (c .before .loop .inv .1) ∙ length-stored _ _ _ _

@@ -10,19 +10,37 @@ use Rattle.expect.proofs.expect_run.Statement.{statement}
 use Rattle.expect.proofs.expect_run.Tie as tie
 
 add-all-requires : tie.Need-add-all-requires
-add-all-requires c κs = (row-run (c .before .before .before .args .from) (c .before .before .before .args .n) (c .before .before .before .pre .0) (c .before .before .before .pre .1), summed-none (c .before .before .before .args .from) (c .before .before .before .args .n) (c .before .before .before .pre .1))
+add-all-requires c κs =
+    let args = c .before .before .before .args in
+    let from₀ = args .from in
+    let n₀ = args .n in
+    let pre = c .before .before .before .pre in
+    (row-run from₀ n₀ (pre .0) (pre .1), summed-none from₀ n₀ (pre .1))
 
 add-store-sums : tie.Need-add-store-sums
 add-store-sums c = omega (arith, c .before .before .before .before .before .before .pre .0 .room)
 
 store-sums-requires : tie.Need-store-sums-requires
-store-sums-requires c κs = (c .before .before .before .before .before .before .pre .0 .discount-is, c .before .before .before .before .before .before .pre .1, omega (arith, c .before .before .before .before .before .before .pre .0 .room), λ j l. rw (c .before .before .add-all .ensures .each j l) (row-sum-le (c .before .before .before .before .before .before .pre .0) (λ i. c .before .before .before .before .before .slice-known .given i .fits) (c .before .before .before .before .before .before .args .from + j)))
+store-sums-requires c κs =
+    let args = c .before .before .before .before .before .before .args in
+    let pre = c .before .before .before .before .before .before .pre in
+    let slice-known = c .before .before .before .before .before .slice-known in
+    let add-all = c .before .before .add-all in (
+      pre .0 .discount-is,
+      pre .1,
+      omega (arith, pre .0 .room),
+      λ j l. rw (add-all .ensures .each j l) (row-sum-le (pre .0) (λ i. slice-known .given i .fits) (args .from + j)),
+    )
 
 same-length : tie.Need-same-length
 same-length c = search needs
 
 returns : tie.Need-returns
-returns c = c .before .before .store-sums .ensures ∙ stored-eq _ _ _ _ (c .before .before .before .before .before .before .before .before .before .args .n) (λ j l. ap (discounted (c .before .before .before .before .before .before .before .before .before .args .discount)) (c .before .before .before .before .before .add-all .ensures .each j l))
+returns c =
+    let args = c .before .before .before .before .before .before .before .before .before .args in
+    let add-all = c .before .before .before .before .before .add-all in
+    let store-sums = c .before .before .store-sums in
+    store-sums .ensures ∙ stored-eq _ _ _ _ (args .n) (λ j l. ap (discounted (args .discount)) (add-all .ensures .each j l))
 
 pub expect-run-spec : {M : Type 1} → statement M
 expect-run-spec =

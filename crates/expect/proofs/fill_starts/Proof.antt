@@ -29,10 +29,18 @@ word-requires c κs = omega arith
 
 next-account-requires : tie.Need-next-account-requires Inv-loop μ-loop
 unfolding returnsOf
-next-account-requires c κs = (c .before .before .before .before .pre .1 .fee, c .before .before .before .before .pre .2, rw (c .word .ensures .0) (c .before .before .before .before .pre .0 .valid .factor (c .before .before .loop .k) (omega (arith, c .before .before .before .before .pre .0 .all))))
+next-account-requires c κs =
+    let pre = c .before .before .before .before .pre in
+    let loop = c .before .before .loop in
+    (pre .1 .fee, pre .2, rw (c .word .ensures .0) (pre .0 .valid .factor (loop .k) (omega (arith, pre .0 .all))))
 
 mul-starts : tie.Need-mul-starts Inv-loop μ-loop
-mul-starts c = let x = c .before .before .before .before .before .args in let small : c .next-account .result ≤ 4000 = rw (c .next-account .ensures) (le-trans (account-le (x .c .fee) (x .c .top) (x .balance) (c .before .word .result)) (c .before .before .before .before .before .pre .1 .top)) in omega (arith, mul-le-mul small (c .before .before .before .before .before .pre .3))
+mul-starts c =
+    let args = c .before .before .before .before .before .args in
+    let pre = c .before .before .before .before .before .pre in
+    let x = args in
+    let small : c .next-account .result ≤ 4000 = rw (c .next-account .ensures) (le-trans (account-le (x .c .fee) (x .c .top) (x .balance) (c .before .word .result)) (pre .1 .top)) in
+    omega (arith, mul-le-mul small (pre .3))
 
 mul-starts-2 : tie.Need-mul-starts-2 Inv-loop μ-loop
 mul-starts-2 c = omega arith
@@ -49,8 +57,10 @@ loop-less c = omega arith
 loop-again : tie.Need-loop-again Inv-loop μ-loop
 unfolding returnsOf
 loop-again c =
-    let next = c .next-account .ensures ∙ ap (nextAccount (c .before .before .before .before .before .args .c .fee) (c .before .before .before .before .before .args .c .top) (c .before .before .before .before .before .args .balance)) (c .before .word .ensures .0) in
-    (omega arith, (λ i. set (c .before .before .before .loop .inv .1 i) (c .before .before .before .loop .k) (next i * c .before .before .before .before .before .args .stride)) ∙ stored-push _ _ _)
+    let args = c .before .before .before .before .before .args in
+    let loop = c .before .before .before .loop in
+    let next = c .next-account .ensures ∙ ap (nextAccount (args .c .fee) (args .c .top) (args .balance)) (c .before .word .ensures .0) in
+    (omega arith, (λ i. set (loop .inv .1 i) (loop .k) (next i * args .stride)) ∙ stored-push _ _ _)
 
 returns : tie.Need-returns Inv-loop μ-loop
 returns c = let e : c .before .loop .k ≡ c .before .before .before .args .count = omega arith in rw (sym e) (c .before .loop .inv .1)

@@ -35,10 +35,17 @@ wide-requires-2 : tie.Need-wide-requires-2
 wide-requires-2 c κs = search needs
 
 mul-result : tie.Need-mul-result
-mul-result c = let l : c .before .before .wide .result ≤ 10000 = rw (c .before .before .wide .ensures .0) (c .before .before .before .before .before .before .pre .1) in omega (arith, product-small l (c .wide2 .ensures .1))
+mul-result c =
+    let pre = c .before .before .before .before .before .before .pre in
+    let wide = c .before .before .wide in
+    let l : wide .result ≤ 10000 = rw (wide .ensures .0) (pre .1) in omega (arith, product-small l (c .wide2 .ensures .1))
 
 returns : tie.Need-returns
-returns c = let l : c .before .before .wide .result ≤ 10000 = rw (c .before .before .wide .ensures .0) (c .before .before .before .before .before .before .pre .1) in (ap₂ (λ (x y : ℕ). x * y) (c .before .before .wide .ensures .0) (c .wide2 .ensures .0), product-small l (c .wide2 .ensures .1))
+returns c =
+    let pre = c .before .before .before .before .before .before .pre in
+    let wide = c .before .before .wide in
+    let l : wide .result ≤ 10000 = rw (wide .ensures .0) (pre .1) in
+    (ap₂ (λ (x y : ℕ). x * y) (wide .ensures .0) (c .wide2 .ensures .0), product-small l (c .wide2 .ensures .1))
 
 pub product-spec : {M : Type 1} → statement M
 product-spec =

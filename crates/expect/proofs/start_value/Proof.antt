@@ -16,7 +16,10 @@ use Rattle.expect.proofs.start_value.Statement.{statement}
 use Rattle.expect.proofs.start_value.Tie as tie
 
 balance : (c : tie.After-weights2) → Balance (termsIn (c .before .before .before .before .before .before .before .before .before .args .c)) (c .before .before .before .before .before .before .before .before .before .args .work .now) (c .before .before .before .before .before .before .before .before .before .args .list .now) (c .before .before .before .before .fill-weights .last .0) (c .before .before .before .before .before .before .before .before .before .args .count) (c .before .before .before .before .before .before .before .before .before .args .c .premium) (c .before .before .before .before .before .before .before .before .before .args .c .premium + 1) ((c .before .before .before .before .before .before .before .before .before .args .c .top + 1) * (c .before .before .before .before .before .before .before .before .before .args .c .premium + 1))
-balance c = start-balance (c .before .before .before .before .before .before .before .before .before .pre .0) (c .before .before .before .before .before .before .before .before .before .pre .1) (λ k l. ap (λ (xs : List ℕ). getD xs k 0) (c .before .before .before .before .fill-weights .ensures) ∙ stored-first _ _ _ k (c .before .before .before .before .before .before .before .before .before .pre .0 .few) l)
+balance c =
+    let pre = c .before .before .before .before .before .before .before .before .before .pre in
+    let fill-weights = c .before .before .before .before .fill-weights in
+    start-balance (pre .0) (pre .1) (λ k l. ap (λ (xs : List ℕ). getD xs k 0) (fill-weights .ensures) ∙ stored-first _ _ _ k (pre .0 .few) l)
 
 starts-are : (c : tie.After-weights2) (k : ℕ) → k < c .before .before .before .before .before .before .before .before .before .args .count
     → getD (c .before .before .fill-starts .last .0) k 0 ≡ nextAccount (c .before .before .before .before .before .before .before .before .before .args .c .fee) (c .before .before .before .before .before .before .before .before .before .args .c .top) (c .before .before .before .before .before .before .before .before .before .args .c .premium) (returnsOf (c .before .before .before .before .before .before .before .before .before .args .list .now) .factor k) * (c .before .before .before .before .before .before .before .before .before .args .c .premium + 1)
@@ -45,10 +48,16 @@ discounted-requires : tie.Need-discounted-requires
 discounted-requires c κs = search needs
 
 cast-result : tie.Need-cast-result
-cast-result c = rw (value-is c) (let s = row-small (row (c .before .before)) (λ j. c .before .before .before .before .before .before .before .before .before .before .shared-slice-known .given j .fits) (c .before .before .before .before .before .before .before .before .before .before .before .args .c .premium) in omega arith)
+cast-result c =
+    let args = c .before .before .before .before .before .before .before .before .before .before .before .args in
+    let shared-slice-known = c .before .before .before .before .before .before .before .before .before .before .shared-slice-known in
+    rw (value-is c) (let s = row-small (row (c .before .before)) (λ j. shared-slice-known .given j .fits) (args .c .premium) in omega arith)
 
 returns : tie.Need-returns
-returns c = value-is c ∙ balance-cells (balance (c .before .before)) (c .before .before .before .before .fill-starts .last .0) (starts-are (c .before .before)) (c .before .before .before .before .before .before .before .before .before .before .before .args .c .premium)
+returns c =
+    let args = c .before .before .before .before .before .before .before .before .before .before .before .args in
+    let fill-starts = c .before .before .before .before .fill-starts in
+    value-is c ∙ balance-cells (balance (c .before .before)) (fill-starts .last .0) (starts-are (c .before .before)) (args .c .premium)
 
 pub start-value-spec : {M : Type 1} → statement M
 start-value-spec =

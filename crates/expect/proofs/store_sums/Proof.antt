@@ -29,7 +29,15 @@ discounted-requires : tie.Need-discounted-requires Inv-loop μ-loop
 discounted-requires c κs = (c .before .before .before .before .pre .0, let s = c .before .before .before .before .pre .3 (c .before .before .loop .j) (c .before .loop-test .taken) in omega arith)
 
 cast-work : tie.Need-cast-work Inv-loop μ-loop
-cast-work c = let s = discounted-average (c .before .before .before .before .before .args .discount) (getD (c .before .before .before .before .before .args .sums .now) (c .before .before .before .loop .j) 0) 4294967295 (c .before .before .before .before .before .pre .0) (c .before .before .before .before .before .pre .3 (c .before .before .before .loop .j) (c .before .before .loop-test .taken)) in let e = c .discounted .ensures in omega arith
+cast-work c =
+    let args = c .before .before .before .before .before .args in
+    let pre = c .before .before .before .before .before .pre in
+    let loop = c .before .before .before .loop in
+    let j' = loop .j in
+    let loop-test = c .before .before .loop-test in
+    let s = discounted-average (args .discount) (getD (args .sums .now) j' 0) 4294967295 (pre .0) (pre .3 j' (loop-test .taken)) in
+    let e = c .discounted .ensures in
+    omega arith
 
 add-work : tie.Need-add-work Inv-loop μ-loop
 add-work c = omega (arith, c .before .before .before .before .before .pre .2)
@@ -38,7 +46,11 @@ mul-work : tie.Need-mul-work Inv-loop μ-loop
 mul-work c = omega (arith, c .before .before .before .before .before .pre .2)
 
 slice-write-work : tie.Need-slice-write-work Inv-loop μ-loop
-slice-write-work c = let e : length (c .before .before .before .loop .work) ≡ length (c .before .before .before .before .before .args .work .now) = ap length (c .before .before .before .loop .inv .1) ∙ length-stored _ _ _ _ in omega (arith, c .before .before .before .before .before .pre .2)
+slice-write-work c =
+    let args = c .before .before .before .before .before .args in
+    let pre = c .before .before .before .before .before .pre in
+    let loop = c .before .before .before .loop in
+    let e : length (loop .work) ≡ length (args .work .now) = ap length (loop .inv .1) ∙ length-stored _ _ _ _ in omega (arith, pre .2)
 
 add-j : tie.Need-add-j Inv-loop μ-loop
 add-j c = omega arith
@@ -47,7 +59,10 @@ loop-less : tie.Need-loop-less Inv-loop μ-loop
 loop-less c = omega arith
 
 loop-again : tie.Need-loop-again Inv-loop μ-loop
-loop-again c = (omega arith, (λ i. set (c .before .before .before .loop .inv .1 i) (c .before .before .before .before .before .args .to + c .before .before .before .loop .j) (c .discounted .ensures i)) ∙ stored-next _ _ _ _)
+loop-again c =
+    let args = c .before .before .before .before .before .args in
+    let loop = c .before .before .before .loop in
+    (omega arith, (λ i. set (loop .inv .1 i) (args .to + loop .j) (c .discounted .ensures i)) ∙ stored-next _ _ _ _)
 
 same-length : tie.Need-same-length Inv-loop μ-loop
 same-length c = ap length (c .before .loop .inv .1) ∙ length-stored _ _ _ _

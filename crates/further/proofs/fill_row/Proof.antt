@@ -19,7 +19,14 @@ same-length-2 : tie.Need-same-length-2
 same-length-2 c = search needs
 
 returns : tie.Need-returns
-returns c = (c .before .before .before .before .first-row .ensures .0 ∙ first-values _ _ _ (c .before .before .before .before .before .before .before .before .before .before .args .k) _ (c .before .before .before .before .before .before .before .if1 .taken), c .before .before .before .before .first-row .ensures .1 ∙ first-amounts (c .before .before .before .before .before .before .before .before .before .before .args .work .now) _ (c .before .before .before .before .before .before .before .before .before .before .args .base) _ (c .before .before .before .before .before .before .before .before .before .before .args .k) _ (c .before .before .before .before .before .before .before .if1 .taken))
+returns c =
+    let args = c .before .before .before .before .before .before .before .before .before .before .args in
+    let k₀ = args .k in
+    let if1 = c .before .before .before .before .before .before .before .if1 in
+    let first-row = c .before .before .before .before .first-row in (
+      first-row .ensures .0 ∙ first-values _ _ _ k₀ _ (if1 .taken),
+      first-row .ensures .1 ∙ first-amounts (args .work .now) _ (args .base) _ k₀ _ (if1 .taken),
+    )
 
 same-length-3 : tie.Need-same-length-3
 same-length-3 c = search needs

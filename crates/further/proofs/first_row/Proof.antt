@@ -21,25 +21,67 @@ unfolding stored
 loop-holds c = (omega arith, refl, refl)
 
 add-work : tie.Need-add-work Inv-loop μ-loop
-add-work c = let lw : length (c .before .loop .work) ≡ length (c .before .before .args .work .now) = ap length (c .before .loop .inv .1) ∙ length-stored _ _ _ _ in let lt : length (c .before .loop .table) ≡ length (c .before .before .args .table .now) = ap length (c .before .loop .inv .2) ∙ length-stored _ _ _ _ in omega (arith, c .before .before .pre .room, c .before .before .pre .entries, c .before .before .pre .apart)
+add-work c =
+    let args = c .before .before .args in
+    let pre = c .before .before .pre in
+    let loop = c .before .loop in
+    let lw : length (loop .work) ≡ length (args .work .now) = ap length (loop .inv .1) ∙ length-stored _ _ _ _ in
+    let lt : length (loop .table) ≡ length (args .table .now) = ap length (loop .inv .2) ∙ length-stored _ _ _ _ in
+    omega (arith, pre .room, pre .entries, pre .apart)
 
 mul-work : tie.Need-mul-work Inv-loop μ-loop
-mul-work c = let lw : length (c .before .loop .work) ≡ length (c .before .before .args .work .now) = ap length (c .before .loop .inv .1) ∙ length-stored _ _ _ _ in let lt : length (c .before .loop .table) ≡ length (c .before .before .args .table .now) = ap length (c .before .loop .inv .2) ∙ length-stored _ _ _ _ in omega (arith, c .before .before .pre .room, c .before .before .pre .entries, c .before .before .pre .apart)
+mul-work c =
+    let args = c .before .before .args in
+    let pre = c .before .before .pre in
+    let loop = c .before .loop in
+    let lw : length (loop .work) ≡ length (args .work .now) = ap length (loop .inv .1) ∙ length-stored _ _ _ _ in
+    let lt : length (loop .table) ≡ length (args .table .now) = ap length (loop .inv .2) ∙ length-stored _ _ _ _ in
+    omega (arith, pre .room, pre .entries, pre .apart)
 
 slice-read-work : tie.Need-slice-read-work Inv-loop μ-loop
-slice-read-work c = let lw : length (c .before .before .loop .work) ≡ length (c .before .before .before .args .work .now) = ap length (c .before .before .loop .inv .1) ∙ length-stored _ _ _ _ in let lt : length (c .before .before .loop .table) ≡ length (c .before .before .before .args .table .now) = ap length (c .before .before .loop .inv .2) ∙ length-stored _ _ _ _ in omega (arith, c .before .before .before .pre .room, c .before .before .before .pre .entries, c .before .before .before .pre .apart)
+slice-read-work c =
+    let args = c .before .before .before .args in
+    let pre = c .before .before .before .pre in
+    let loop = c .before .before .loop in
+    let lw : length (loop .work) ≡ length (args .work .now) = ap length (loop .inv .1) ∙ length-stored _ _ _ _ in
+    let lt : length (loop .table) ≡ length (args .table .now) = ap length (loop .inv .2) ∙ length-stored _ _ _ _ in
+    omega (arith, pre .room, pre .entries, pre .apart)
 
 mul-work-2 : tie.Need-mul-work-2 Inv-loop μ-loop
-mul-work-2 c = let lw : length (c .before .before .loop .work) ≡ length (c .before .before .before .args .work .now) = ap length (c .before .before .loop .inv .1) ∙ length-stored _ _ _ _ in let lt : length (c .before .before .loop .table) ≡ length (c .before .before .before .args .table .now) = ap length (c .before .before .loop .inv .2) ∙ length-stored _ _ _ _ in omega (arith, c .before .before .before .pre .room, c .before .before .before .pre .entries, c .before .before .before .pre .apart)
+mul-work-2 c =
+    let args = c .before .before .before .args in
+    let pre = c .before .before .before .pre in
+    let loop = c .before .before .loop in
+    let lw : length (loop .work) ≡ length (args .work .now) = ap length (loop .inv .1) ∙ length-stored _ _ _ _ in
+    let lt : length (loop .table) ≡ length (args .table .now) = ap length (loop .inv .2) ∙ length-stored _ _ _ _ in
+    omega (arith, pre .room, pre .entries, pre .apart)
 
 slice-write-work : tie.Need-slice-write-work Inv-loop μ-loop
-slice-write-work c = let lw : length (c .before .before .loop .work) ≡ length (c .before .before .before .args .work .now) = ap length (c .before .before .loop .inv .1) ∙ length-stored _ _ _ _ in let lt : length (c .before .before .loop .table) ≡ length (c .before .before .before .args .table .now) = ap length (c .before .before .loop .inv .2) ∙ length-stored _ _ _ _ in omega (arith, c .before .before .before .pre .room, c .before .before .before .pre .entries, c .before .before .before .pre .apart)
+slice-write-work c =
+    let args = c .before .before .before .args in
+    let pre = c .before .before .before .pre in
+    let loop = c .before .before .loop in
+    let lw : length (loop .work) ≡ length (args .work .now) = ap length (loop .inv .1) ∙ length-stored _ _ _ _ in
+    let lt : length (loop .table) ≡ length (args .table .now) = ap length (loop .inv .2) ∙ length-stored _ _ _ _ in
+    omega (arith, pre .room, pre .entries, pre .apart)
 
 mul-table : tie.Need-mul-table Inv-loop μ-loop
-mul-table c = let lw : length (c .before .before .loop .work) ≡ length (c .before .before .before .args .work .now) = ap length (c .before .before .loop .inv .1) ∙ length-stored _ _ _ _ in let lt : length (c .before .before .loop .table) ≡ length (c .before .before .before .args .table .now) = ap length (c .before .before .loop .inv .2) ∙ length-stored _ _ _ _ in omega (arith, c .before .before .before .pre .room, c .before .before .before .pre .entries, c .before .before .before .pre .apart)
+mul-table c =
+    let args = c .before .before .before .args in
+    let pre = c .before .before .before .pre in
+    let loop = c .before .before .loop in
+    let lw : length (loop .work) ≡ length (args .work .now) = ap length (loop .inv .1) ∙ length-stored _ _ _ _ in
+    let lt : length (loop .table) ≡ length (args .table .now) = ap length (loop .inv .2) ∙ length-stored _ _ _ _ in
+    omega (arith, pre .room, pre .entries, pre .apart)
 
 slice-write-table : tie.Need-slice-write-table Inv-loop μ-loop
-slice-write-table c = let lw : length (c .before .before .loop .work) ≡ length (c .before .before .before .args .work .now) = ap length (c .before .before .loop .inv .1) ∙ length-stored _ _ _ _ in let lt : length (c .before .before .loop .table) ≡ length (c .before .before .before .args .table .now) = ap length (c .before .before .loop .inv .2) ∙ length-stored _ _ _ _ in omega (arith, c .before .before .before .pre .room, c .before .before .before .pre .entries, c .before .before .before .pre .apart)
+slice-write-table c =
+    let args = c .before .before .before .args in
+    let pre = c .before .before .before .pre in
+    let loop = c .before .before .loop in
+    let lw : length (loop .work) ≡ length (args .work .now) = ap length (loop .inv .1) ∙ length-stored _ _ _ _ in
+    let lt : length (loop .table) ≡ length (args .table .now) = ap length (loop .inv .2) ∙ length-stored _ _ _ _ in
+    omega (arith, pre .room, pre .entries, pre .apart)
 
 add-a : tie.Need-add-a Inv-loop μ-loop
 add-a c = omega arith
@@ -49,9 +91,16 @@ loop-less c = omega arith
 
 loop-again : tie.Need-loop-again Inv-loop μ-loop
 loop-again c =
-    let same : 0 * c .before .before .before .args .stride + c .before .before .loop .a ≡ c .before .before .loop .a = omega arith in
-    let read = ap (λ (xs : List ℕ). getD xs (c .before .before .before .args .base + c .before .before .loop .a) 0) (c .before .before .loop .inv .1) ∙ stored-out _ 0 _ _ (c .before .before .before .args .base + c .before .before .loop .a) (inr (omega arith)) ∙ ap (λ (x : ℕ). getD (c .before .before .before .args .work .now) (c .before .before .before .args .base + x) 0) (sym same) in
-    (omega arith, (λ i. set (c .before .before .loop .inv .1 i) (c .before .before .loop .a) (read i)) ∙ stored-push _ _ _, (λ i. set (c .before .before .loop .inv .2 i) (c .before .before .loop .a) 0) ∙ stored-push _ _ _)
+    let args = c .before .before .before .args in
+    let base₀ = args .base in
+    let loop = c .before .before .loop in
+    let a' = loop .a in
+    let same : 0 * args .stride + a' ≡ a' = omega arith in
+    let read =
+    ap (λ (xs : List ℕ). getD xs (base₀ + a') 0) (loop .inv .1)
+    ∙ stored-out _ 0 _ _ (base₀ + a') (inr (omega arith))
+    ∙ ap (λ (x : ℕ). getD (args .work .now) (base₀ + x) 0) (sym same) in
+    (omega arith, (λ i. set (loop .inv .1 i) a' (read i)) ∙ stored-push _ _ _, (λ i. set (loop .inv .2 i) a' 0) ∙ stored-push _ _ _)
 
 same-length : tie.Need-same-length Inv-loop μ-loop
 same-length c = ap length (c .before .loop .inv .1) ∙ length-stored _ _ _ _

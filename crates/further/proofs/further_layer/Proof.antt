@@ -22,12 +22,19 @@ loop-holds c = (omega arith, stored-none _ _ _ _, stored-none _ _ _ _)
 
 fill-row-requires : tie.Need-fill-row-requires Inv-loop μ-loop
 fill-row-requires c κs =
-    let h : c .before .before .before .loop .b ≤ c .before .before .before .before .before .before .args .n = omega arith in
-    let room = room-on (c .before .before .before .before .before .before .pre .0) (c .before .before .before .before .before .before .args .k) (c .before .before .before .loop .b) h in
-    let below = below-on (c .before .before .before .before .before .before .pre .0) (c .before .before .before .before .before .before .args .k) (c .before .before .before .loop .b) h in (
-      subst₂ (λ (x y : List ℕ). Room x y (c .before .before .before .before .before .before .args .base) (c .before .before .before .before .before .before .args .stride) (c .before .before .before .loop .b + 1)) (sym (c .before .before .before .loop .inv .1)) (sym (c .before .before .before .loop .inv .2)) (room-less (c .before .before .before .loop .b + 1) (omega arith) room),
-      λ some. subst₂ (λ (x y : List ℕ). Below x y (c .before .before .before .before .before .before .args .base) (c .before .before .before .before .before .before .args .stride) (c .before .before .before .loop .b) (c .before .before .before .before .before .before .args .k)) (sym (c .before .before .before .loop .inv .1)) (sym (c .before .before .before .loop .inv .2)) (below some),
-      c .before .before .before .before .before .before .pre .1,
+    let args = c .before .before .before .before .before .before .args in
+    let stride₀ = args .stride in
+    let base₀ = args .base in
+    let k₀ = args .k in
+    let pre = c .before .before .before .before .before .before .pre in
+    let loop = c .before .before .before .loop in
+    let b' = loop .b in
+    let h : b' ≤ args .n = omega arith in
+    let room = room-on (pre .0) k₀ b' h in
+    let below = below-on (pre .0) k₀ b' h in (
+      subst₂ (λ (x y : List ℕ). Room x y base₀ stride₀ (b' + 1)) (sym (loop .inv .1)) (sym (loop .inv .2)) (room-less (b' + 1) (omega arith) room),
+      λ some. subst₂ (λ (x y : List ℕ). Below x y base₀ stride₀ b' k₀) (sym (loop .inv .1)) (sym (loop .inv .2)) (below some),
+      pre .1,
     )
 
 add-b : tie.Need-add-b Inv-loop μ-loop
@@ -38,14 +45,22 @@ loop-less c = omega arith
 
 loop-again : tie.Need-loop-again Inv-loop μ-loop
 loop-again c =
-    let h : c .before .before .before .before .before .before .before .before .loop .b ≤ c .before .before .before .before .before .before .before .before .before .before .before .args .n = omega arith in (
+    let args = c .before .before .before .before .before .before .before .before .before .before .before .args in
+    let stride₀ = args .stride in
+    let base₀ = args .base in
+    let k₀ = args .k in
+    let pre = c .before .before .before .before .before .before .before .before .before .before .before .pre in
+    let loop = c .before .before .before .before .before .before .before .before .loop in
+    let b' = loop .b in
+    let fill-row = c .before .before .before .before .fill-row in
+    let h : b' ≤ args .n = omega arith in (
       omega arith,
-      c .before .before .before .before .fill-row .ensures .0
-          ∙ ap (λ (x : List ℕ). stored x (c .before .before .before .before .before .before .before .before .loop .b * c .before .before .before .before .before .before .before .before .before .before .before .args .stride) (furtherValue (cells x (c .before .before .before .before .before .before .before .before .before .before .before .args .base) (c .before .before .before .before .before .before .before .before .before .before .before .args .stride)) (c .before .before .before .before .before .before .before .before .before .before .before .args .k) (c .before .before .before .before .before .before .before .before .loop .b)) (c .before .before .before .before .before .before .before .before .before .before .before .args .stride)) (c .before .before .before .before .before .before .before .before .loop .inv .1)
-          ∙ values-next (c .before .before .before .before .before .before .before .before .before .before .before .pre .0) (c .before .before .before .before .before .before .before .before .before .before .before .args .k) (c .before .before .before .before .before .before .before .before .loop .b) h,
-      c .before .before .before .before .fill-row .ensures .1
-          ∙ ap₂ (λ (x y : List ℕ). stored y (c .before .before .before .before .before .before .before .before .loop .b * c .before .before .before .before .before .before .before .before .before .before .before .args .stride) (furtherAmount (cells x (c .before .before .before .before .before .before .before .before .before .before .before .args .base) (c .before .before .before .before .before .before .before .before .before .before .before .args .stride)) (c .before .before .before .before .before .before .before .before .before .before .before .args .k) (c .before .before .before .before .before .before .before .before .loop .b)) (c .before .before .before .before .before .before .before .before .before .before .before .args .stride)) (c .before .before .before .before .before .before .before .before .loop .inv .1) (c .before .before .before .before .before .before .before .before .loop .inv .2)
-          ∙ amounts-next (c .before .before .before .before .before .before .before .before .before .before .before .pre .0) (c .before .before .before .before .before .before .before .before .before .before .before .args .k) (c .before .before .before .before .before .before .before .before .loop .b) h,
+      fill-row .ensures .0
+          ∙ ap (λ (x : List ℕ). stored x (b' * stride₀) (furtherValue (cells x base₀ stride₀) k₀ b') stride₀) (loop .inv .1)
+          ∙ values-next (pre .0) k₀ b' h,
+      fill-row .ensures .1
+          ∙ ap₂ (λ (x y : List ℕ). stored y (b' * stride₀) (furtherAmount (cells x base₀ stride₀) k₀ b') stride₀) (loop .inv .1) (loop .inv .2)
+          ∙ amounts-next (pre .0) k₀ b' h,
     )
 
 same-length : tie.Need-same-length Inv-loop μ-loop
@@ -55,7 +70,12 @@ same-length-2 : tie.Need-same-length-2 Inv-loop μ-loop
 same-length-2 c = ap length (c .before .loop .inv .2) ∙ length-stored _ _ _ _
 
 returns : tie.Need-returns Inv-loop μ-loop
-returns c = let e : c .before .loop .b ≡ c .before .before .before .before .args .n = omega arith in (c .before .loop .inv .1 ∙ ap (stored _ _ _) (ap (λ (m : ℕ). m * c .before .before .before .before .args .stride) e), c .before .loop .inv .2 ∙ ap (stored _ _ _) (ap (λ (m : ℕ). m * c .before .before .before .before .args .stride) e))
+returns c =
+    let args = c .before .before .before .before .args in
+    let stride₀ = args .stride in
+    let loop = c .before .loop in
+    let e : loop .b ≡ args .n = omega arith in
+    (loop .inv .1 ∙ ap (stored _ _ _) (ap (λ (m : ℕ). m * stride₀) e), loop .inv .2 ∙ ap (stored _ _ _) (ap (λ (m : ℕ). m * stride₀) e))
 
 pub further-layer-spec : {M : Type 1} → statement M
 further-layer-spec =

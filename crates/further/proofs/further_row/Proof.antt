@@ -34,55 +34,232 @@ less-requires : tie.Need-less-requires Inv-loop μ-loop
 less-requires c κs = search needs
 
 add-j : tie.Need-add-j Inv-loop μ-loop
-add-j c = let lw : length (c .before .before .loop .work) ≡ length (c .before .before .before .before .before .args .work .now) = ap length (c .before .before .loop .inv .1) ∙ length-stored _ _ _ _ in let lt : length (c .before .before .loop .table) ≡ length (c .before .before .before .before .before .args .table .now) = ap length (c .before .before .loop .inv .2) ∙ length-stored _ _ _ _ in let p = places (c .before .before .before .before .before .pre .0) (c .before .before .before .before .before .pre .1) (c .before .before .loop .a) (c .before .loop-test .taken) in let apart = c .before .before .before .before .before .pre .0 .apart in let step = rows-step (c .before .before .before .before .before .args .stride) (c .before .before .before .before .before .args .b) in omega (arith, c .less .ensures)
+add-j c =
+    let args = c .before .before .before .before .before .args in
+    let pre = c .before .before .before .before .before .pre in
+    let loop = c .before .before .loop in
+    let lw : length (loop .work) ≡ length (args .work .now) = ap length (loop .inv .1) ∙ length-stored _ _ _ _ in
+    let lt : length (loop .table) ≡ length (args .table .now) = ap length (loop .inv .2) ∙ length-stored _ _ _ _ in
+    let p = places (pre .0) (pre .1) (loop .a) (c .before .loop-test .taken) in
+    let apart = pre .0 .apart in
+    let step = rows-step (args .stride) (args .b) in
+    omega (arith, c .less .ensures)
 
 add-better : tie.Need-add-better Inv-loop μ-loop
-add-better c = let lw : length (c .before .before .loop .work) ≡ length (c .before .before .before .before .before .args .work .now) = ap length (c .before .before .loop .inv .1) ∙ length-stored _ _ _ _ in let lt : length (c .before .before .loop .table) ≡ length (c .before .before .before .before .before .args .table .now) = ap length (c .before .before .loop .inv .2) ∙ length-stored _ _ _ _ in let p = places (c .before .before .before .before .before .pre .0) (c .before .before .before .before .before .pre .1) (c .before .before .loop .a) (c .before .loop-test .taken) in let apart = c .before .before .before .before .before .pre .0 .apart in let step = rows-step (c .before .before .before .before .before .args .stride) (c .before .before .before .before .before .args .b) in omega (arith, c .less .ensures)
+add-better c =
+    let args = c .before .before .before .before .before .args in
+    let pre = c .before .before .before .before .before .pre in
+    let loop = c .before .before .loop in
+    let lw : length (loop .work) ≡ length (args .work .now) = ap length (loop .inv .1) ∙ length-stored _ _ _ _ in
+    let lt : length (loop .table) ≡ length (args .table .now) = ap length (loop .inv .2) ∙ length-stored _ _ _ _ in
+    let p = places (pre .0) (pre .1) (loop .a) (c .before .loop-test .taken) in
+    let apart = pre .0 .apart in
+    let step = rows-step (args .stride) (args .b) in
+    omega (arith, c .less .ensures)
 
 add-better-2 : tie.Need-add-better-2 Inv-loop μ-loop
-add-better-2 c = let lw : length (c .before .before .loop .work) ≡ length (c .before .before .before .before .before .args .work .now) = ap length (c .before .before .loop .inv .1) ∙ length-stored _ _ _ _ in let lt : length (c .before .before .loop .table) ≡ length (c .before .before .before .before .before .args .table .now) = ap length (c .before .before .loop .inv .2) ∙ length-stored _ _ _ _ in let p = places (c .before .before .before .before .before .pre .0) (c .before .before .before .before .before .pre .1) (c .before .before .loop .a) (c .before .loop-test .taken) in let apart = c .before .before .before .before .before .pre .0 .apart in let step = rows-step (c .before .before .before .before .before .args .stride) (c .before .before .before .before .before .args .b) in omega (arith, c .less .ensures)
+add-better-2 c =
+    let args = c .before .before .before .before .before .args in
+    let pre = c .before .before .before .before .before .pre in
+    let loop = c .before .before .loop in
+    let lw : length (loop .work) ≡ length (args .work .now) = ap length (loop .inv .1) ∙ length-stored _ _ _ _ in
+    let lt : length (loop .table) ≡ length (args .table .now) = ap length (loop .inv .2) ∙ length-stored _ _ _ _ in
+    let p = places (pre .0) (pre .1) (loop .a) (c .before .loop-test .taken) in
+    let apart = pre .0 .apart in
+    let step = rows-step (args .stride) (args .b) in
+    omega (arith, c .less .ensures)
 
 mul-better : tie.Need-mul-better Inv-loop μ-loop
-mul-better c = let lw : length (c .before .before .loop .work) ≡ length (c .before .before .before .before .before .args .work .now) = ap length (c .before .before .loop .inv .1) ∙ length-stored _ _ _ _ in let lt : length (c .before .before .loop .table) ≡ length (c .before .before .before .before .before .args .table .now) = ap length (c .before .before .loop .inv .2) ∙ length-stored _ _ _ _ in let p = places (c .before .before .before .before .before .pre .0) (c .before .before .before .before .before .pre .1) (c .before .before .loop .a) (c .before .loop-test .taken) in let apart = c .before .before .before .before .before .pre .0 .apart in let step = rows-step (c .before .before .before .before .before .args .stride) (c .before .before .before .before .before .args .b) in omega (arith, c .less .ensures)
+mul-better c =
+    let args = c .before .before .before .before .before .args in
+    let pre = c .before .before .before .before .before .pre in
+    let loop = c .before .before .loop in
+    let lw : length (loop .work) ≡ length (args .work .now) = ap length (loop .inv .1) ∙ length-stored _ _ _ _ in
+    let lt : length (loop .table) ≡ length (args .table .now) = ap length (loop .inv .2) ∙ length-stored _ _ _ _ in
+    let p = places (pre .0) (pre .1) (loop .a) (c .before .loop-test .taken) in
+    let apart = pre .0 .apart in
+    let step = rows-step (args .stride) (args .b) in
+    omega (arith, c .less .ensures)
 
 slice-read-better : tie.Need-slice-read-better Inv-loop μ-loop
-slice-read-better c = let lw : length (c .before .before .before .loop .work) ≡ length (c .before .before .before .before .before .before .args .work .now) = ap length (c .before .before .before .loop .inv .1) ∙ length-stored _ _ _ _ in let lt : length (c .before .before .before .loop .table) ≡ length (c .before .before .before .before .before .before .args .table .now) = ap length (c .before .before .before .loop .inv .2) ∙ length-stored _ _ _ _ in let p = places (c .before .before .before .before .before .before .pre .0) (c .before .before .before .before .before .before .pre .1) (c .before .before .before .loop .a) (c .before .before .loop-test .taken) in let apart = c .before .before .before .before .before .before .pre .0 .apart in let step = rows-step (c .before .before .before .before .before .before .args .stride) (c .before .before .before .before .before .before .args .b) in omega (arith, c .before .less .ensures)
+slice-read-better c =
+    let args = c .before .before .before .before .before .before .args in
+    let pre = c .before .before .before .before .before .before .pre in
+    let loop = c .before .before .before .loop in
+    let loop-test = c .before .before .loop-test in
+    let lw : length (loop .work) ≡ length (args .work .now) = ap length (loop .inv .1) ∙ length-stored _ _ _ _ in
+    let lt : length (loop .table) ≡ length (args .table .now) = ap length (loop .inv .2) ∙ length-stored _ _ _ _ in
+    let p = places (pre .0) (pre .1) (loop .a) (loop-test .taken) in
+    let apart = pre .0 .apart in
+    let step = rows-step (args .stride) (args .b) in
+    omega (arith, c .before .less .ensures)
 
 mul-better-2 : tie.Need-mul-better-2 Inv-loop μ-loop
-mul-better-2 c = let lw : length (c .before .before .before .loop .work) ≡ length (c .before .before .before .before .before .before .args .work .now) = ap length (c .before .before .before .loop .inv .1) ∙ length-stored _ _ _ _ in let lt : length (c .before .before .before .loop .table) ≡ length (c .before .before .before .before .before .before .args .table .now) = ap length (c .before .before .before .loop .inv .2) ∙ length-stored _ _ _ _ in let p = places (c .before .before .before .before .before .before .pre .0) (c .before .before .before .before .before .before .pre .1) (c .before .before .before .loop .a) (c .before .before .loop-test .taken) in let apart = c .before .before .before .before .before .before .pre .0 .apart in let step = rows-step (c .before .before .before .before .before .before .args .stride) (c .before .before .before .before .before .before .args .b) in omega (arith, c .before .less .ensures)
+mul-better-2 c =
+    let args = c .before .before .before .before .before .before .args in
+    let pre = c .before .before .before .before .before .before .pre in
+    let loop = c .before .before .before .loop in
+    let loop-test = c .before .before .loop-test in
+    let lw : length (loop .work) ≡ length (args .work .now) = ap length (loop .inv .1) ∙ length-stored _ _ _ _ in
+    let lt : length (loop .table) ≡ length (args .table .now) = ap length (loop .inv .2) ∙ length-stored _ _ _ _ in
+    let p = places (pre .0) (pre .1) (loop .a) (loop-test .taken) in
+    let apart = pre .0 .apart in
+    let step = rows-step (args .stride) (args .b) in
+    omega (arith, c .before .less .ensures)
 
 slice-read-better-2 : tie.Need-slice-read-better-2 Inv-loop μ-loop
-slice-read-better-2 c = let lw : length (c .before .before .before .before .loop .work) ≡ length (c .before .before .before .before .before .before .before .args .work .now) = ap length (c .before .before .before .before .loop .inv .1) ∙ length-stored _ _ _ _ in let lt : length (c .before .before .before .before .loop .table) ≡ length (c .before .before .before .before .before .before .before .args .table .now) = ap length (c .before .before .before .before .loop .inv .2) ∙ length-stored _ _ _ _ in let p = places (c .before .before .before .before .before .before .before .pre .0) (c .before .before .before .before .before .before .before .pre .1) (c .before .before .before .before .loop .a) (c .before .before .before .loop-test .taken) in let apart = c .before .before .before .before .before .before .before .pre .0 .apart in let step = rows-step (c .before .before .before .before .before .before .before .args .stride) (c .before .before .before .before .before .before .before .args .b) in omega (arith, c .before .before .less .ensures)
+slice-read-better-2 c =
+    let args = c .before .before .before .before .before .before .before .args in
+    let pre = c .before .before .before .before .before .before .before .pre in
+    let loop = c .before .before .before .before .loop in
+    let loop-test = c .before .before .before .loop-test in
+    let less = c .before .before .less in
+    let lw : length (loop .work) ≡ length (args .work .now) = ap length (loop .inv .1) ∙ length-stored _ _ _ _ in
+    let lt : length (loop .table) ≡ length (args .table .now) = ap length (loop .inv .2) ∙ length-stored _ _ _ _ in
+    let p = places (pre .0) (pre .1) (loop .a) (loop-test .taken) in
+    let apart = pre .0 .apart in
+    let step = rows-step (args .stride) (args .b) in
+    omega (arith, less .ensures)
 
 add-better-3 : tie.Need-add-better-3 Inv-loop μ-loop
-add-better-3 c = let v = below-small (c .before .before .before .before .before .before .before .pre .0) (c .before .before .before .before .before .before .before .pre .1) (c .before .before .before .before .loop .a) (c .before .before .before .loop-test .taken) (c .before .before .before .before .before .before .before .pre .2) in let z = (λ i. getD (c .before .before .before .before .loop .inv .1 i) (c .before .before .before .before .before .before .before .args .b * c .before .before .before .before .before .before .before .args .stride - c .before .before .before .before .before .before .before .args .stride + c .before .before .less .ensures i) 0) ∙ read-below (c .before .before .before .before .before .before .before .pre .0) (c .before .before .before .before .before .before .before .pre .1) _ _ (c .before .before .before .before .loop .a) (c .before .before .before .loop-test .taken) in omega (arith, c .before .before .before .before .before .before .before .pre .2)
+add-better-3 c =
+    let args = c .before .before .before .before .before .before .before .args in
+    let stride₀ = args .stride in
+    let pre = c .before .before .before .before .before .before .before .pre in
+    let loop = c .before .before .before .before .loop in
+    let a' = loop .a in
+    let loop-test = c .before .before .before .loop-test in
+    let less = c .before .before .less in
+    let v = below-small (pre .0) (pre .1) a' (loop-test .taken) (pre .2) in
+    let z = (λ i. getD (loop .inv .1 i) (args .b * stride₀ - stride₀ + less .ensures i) 0) ∙ read-below (pre .0) (pre .1) _ _ a' (loop-test .taken) in
+    omega (arith, pre .2)
 
 mul-better-3 : tie.Need-mul-better-3 Inv-loop μ-loop
-mul-better-3 c = let lw : length (c .before .before .before .before .loop .work) ≡ length (c .before .before .before .before .before .before .before .args .work .now) = ap length (c .before .before .before .before .loop .inv .1) ∙ length-stored _ _ _ _ in let lt : length (c .before .before .before .before .loop .table) ≡ length (c .before .before .before .before .before .before .before .args .table .now) = ap length (c .before .before .before .before .loop .inv .2) ∙ length-stored _ _ _ _ in let p = places (c .before .before .before .before .before .before .before .pre .0) (c .before .before .before .before .before .before .before .pre .1) (c .before .before .before .before .loop .a) (c .before .before .before .loop-test .taken) in let apart = c .before .before .before .before .before .before .before .pre .0 .apart in let step = rows-step (c .before .before .before .before .before .before .before .args .stride) (c .before .before .before .before .before .before .before .args .b) in omega (arith, c .before .before .less .ensures)
+mul-better-3 c =
+    let args = c .before .before .before .before .before .before .before .args in
+    let pre = c .before .before .before .before .before .before .before .pre in
+    let loop = c .before .before .before .before .loop in
+    let loop-test = c .before .before .before .loop-test in
+    let less = c .before .before .less in
+    let lw : length (loop .work) ≡ length (args .work .now) = ap length (loop .inv .1) ∙ length-stored _ _ _ _ in
+    let lt : length (loop .table) ≡ length (args .table .now) = ap length (loop .inv .2) ∙ length-stored _ _ _ _ in
+    let p = places (pre .0) (pre .1) (loop .a) (loop-test .taken) in
+    let apart = pre .0 .apart in
+    let step = rows-step (args .stride) (args .b) in
+    omega (arith, less .ensures)
 
 slice-read-better-3 : tie.Need-slice-read-better-3 Inv-loop μ-loop
-slice-read-better-3 c = let lw : length (c .before .before .before .before .before .loop .work) ≡ length (c .before .before .before .before .before .before .before .before .args .work .now) = ap length (c .before .before .before .before .before .loop .inv .1) ∙ length-stored _ _ _ _ in let lt : length (c .before .before .before .before .before .loop .table) ≡ length (c .before .before .before .before .before .before .before .before .args .table .now) = ap length (c .before .before .before .before .before .loop .inv .2) ∙ length-stored _ _ _ _ in let p = places (c .before .before .before .before .before .before .before .before .pre .0) (c .before .before .before .before .before .before .before .before .pre .1) (c .before .before .before .before .before .loop .a) (c .before .before .before .before .loop-test .taken) in let apart = c .before .before .before .before .before .before .before .before .pre .0 .apart in let step = rows-step (c .before .before .before .before .before .before .before .before .args .stride) (c .before .before .before .before .before .before .before .before .args .b) in omega (arith, c .before .before .before .less .ensures)
+slice-read-better-3 c =
+    let args = c .before .before .before .before .before .before .before .before .args in
+    let pre = c .before .before .before .before .before .before .before .before .pre in
+    let loop = c .before .before .before .before .before .loop in
+    let loop-test = c .before .before .before .before .loop-test in
+    let less = c .before .before .before .less in
+    let lw : length (loop .work) ≡ length (args .work .now) = ap length (loop .inv .1) ∙ length-stored _ _ _ _ in
+    let lt : length (loop .table) ≡ length (args .table .now) = ap length (loop .inv .2) ∙ length-stored _ _ _ _ in
+    let p = places (pre .0) (pre .1) (loop .a) (loop-test .taken) in
+    let apart = pre .0 .apart in
+    let step = rows-step (args .stride) (args .b) in
+    omega (arith, less .ensures)
 
 better-requires : tie.Need-better-requires Inv-loop μ-loop
-better-requires c κs = let v = below-few (c .before .before .before .before .before .before .before .before .pre .0) (c .before .before .before .before .before .before .before .before .pre .1) (c .before .before .before .before .before .loop .a) in let z = (λ i. getD (c .before .before .before .before .before .loop .inv .2 i) (c .before .before .before .before .before .before .before .before .args .b * c .before .before .before .before .before .before .before .before .args .stride - c .before .before .before .before .before .before .before .before .args .stride + c .before .before .before .less .ensures i) 0) ∙ read-amount (c .before .before .before .before .before .before .before .before .pre .0) (c .before .before .before .before .before .before .before .before .pre .1) _ _ (c .before .before .before .before .before .loop .a) (c .before .before .before .before .loop-test .taken) in omega arith
+better-requires c κs =
+    let args = c .before .before .before .before .before .before .before .before .args in
+    let stride₀ = args .stride in
+    let pre = c .before .before .before .before .before .before .before .before .pre in
+    let loop = c .before .before .before .before .before .loop in
+    let a' = loop .a in
+    let loop-test = c .before .before .before .before .loop-test in
+    let less = c .before .before .before .less in
+    let v = below-few (pre .0) (pre .1) a' in
+    let z =
+    (λ i. getD (loop .inv .2 i) (args .b * stride₀ - stride₀ + less .ensures i) 0)
+    ∙ read-amount (pre .0) (pre .1) _ _ a' (loop-test .taken) in
+    omega arith
 
 add-work : tie.Need-add-work Inv-loop μ-loop
-add-work c = let lw : length (c .before .before .before .before .before .before .loop .work) ≡ length (c .before .before .before .before .before .before .before .before .before .args .work .now) = ap length (c .before .before .before .before .before .before .loop .inv .1) ∙ length-stored _ _ _ _ in let lt : length (c .before .before .before .before .before .before .loop .table) ≡ length (c .before .before .before .before .before .before .before .before .before .args .table .now) = ap length (c .before .before .before .before .before .before .loop .inv .2) ∙ length-stored _ _ _ _ in let p = places (c .before .before .before .before .before .before .before .before .before .pre .0) (c .before .before .before .before .before .before .before .before .before .pre .1) (c .before .before .before .before .before .before .loop .a) (c .before .before .before .before .before .loop-test .taken) in let apart = c .before .before .before .before .before .before .before .before .before .pre .0 .apart in let step = rows-step (c .before .before .before .before .before .before .before .before .before .args .stride) (c .before .before .before .before .before .before .before .before .before .args .b) in omega (arith, c .before .before .before .before .less .ensures)
+add-work c =
+    let args = c .before .before .before .before .before .before .before .before .before .args in
+    let pre = c .before .before .before .before .before .before .before .before .before .pre in
+    let loop = c .before .before .before .before .before .before .loop in
+    let loop-test = c .before .before .before .before .before .loop-test in
+    let less = c .before .before .before .before .less in
+    let lw : length (loop .work) ≡ length (args .work .now) = ap length (loop .inv .1) ∙ length-stored _ _ _ _ in
+    let lt : length (loop .table) ≡ length (args .table .now) = ap length (loop .inv .2) ∙ length-stored _ _ _ _ in
+    let p = places (pre .0) (pre .1) (loop .a) (loop-test .taken) in
+    let apart = pre .0 .apart in
+    let step = rows-step (args .stride) (args .b) in
+    omega (arith, less .ensures)
 
 mul-work : tie.Need-mul-work Inv-loop μ-loop
-mul-work c = let lw : length (c .before .before .before .before .before .before .loop .work) ≡ length (c .before .before .before .before .before .before .before .before .before .args .work .now) = ap length (c .before .before .before .before .before .before .loop .inv .1) ∙ length-stored _ _ _ _ in let lt : length (c .before .before .before .before .before .before .loop .table) ≡ length (c .before .before .before .before .before .before .before .before .before .args .table .now) = ap length (c .before .before .before .before .before .before .loop .inv .2) ∙ length-stored _ _ _ _ in let p = places (c .before .before .before .before .before .before .before .before .before .pre .0) (c .before .before .before .before .before .before .before .before .before .pre .1) (c .before .before .before .before .before .before .loop .a) (c .before .before .before .before .before .loop-test .taken) in let apart = c .before .before .before .before .before .before .before .before .before .pre .0 .apart in let step = rows-step (c .before .before .before .before .before .before .before .before .before .args .stride) (c .before .before .before .before .before .before .before .before .before .args .b) in omega (arith, c .before .before .before .before .less .ensures)
+mul-work c =
+    let args = c .before .before .before .before .before .before .before .before .before .args in
+    let pre = c .before .before .before .before .before .before .before .before .before .pre in
+    let loop = c .before .before .before .before .before .before .loop in
+    let loop-test = c .before .before .before .before .before .loop-test in
+    let less = c .before .before .before .before .less in
+    let lw : length (loop .work) ≡ length (args .work .now) = ap length (loop .inv .1) ∙ length-stored _ _ _ _ in
+    let lt : length (loop .table) ≡ length (args .table .now) = ap length (loop .inv .2) ∙ length-stored _ _ _ _ in
+    let p = places (pre .0) (pre .1) (loop .a) (loop-test .taken) in
+    let apart = pre .0 .apart in
+    let step = rows-step (args .stride) (args .b) in
+    omega (arith, less .ensures)
 
 slice-write-work : tie.Need-slice-write-work Inv-loop μ-loop
-slice-write-work c = let lw : length (c .before .before .before .before .before .before .loop .work) ≡ length (c .before .before .before .before .before .before .before .before .before .args .work .now) = ap length (c .before .before .before .before .before .before .loop .inv .1) ∙ length-stored _ _ _ _ in let lt : length (c .before .before .before .before .before .before .loop .table) ≡ length (c .before .before .before .before .before .before .before .before .before .args .table .now) = ap length (c .before .before .before .before .before .before .loop .inv .2) ∙ length-stored _ _ _ _ in let p = places (c .before .before .before .before .before .before .before .before .before .pre .0) (c .before .before .before .before .before .before .before .before .before .pre .1) (c .before .before .before .before .before .before .loop .a) (c .before .before .before .before .before .loop-test .taken) in let apart = c .before .before .before .before .before .before .before .before .before .pre .0 .apart in let step = rows-step (c .before .before .before .before .before .before .before .before .before .args .stride) (c .before .before .before .before .before .before .before .before .before .args .b) in omega (arith, c .before .before .before .before .less .ensures)
+slice-write-work c =
+    let args = c .before .before .before .before .before .before .before .before .before .args in
+    let pre = c .before .before .before .before .before .before .before .before .before .pre in
+    let loop = c .before .before .before .before .before .before .loop in
+    let loop-test = c .before .before .before .before .before .loop-test in
+    let less = c .before .before .before .before .less in
+    let lw : length (loop .work) ≡ length (args .work .now) = ap length (loop .inv .1) ∙ length-stored _ _ _ _ in
+    let lt : length (loop .table) ≡ length (args .table .now) = ap length (loop .inv .2) ∙ length-stored _ _ _ _ in
+    let p = places (pre .0) (pre .1) (loop .a) (loop-test .taken) in
+    let apart = pre .0 .apart in
+    let step = rows-step (args .stride) (args .b) in
+    omega (arith, less .ensures)
 
 add-table : tie.Need-add-table Inv-loop μ-loop
-add-table c = let lw : length (c .before .before .before .before .before .before .loop .work) ≡ length (c .before .before .before .before .before .before .before .before .before .args .work .now) = ap length (c .before .before .before .before .before .before .loop .inv .1) ∙ length-stored _ _ _ _ in let lt : length (c .before .before .before .before .before .before .loop .table) ≡ length (c .before .before .before .before .before .before .before .before .before .args .table .now) = ap length (c .before .before .before .before .before .before .loop .inv .2) ∙ length-stored _ _ _ _ in let p = places (c .before .before .before .before .before .before .before .before .before .pre .0) (c .before .before .before .before .before .before .before .before .before .pre .1) (c .before .before .before .before .before .before .loop .a) (c .before .before .before .before .before .loop-test .taken) in let apart = c .before .before .before .before .before .before .before .before .before .pre .0 .apart in let step = rows-step (c .before .before .before .before .before .before .before .before .before .args .stride) (c .before .before .before .before .before .before .before .before .before .args .b) in omega (arith, c .before .before .before .before .less .ensures)
+add-table c =
+    let args = c .before .before .before .before .before .before .before .before .before .args in
+    let pre = c .before .before .before .before .before .before .before .before .before .pre in
+    let loop = c .before .before .before .before .before .before .loop in
+    let loop-test = c .before .before .before .before .before .loop-test in
+    let less = c .before .before .before .before .less in
+    let lw : length (loop .work) ≡ length (args .work .now) = ap length (loop .inv .1) ∙ length-stored _ _ _ _ in
+    let lt : length (loop .table) ≡ length (args .table .now) = ap length (loop .inv .2) ∙ length-stored _ _ _ _ in
+    let p = places (pre .0) (pre .1) (loop .a) (loop-test .taken) in
+    let apart = pre .0 .apart in
+    let step = rows-step (args .stride) (args .b) in
+    omega (arith, less .ensures)
 
 mul-table : tie.Need-mul-table Inv-loop μ-loop
-mul-table c = let lw : length (c .before .before .before .before .before .before .loop .work) ≡ length (c .before .before .before .before .before .before .before .before .before .args .work .now) = ap length (c .before .before .before .before .before .before .loop .inv .1) ∙ length-stored _ _ _ _ in let lt : length (c .before .before .before .before .before .before .loop .table) ≡ length (c .before .before .before .before .before .before .before .before .before .args .table .now) = ap length (c .before .before .before .before .before .before .loop .inv .2) ∙ length-stored _ _ _ _ in let p = places (c .before .before .before .before .before .before .before .before .before .pre .0) (c .before .before .before .before .before .before .before .before .before .pre .1) (c .before .before .before .before .before .before .loop .a) (c .before .before .before .before .before .loop-test .taken) in let apart = c .before .before .before .before .before .before .before .before .before .pre .0 .apart in let step = rows-step (c .before .before .before .before .before .before .before .before .before .args .stride) (c .before .before .before .before .before .before .before .before .before .args .b) in omega (arith, c .before .before .before .before .less .ensures)
+mul-table c =
+    let args = c .before .before .before .before .before .before .before .before .before .args in
+    let pre = c .before .before .before .before .before .before .before .before .before .pre in
+    let loop = c .before .before .before .before .before .before .loop in
+    let loop-test = c .before .before .before .before .before .loop-test in
+    let less = c .before .before .before .before .less in
+    let lw : length (loop .work) ≡ length (args .work .now) = ap length (loop .inv .1) ∙ length-stored _ _ _ _ in
+    let lt : length (loop .table) ≡ length (args .table .now) = ap length (loop .inv .2) ∙ length-stored _ _ _ _ in
+    let p = places (pre .0) (pre .1) (loop .a) (loop-test .taken) in
+    let apart = pre .0 .apart in
+    let step = rows-step (args .stride) (args .b) in
+    omega (arith, less .ensures)
 
 slice-write-table : tie.Need-slice-write-table Inv-loop μ-loop
-slice-write-table c = let lw : length (c .before .before .before .before .before .before .loop .work) ≡ length (c .before .before .before .before .before .before .before .before .before .args .work .now) = ap length (c .before .before .before .before .before .before .loop .inv .1) ∙ length-stored _ _ _ _ in let lt : length (c .before .before .before .before .before .before .loop .table) ≡ length (c .before .before .before .before .before .before .before .before .before .args .table .now) = ap length (c .before .before .before .before .before .before .loop .inv .2) ∙ length-stored _ _ _ _ in let p = places (c .before .before .before .before .before .before .before .before .before .pre .0) (c .before .before .before .before .before .before .before .before .before .pre .1) (c .before .before .before .before .before .before .loop .a) (c .before .before .before .before .before .loop-test .taken) in let apart = c .before .before .before .before .before .before .before .before .before .pre .0 .apart in let step = rows-step (c .before .before .before .before .before .before .before .before .before .args .stride) (c .before .before .before .before .before .before .before .before .before .args .b) in omega (arith, c .before .before .before .before .less .ensures)
+slice-write-table c =
+    let args = c .before .before .before .before .before .before .before .before .before .args in
+    let pre = c .before .before .before .before .before .before .before .before .before .pre in
+    let loop = c .before .before .before .before .before .before .loop in
+    let loop-test = c .before .before .before .before .before .loop-test in
+    let less = c .before .before .before .before .less in
+    let lw : length (loop .work) ≡ length (args .work .now) = ap length (loop .inv .1) ∙ length-stored _ _ _ _ in
+    let lt : length (loop .table) ≡ length (args .table .now) = ap length (loop .inv .2) ∙ length-stored _ _ _ _ in
+    let p = places (pre .0) (pre .1) (loop .a) (loop-test .taken) in
+    let apart = pre .0 .apart in
+    let step = rows-step (args .stride) (args .b) in
+    omega (arith, less .ensures)
 
 add-a : tie.Need-add-a Inv-loop μ-loop
 add-a c = omega arith
@@ -92,15 +269,31 @@ loop-less c = omega arith
 
 loop-again : tie.Need-loop-again Inv-loop μ-loop
 loop-again c =
-    let stays = ap (λ (xs : List ℕ). getD xs (c .before .before .before .before .before .before .before .before .before .args .base + (c .before .before .before .before .before .before .before .before .before .args .b * c .before .before .before .before .before .before .before .before .before .args .stride + c .before .before .before .before .before .before .loop .a)) 0) (c .before .before .before .before .before .before .loop .inv .1) ∙ read-stay (c .before .before .before .before .before .before .before .before .before .pre .0) (c .before .before .before .before .before .before .before .before .before .pre .1) _ _ (c .before .before .before .before .before .before .loop .a) (c .before .before .before .before .before .before .loop .inv .0) in
-    let belows = (λ i. getD (c .before .before .before .before .before .before .loop .inv .1 i) (c .before .before .before .before .before .before .before .before .before .args .b * c .before .before .before .before .before .before .before .before .before .args .stride - c .before .before .before .before .before .before .before .before .before .args .stride + c .before .before .before .before .less .ensures i) 0) ∙ read-below (c .before .before .before .before .before .before .before .before .before .pre .0) (c .before .before .before .before .before .before .before .before .before .pre .1) _ _ (c .before .before .before .before .before .before .loop .a) (c .before .before .before .before .before .loop-test .taken) in
-    let amounts = (λ i. getD (c .before .before .before .before .before .before .loop .inv .2 i) (c .before .before .before .before .before .before .before .before .before .args .b * c .before .before .before .before .before .before .before .before .before .args .stride - c .before .before .before .before .before .before .before .before .before .args .stride + c .before .before .before .before .less .ensures i) 0) ∙ read-amount (c .before .before .before .before .before .before .before .before .before .pre .0) (c .before .before .before .before .before .before .before .before .before .pre .1) _ _ (c .before .before .before .before .before .before .loop .a) (c .before .before .before .before .before .loop-test .taken) in
+    let args = c .before .before .before .before .before .before .before .before .before .args in
+    let work₀ = args .work .now in
+    let stride₀ = args .stride in
+    let base₀ = args .base in
+    let b₀ = args .b in
+    let k₀ = args .k in
+    let pre = c .before .before .before .before .before .before .before .before .before .pre in
+    let loop = c .before .before .before .before .before .before .loop in
+    let a' = loop .a in
+    let loop-test = c .before .before .before .before .before .loop-test in
+    let less = c .before .before .before .before .less in
+    let stays = ap (λ (xs : List ℕ). getD xs (base₀ + (b₀ * stride₀ + a')) 0) (loop .inv .1) ∙ read-stay (pre .0) (pre .1) _ _ a' (loop .inv .0) in
+    let belows = (λ i. getD (loop .inv .1 i) (b₀ * stride₀ - stride₀ + less .ensures i) 0) ∙ read-below (pre .0) (pre .1) _ _ a' (loop-test .taken) in
+    let amounts =
+    (λ i. getD (loop .inv .2 i) (b₀ * stride₀ - stride₀ + less .ensures i) 0)
+    ∙ read-amount (pre .0) (pre .1) _ _ a' (loop-test .taken) in
     let best = c .better .ensures in
-    let value-is = best .0 ∙ ap₂ (λ (x y : ℕ). max x (c .before .before .before .before .before .before .before .before .before .args .k + y)) stays belows ∙ sym (value-step (cells (c .before .before .before .before .before .before .before .before .before .args .work .now) (c .before .before .before .before .before .before .before .before .before .args .base) (c .before .before .before .before .before .before .before .before .before .args .stride)) (c .before .before .before .before .before .before .before .before .before .args .k) (c .before .before .before .before .before .before .before .before .before .args .b) (c .before .before .before .before .before .before .loop .a) (c .before .before .before .before .before .before .before .before .before .pre .1 .some)) in
-    let amount-is = best .1 ∙ (λ i. cond (ltb (stays i) (c .before .before .before .before .before .before .before .before .before .args .k + belows i)) (1 + amounts i) 0) ∙ sym (amount-step (cells (c .before .before .before .before .before .before .before .before .before .args .work .now) (c .before .before .before .before .before .before .before .before .before .args .base) (c .before .before .before .before .before .before .before .before .before .args .stride)) (c .before .before .before .before .before .before .before .before .before .args .k) (c .before .before .before .before .before .before .before .before .before .args .b) (c .before .before .before .before .before .before .loop .a) (c .before .before .before .before .before .before .before .before .before .pre .1 .some)) in (
+    let value-is = best .0 ∙ ap₂ (λ (x y : ℕ). max x (k₀ + y)) stays belows ∙ sym (value-step (cells work₀ base₀ stride₀) k₀ b₀ a' (pre .1 .some)) in
+    let amount-is =
+    best .1
+    ∙ (λ i. cond (ltb (stays i) (k₀ + belows i)) (1 + amounts i) 0)
+    ∙ sym (amount-step (cells work₀ base₀ stride₀) k₀ b₀ a' (pre .1 .some)) in (
       omega arith,
-      (λ i. set (c .before .before .before .before .before .before .loop .inv .1 i) (c .before .before .before .before .before .before .before .before .before .args .b * c .before .before .before .before .before .before .before .before .before .args .stride + c .before .before .before .before .before .before .loop .a) (value-is i)) ∙ stored-next _ _ _ _,
-      (λ i. set (c .before .before .before .before .before .before .loop .inv .2 i) (c .before .before .before .before .before .before .before .before .before .args .b * c .before .before .before .before .before .before .before .before .before .args .stride + c .before .before .before .before .before .before .loop .a) (amount-is i)) ∙ stored-next _ _ _ _,
+      (λ i. set (loop .inv .1 i) (b₀ * stride₀ + a') (value-is i)) ∙ stored-next _ _ _ _,
+      (λ i. set (loop .inv .2 i) (b₀ * stride₀ + a') (amount-is i)) ∙ stored-next _ _ _ _,
     )
 
 same-length : tie.Need-same-length Inv-loop μ-loop

@@ -18,7 +18,11 @@ outcome-requires c κs = search needs
 
 returns : tie.Need-returns
 unfolding recordVerdict
-returns c = ap (λ (o : Outcome). o .number) (c .outcome .ensures) ∙ ap (λ (r : Reading). numberOf (readingVerdict r)) (c .before .read .ensures) ∙ ap numberOf (reading-verdict (c .before .before .before .args .bytes .now))
+returns c =
+    let args = c .before .before .before .args in
+    ap (λ (o : Outcome). o .number) (c .outcome .ensures)
+    ∙ ap (λ (r : Reading). numberOf (readingVerdict r)) (c .before .read .ensures)
+    ∙ ap numberOf (reading-verdict (args .bytes .now))
 
 pub gmwb-check-spec : {M : Type 1} → statement M
 gmwb-check-spec = tie.close (tie.spec read-requires outcome-requires returns)

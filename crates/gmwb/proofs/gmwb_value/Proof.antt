@@ -18,7 +18,20 @@ same-length-2 : tie.Need-same-length-2
 same-length-2 c = search needs
 
 returns : tie.Need-returns
-returns c = (ap (λ (x : Answer). x .number) (c .before .before .before .before .before .value .ensures .0), (ap (λ (x : Answer). x .place) (c .before .before .before .before .before .value .ensures .0), (ap (λ (x : Answer). x .value) (c .before .before .before .before .before .value .ensures .0), (toZ-ofZ (sfits-of (c .struct-told .given .1 .1 .1 .0 .1)) ∙ ap (λ (x : Answer). x .margin) (c .before .before .before .before .before .value .ensures .0), (c .before .before .before .before .before .value .ensures .1 .0, (c .before .before .before .before .before .value .ensures .1 .1 .0, c .before .before .before .before .before .value .ensures .1 .1 .1))))))
+returns c =
+    let value-of = c .before .before .before .before .before .value in (
+      ap (λ (x : Answer). x .number) (value-of .ensures .0),
+      (
+        ap (λ (x : Answer). x .place) (value-of .ensures .0),
+        (
+          ap (λ (x : Answer). x .value) (value-of .ensures .0),
+          (
+            toZ-ofZ (sfits-of (c .struct-told .given .1 .1 .1 .0 .1)) ∙ ap (λ (x : Answer). x .margin) (value-of .ensures .0),
+            (value-of .ensures .1 .0, (value-of .ensures .1 .1 .0, value-of .ensures .1 .1 .1)),
+          ),
+        ),
+      ),
+    )
 
 pub gmwb-value-spec : {M : Type 1} → statement M
 gmwb-value-spec = tie.close (tie.spec value-requires same-length same-length-2 returns)

@@ -14,7 +14,17 @@ same-length : tie.Need-same-length
 same-length c = search needs
 
 returns : tie.Need-returns
-returns c = (ap (λ (x : Answer). x .number) (c .before .before .before .value .ensures .0), (ap (λ (x : Answer). x .place) (c .before .before .before .value .ensures .0), (ap (λ (x : Answer). x .value) (c .before .before .before .value .ensures .0), (toZ-ofZ (sfits-of (c .struct-told .given .1 .1 .1 .0 .1)) ∙ ap (λ (x : Answer). x .margin) (c .before .before .before .value .ensures .0), c .before .before .before .value .ensures .1))))
+returns c =
+    let value-of = c .before .before .before .value in (
+      ap (λ (x : Answer). x .number) (value-of .ensures .0),
+      (
+        ap (λ (x : Answer). x .place) (value-of .ensures .0),
+        (
+          ap (λ (x : Answer). x .value) (value-of .ensures .0),
+          (toZ-ofZ (sfits-of (c .struct-told .given .1 .1 .1 .0 .1)) ∙ ap (λ (x : Answer). x .margin) (value-of .ensures .0), value-of .ensures .1),
+        ),
+      ),
+    )
 
 pub gmwb-value-table-spec : {M : Type 1} → statement M
 gmwb-value-table-spec = tie.close (tie.spec value-requires same-length returns)

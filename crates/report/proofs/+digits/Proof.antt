@@ -68,7 +68,11 @@ digits-returns-2 : (t : ℕ) → digits-lts.Need-returns-2 (
   digits-below t,
   digits.Post,
 ) (digits-at t) digits.Post
-digits-returns-2 t c = put-most {m = 1} (omega (arith, c .before .before .before .before .before .if1 .left)) (put-eq (sym (digits-one _ _ (omega (arith, c .before .before .before .before .before .if1 .left)) (c .before .before .before .before .if2 .taken))) (c .before .before .byte .ensures))
+digits-returns-2 t c =
+    let if1 = c .before .before .before .before .before .if1 in
+    let if2 = c .before .before .before .before .if2 in
+    let byte = c .before .before .byte in
+    put-most {m = 1} (omega (arith, if1 .left)) (put-eq (sym (digits-one _ _ (omega (arith, if1 .left)) (if2 .taken))) (byte .ensures))
 
 digits-sub-digits : (t : ℕ) → digits-lts.Need-sub-digits (
   byte-reads.Asked,
@@ -108,7 +112,11 @@ digits-byte-requires-2 : (t : ℕ) → digits-lts.Need-byte-requires-2 (
   digits-below t,
   digits.Post,
 ) (digits-at t) digits.Post
-digits-byte-requires-2 t c κs = omega (arith, c .before .before .before .before .before .before .before .before .pre .1, c .before .before .before .before .before .before .if1 .left, c .before .before .before .digits .ensures .within, c .before .before .before .digits .kept .0)
+digits-byte-requires-2 t c κs =
+    let pre = c .before .before .before .before .before .before .before .before .pre in
+    let if1 = c .before .before .before .before .before .before .if1 in
+    let digits = c .before .before .before .digits in
+    omega (arith, pre .1, if1 .left, digits .ensures .within, digits .kept .0)
 
 digits-same-length-2 : (t : ℕ) → digits-lts.Need-same-length-2 (
   byte-reads.Asked,
@@ -124,7 +132,13 @@ digits-returns-3 : (t : ℕ) → digits-lts.Need-returns-3 (
   digits-below t,
   digits.Post,
 ) (digits-at t) digits.Post
-digits-returns-3 t c = put-most {m = (c .before .before .before .before .before .before .before .before .before .before .before .args .places - 1) + 1} (omega (arith, c .before .before .before .before .before .before .before .before .before .if1 .left)) (put-eq (sym (digits-more _ _ (omega (arith, c .before .before .before .before .before .before .before .before .before .if1 .left)) (c .before .before .before .before .before .before .before .before .if2 .left))) (put-then (c .before .before .before .before .before .before .digits .ensures) (c .before .before .byte2 .ensures)))
+digits-returns-3 t c =
+    let args = c .before .before .before .before .before .before .before .before .before .before .before .args in
+    let if1 = c .before .before .before .before .before .before .before .before .before .if1 in
+    let if2 = c .before .before .before .before .before .before .before .before .if2 in
+    let digits = c .before .before .before .before .before .before .digits in
+    let byte2 = c .before .before .byte2 in
+    put-most {m = (args .places - 1) + 1} (omega (arith, if1 .left)) (put-eq (sym (digits-more _ _ (omega (arith, if1 .left)) (if2 .left))) (put-then (digits .ensures) (byte2 .ensures)))
 
 pub +digits-spec : {M : Type 1} → statement M
 +digits-spec = close μ-digits λ t. digits-lts.spec (

@@ -19,7 +19,33 @@ refusal-requires c κs = search needs
 
 returns : tie.Need-returns
 unfolding behaviourOf
-returns c = let w = c .refusal .ensures in let no-to = refuses (c .before .before .before .before .before .before .before .before .before .args .bytes .now) (c .before .before .before .before .before .before .before .before .before .args .list .now) _ _ _ (c .before .before .before .before .before .before .value-arg .given .0 .1) (c .before .before .before .before .before .value-arg2 .given .0 .1) (c .before .before .before .before .value .ensures .0) (c .before .before .if1 .taken) in (w .holds ∙ refused-printed (c .before .before .before .before .before .before .before .before .before .args .bytes .now) (c .before .before .before .before .before .before .before .before .before .args .list .now) _ _ _ (c .before .before .before .before .before .before .value-arg .given .0 .1) (c .before .before .before .before .before .value-arg2 .given .0 .1) (c .before .before .before .before .value .ensures .0) (c .before .before .if1 .taken), (put-counts w (omega (arith, c .refusal .kept .0, c .before .refusal-arg .given .0 .1)), (w .kept _ (le-refl _), (c .before .before .before .before .value .ensures .1 .0 ∙ work-left (c .before .before .before .before .before .before .before .before .before .args .bytes .now) (c .before .before .before .before .before .before .before .before .before .args .list .now) 0 _ _ (omega arith) (c .before .before .before .before .before .before .value-arg .given .0 .1) (c .before .before .before .before .before .value-arg2 .given .0 .1) ∙ work-kept (c .before .before .before .before .before .before .before .before .before .args .bytes .now) (c .before .before .before .before .before .before .before .before .before .args .list .now) no-to static dynamic _, (c .before .before .before .before .value .ensures .1 .1 .0 ∙ table-left (c .before .before .before .before .before .before .before .before .before .args .bytes .now) (c .before .before .before .before .before .before .before .before .before .args .list .now) 0 _ _ (omega arith) (c .before .before .before .before .before .before .value-arg .given .0 .1) (c .before .before .before .before .before .value-arg2 .given .0 .1), (table-kept (c .before .before .before .before .before .before .before .before .before .args .bytes .now) (c .before .before .before .before .before .before .before .before .before .args .list .now) no-to mixed _, table-kept (c .before .before .before .before .before .before .before .before .before .args .bytes .now) (c .before .before .before .before .before .before .before .before .before .args .list .now) no-to dynamic _))))))
+returns c =
+    let args = c .before .before .before .before .before .before .before .before .before .args in
+    let bytes₀ = args .bytes .now in
+    let list₀ = args .list .now in
+    let value-arg = c .before .before .before .before .before .before .value-arg in
+    let value-arg2 = c .before .before .before .before .before .value-arg2 in
+    let value = c .before .before .before .before .value in
+    let if1 = c .before .before .if1 in
+    let w = c .refusal .ensures in
+    let no-to = refuses bytes₀ list₀ _ _ _ (value-arg .given .0 .1) (value-arg2 .given .0 .1) (value .ensures .0) (if1 .taken) in (
+      w .holds ∙ refused-printed bytes₀ list₀ _ _ _ (value-arg .given .0 .1) (value-arg2 .given .0 .1) (value .ensures .0) (if1 .taken),
+      (
+        put-counts w (omega (arith, c .refusal .kept .0, c .before .refusal-arg .given .0 .1)),
+        (
+          w .kept _ (le-refl _),
+          (
+            value .ensures .1 .0
+                ∙ work-left bytes₀ list₀ 0 _ _ (omega arith) (value-arg .given .0 .1) (value-arg2 .given .0 .1)
+                ∙ work-kept bytes₀ list₀ no-to static dynamic _,
+            (
+              value .ensures .1 .1 .0 ∙ table-left bytes₀ list₀ 0 _ _ (omega arith) (value-arg .given .0 .1) (value-arg2 .given .0 .1),
+              (table-kept bytes₀ list₀ no-to mixed _, table-kept bytes₀ list₀ no-to dynamic _),
+            ),
+          ),
+        ),
+      ),
+    )
 
 value-requires-2 : tie.Need-value-requires-2
 value-requires-2 c κs = search needs
@@ -31,11 +57,69 @@ value-lines-requires : tie.Need-value-lines-requires
 value-lines-requires c κs = search needs
 
 all-lines-requires : tie.Need-all-lines-requires
-all-lines-requires c κs = let yes-to = program-accepts (c .before .before .before .before .before .before .before .before .before .before .before .before .before .before .before .before .before .before .before .before .before .before .args .bytes .now) (c .before .before .before .before .before .before .before .before .before .before .before .before .before .before .before .before .before .before .before .before .before .before .args .list .now) _ _ _ (c .before .before .before .before .before .before .before .before .before .before .before .before .before .before .before .before .before .before .before .value-arg .given .0 .1) (c .before .before .before .before .before .before .before .before .before .before .before .before .before .before .before .before .before .before .value-arg2 .given .0 .1) (c .before .before .before .before .before .before .before .before .before .before .before .before .before .before .before .before .before .value .ensures .0) (c .before .before .before .before .before .before .before .before .before .before .before .before .before .before .before .if1 .left) in (filled (c .before .before .before .before .before .before .before .before .before .before .before .before .before .before .before .before .before .before .before .before .before .before .args .bytes .now) (c .before .before .before .before .before .before .before .before .before .before .before .before .before .before .before .before .before .before .before .before .before .before .args .list .now) yes-to (c .before .before .before .before .before .all-lines-arg2 .given .0) (c .before .before .before .all-lines-arg4 .given .0) (c .before .all-lines-arg6 .given .0), omega (arith, c .before .before .before .before .before .before .before .value-lines .ensures .within, c .all-lines-arg7 .given .0 .1))
+all-lines-requires c κs =
+    let args = c .before .before .before .before .before .before .before .before .before .before .before .before .before .before .before .before .before .before .before .before .before .before .args in
+    let bytes₀ = args .bytes .now in
+    let list₀ = args .list .now in
+    let value-arg = c .before .before .before .before .before .before .before .before .before .before .before .before .before .before .before .before .before .before .before .value-arg in
+    let value-arg2 = c .before .before .before .before .before .before .before .before .before .before .before .before .before .before .before .before .before .before .value-arg2 in
+    let value = c .before .before .before .before .before .before .before .before .before .before .before .before .before .before .before .before .before .value in
+    let if1 = c .before .before .before .before .before .before .before .before .before .before .before .before .before .before .before .if1 in
+    let value-lines = c .before .before .before .before .before .before .before .value-lines in
+    let all-lines-arg2 = c .before .before .before .before .before .all-lines-arg2 in
+    let all-lines-arg4 = c .before .before .before .all-lines-arg4 in
+    let yes-to = program-accepts bytes₀ list₀ _ _ _ (value-arg .given .0 .1) (value-arg2 .given .0 .1) (value .ensures .0) (if1 .left) in (
+      filled bytes₀ list₀ yes-to (all-lines-arg2 .given .0) (all-lines-arg4 .given .0) (c .before .all-lines-arg6 .given .0),
+      omega (arith, value-lines .ensures .within, c .all-lines-arg7 .given .0 .1),
+    )
 
 returns-2 : tie.Need-returns-2
 unfolding behaviourOf
-returns-2 c = let yes-to = program-accepts (c .before .before .before .before .before .before .before .before .before .before .before .before .before .before .before .before .before .before .before .before .before .before .before .args .bytes .now) (c .before .before .before .before .before .before .before .before .before .before .before .before .before .before .before .before .before .before .before .before .before .before .before .args .list .now) _ _ _ (c .before .before .before .before .before .before .before .before .before .before .before .before .before .before .before .before .before .before .before .before .value-arg .given .0 .1) (c .before .before .before .before .before .before .before .before .before .before .before .before .before .before .before .before .before .before .before .value-arg2 .given .0 .1) (c .before .before .before .before .before .before .before .before .before .before .before .before .before .before .before .before .before .before .value .ensures .0) (c .before .before .before .before .before .before .before .before .before .before .before .before .before .before .before .before .if1 .left) in let w = put-then (c .before .before .before .before .before .before .before .before .value-lines .ensures) (c .all-lines .ensures) in let one = c .before .before .before .before .before .before .before .before .before .before .before .before .before .before .before .before .before .before .value .ensures .1 .0 ∙ work-left (c .before .before .before .before .before .before .before .before .before .before .before .before .before .before .before .before .before .before .before .before .before .before .before .args .bytes .now) (c .before .before .before .before .before .before .before .before .before .before .before .before .before .before .before .before .before .before .before .before .before .before .before .args .list .now) 0 _ _ (omega arith) (c .before .before .before .before .before .before .before .before .before .before .before .before .before .before .before .before .before .before .before .before .value-arg .given .0 .1) (c .before .before .before .before .before .before .before .before .before .before .before .before .before .before .before .before .before .before .before .value-arg2 .given .0 .1) in let two = c .before .before .before .before .before .before .before .before .before .before .before .before .before .value2 .ensures .1 .0 ∙ work-left (c .before .before .before .before .before .before .before .before .before .before .before .before .before .before .before .before .before .before .before .before .before .before .before .args .bytes .now) (c .before .before .before .before .before .before .before .before .before .before .before .before .before .before .before .before .before .before .before .before .before .before .before .args .list .now) 1 _ _ (omega arith) (c .before .before .before .before .before .before .before .before .before .before .before .before .before .before .before .value-arg3 .given .0 .1) (c .before .before .before .before .before .before .before .before .before .before .before .before .before .before .value-arg4 .given .0 .1) ∙ ap (workLeft (c .before .before .before .before .before .before .before .before .before .before .before .before .before .before .before .before .before .before .before .before .before .before .before .args .bytes .now) (c .before .before .before .before .before .before .before .before .before .before .before .before .before .before .before .before .before .before .before .before .before .before .before .args .list .now) mixed) one ∙ work-again (c .before .before .before .before .before .before .before .before .before .before .before .before .before .before .before .before .before .before .before .before .before .before .before .args .bytes .now) (c .before .before .before .before .before .before .before .before .before .before .before .before .before .before .before .before .before .before .before .before .before .before .before .args .list .now) static mixed _ in (w .holds ∙ accepted-printed (c .before .before .before .before .before .before .before .before .before .before .before .before .before .before .before .before .before .before .before .before .before .before .before .args .bytes .now) (c .before .before .before .before .before .before .before .before .before .before .before .before .before .before .before .before .before .before .before .before .before .before .before .args .list .now) (valued (c .before .before .before .before .before .before .before .before .before .before .before .before .before .before .before .before .before .before .before .before .before .before .before .args .bytes .now) (c .before .before .before .before .before .before .before .before .before .before .before .before .before .before .before .before .before .before .before .before .before .before .before .args .list .now) 0 _ _ _ _ (omega arith) (c .before .before .before .before .before .before .before .before .before .before .before .before .before .before .before .before .before .before .before .before .value-arg .given .0 .1) (c .before .before .before .before .before .before .before .before .before .before .before .before .before .before .before .before .before .before .before .value-arg2 .given .0 .1) yes-to (c .before .before .before .before .before .before .before .before .before .before .before .before .before .before .before .before .before .before .value .ensures .0) (c .before .before .before .before .before .before .before .before .before .before .before .before .before .before .before .before .before .before .value .ensures .1 .1 .0)) (valued (c .before .before .before .before .before .before .before .before .before .before .before .before .before .before .before .before .before .before .before .before .before .before .before .args .bytes .now) (c .before .before .before .before .before .before .before .before .before .before .before .before .before .before .before .before .before .before .before .before .before .before .before .args .list .now) 1 _ _ _ _ (omega arith) (c .before .before .before .before .before .before .before .before .before .before .before .before .before .before .before .value-arg3 .given .0 .1) (c .before .before .before .before .before .before .before .before .before .before .before .before .before .before .value-arg4 .given .0 .1) yes-to (c .before .before .before .before .before .before .before .before .before .before .before .before .before .value2 .ensures .0) (c .before .before .before .before .before .before .before .before .before .before .before .before .before .value2 .ensures .1 .1 .0)) (valued (c .before .before .before .before .before .before .before .before .before .before .before .before .before .before .before .before .before .before .before .before .before .before .before .args .bytes .now) (c .before .before .before .before .before .before .before .before .before .before .before .before .before .before .before .before .before .before .before .before .before .before .before .args .list .now) 2 _ _ _ _ (omega arith) (c .before .before .before .before .before .before .before .before .before .before .before .before .value-arg5 .given .0 .1) (c .before .before .before .before .before .before .before .before .before .before .before .value-arg6 .given .0 .1) yes-to (c .before .before .before .before .before .before .before .before .before .before .value3 .ensures .0) (c .before .before .before .before .before .before .before .before .before .before .value3 .ensures .1 .1 .0)) yes-to, (put-counts w (omega (arith, c .all-lines .kept .1 .1 .1 .1 .1 .0, c .before .all-lines-arg7 .given .0 .1)), (w .kept _ (le-refl _), (c .before .before .before .before .before .before .before .before .before .before .value3 .ensures .1 .0 ∙ work-left (c .before .before .before .before .before .before .before .before .before .before .before .before .before .before .before .before .before .before .before .before .before .before .before .args .bytes .now) (c .before .before .before .before .before .before .before .before .before .before .before .before .before .before .before .before .before .before .before .before .before .before .before .args .list .now) 2 _ _ (omega arith) (c .before .before .before .before .before .before .before .before .before .before .before .before .value-arg5 .given .0 .1) (c .before .before .before .before .before .before .before .before .before .before .before .value-arg6 .given .0 .1) ∙ ap (workLeft (c .before .before .before .before .before .before .before .before .before .before .before .before .before .before .before .before .before .before .before .before .before .before .before .args .bytes .now) (c .before .before .before .before .before .before .before .before .before .before .before .before .before .before .before .before .before .before .before .before .before .before .before .args .list .now) dynamic) two ∙ work-again (c .before .before .before .before .before .before .before .before .before .before .before .before .before .before .before .before .before .before .before .before .before .before .before .args .bytes .now) (c .before .before .before .before .before .before .before .before .before .before .before .before .before .before .before .before .before .before .before .before .before .before .before .args .list .now) mixed dynamic _, (c .before .before .before .before .before .before .before .before .before .before .before .before .before .before .before .before .before .before .value .ensures .1 .1 .0 ∙ table-left (c .before .before .before .before .before .before .before .before .before .before .before .before .before .before .before .before .before .before .before .before .before .before .before .args .bytes .now) (c .before .before .before .before .before .before .before .before .before .before .before .before .before .before .before .before .before .before .before .before .before .before .before .args .list .now) 0 _ _ (omega arith) (c .before .before .before .before .before .before .before .before .before .before .before .before .before .before .before .before .before .before .before .before .value-arg .given .0 .1) (c .before .before .before .before .before .before .before .before .before .before .before .before .before .before .before .before .before .before .before .value-arg2 .given .0 .1), (c .before .before .before .before .before .before .before .before .before .before .before .before .before .value2 .ensures .1 .1 .0 ∙ table-left (c .before .before .before .before .before .before .before .before .before .before .before .before .before .before .before .before .before .before .before .before .before .before .before .args .bytes .now) (c .before .before .before .before .before .before .before .before .before .before .before .before .before .before .before .before .before .before .before .before .before .before .before .args .list .now) 1 _ _ (omega arith) (c .before .before .before .before .before .before .before .before .before .before .before .before .before .before .before .value-arg3 .given .0 .1) (c .before .before .before .before .before .before .before .before .before .before .before .before .before .before .value-arg4 .given .0 .1), c .before .before .before .before .before .before .before .before .before .before .value3 .ensures .1 .1 .0 ∙ table-left (c .before .before .before .before .before .before .before .before .before .before .before .before .before .before .before .before .before .before .before .before .before .before .before .args .bytes .now) (c .before .before .before .before .before .before .before .before .before .before .before .before .before .before .before .before .before .before .before .before .before .before .before .args .list .now) 2 _ _ (omega arith) (c .before .before .before .before .before .before .before .before .before .before .before .before .value-arg5 .given .0 .1) (c .before .before .before .before .before .before .before .before .before .before .before .value-arg6 .given .0 .1)))))))
+returns-2 c =
+    let args = c .before .before .before .before .before .before .before .before .before .before .before .before .before .before .before .before .before .before .before .before .before .before .before .args in
+    let bytes₀ = args .bytes .now in
+    let list₀ = args .list .now in
+    let value-arg = c .before .before .before .before .before .before .before .before .before .before .before .before .before .before .before .before .before .before .before .before .value-arg in
+    let value-arg2 = c .before .before .before .before .before .before .before .before .before .before .before .before .before .before .before .before .before .before .before .value-arg2 in
+    let value = c .before .before .before .before .before .before .before .before .before .before .before .before .before .before .before .before .before .before .value in
+    let if1 = c .before .before .before .before .before .before .before .before .before .before .before .before .before .before .before .before .if1 in
+    let value-arg3 = c .before .before .before .before .before .before .before .before .before .before .before .before .before .before .before .value-arg3 in
+    let value-arg4 = c .before .before .before .before .before .before .before .before .before .before .before .before .before .before .value-arg4 in
+    let value2 = c .before .before .before .before .before .before .before .before .before .before .before .before .before .value2 in
+    let value-arg5 = c .before .before .before .before .before .before .before .before .before .before .before .before .value-arg5 in
+    let value-arg6 = c .before .before .before .before .before .before .before .before .before .before .before .value-arg6 in
+    let value3 = c .before .before .before .before .before .before .before .before .before .before .value3 in
+    let value-lines = c .before .before .before .before .before .before .before .before .value-lines in
+    let yes-to = program-accepts bytes₀ list₀ _ _ _ (value-arg .given .0 .1) (value-arg2 .given .0 .1) (value .ensures .0) (if1 .left) in
+    let w = put-then (value-lines .ensures) (c .all-lines .ensures) in
+    let one = value .ensures .1 .0 ∙ work-left bytes₀ list₀ 0 _ _ (omega arith) (value-arg .given .0 .1) (value-arg2 .given .0 .1) in
+    let two =
+    value2 .ensures .1 .0
+    ∙ work-left bytes₀ list₀ 1 _ _ (omega arith) (value-arg3 .given .0 .1) (value-arg4 .given .0 .1)
+    ∙ ap (workLeft bytes₀ list₀ mixed) one
+    ∙ work-again bytes₀ list₀ static mixed _ in (
+      w .holds
+          ∙ accepted-printed bytes₀ list₀ (valued bytes₀ list₀ 0 _ _ _ _ (omega arith) (value-arg .given .0 .1) (value-arg2 .given .0 .1) yes-to (value .ensures .0) (value .ensures .1 .1 .0)) (valued bytes₀ list₀ 1 _ _ _ _ (omega arith) (value-arg3 .given .0 .1) (value-arg4 .given .0 .1) yes-to (value2 .ensures .0) (value2 .ensures .1 .1 .0)) (valued bytes₀ list₀ 2 _ _ _ _ (omega arith) (value-arg5 .given .0 .1) (value-arg6 .given .0 .1) yes-to (value3 .ensures .0) (value3 .ensures .1 .1 .0)) yes-to,
+      (
+        put-counts w (omega (arith, c .all-lines .kept .1 .1 .1 .1 .1 .0, c .before .all-lines-arg7 .given .0 .1)),
+        (
+          w .kept _ (le-refl _),
+          (
+            value3 .ensures .1 .0
+                ∙ work-left bytes₀ list₀ 2 _ _ (omega arith) (value-arg5 .given .0 .1) (value-arg6 .given .0 .1)
+                ∙ ap (workLeft bytes₀ list₀ dynamic) two
+                ∙ work-again bytes₀ list₀ mixed dynamic _,
+            (
+              value .ensures .1 .1 .0 ∙ table-left bytes₀ list₀ 0 _ _ (omega arith) (value-arg .given .0 .1) (value-arg2 .given .0 .1),
+              (
+                value2 .ensures .1 .1 .0 ∙ table-left bytes₀ list₀ 1 _ _ (omega arith) (value-arg3 .given .0 .1) (value-arg4 .given .0 .1),
+                value3 .ensures .1 .1 .0 ∙ table-left bytes₀ list₀ 2 _ _ (omega arith) (value-arg5 .given .0 .1) (value-arg6 .given .0 .1),
+              ),
+            ),
+          ),
+        ),
+      ),
+    )
 
 pub print-spec : {M : Type 1} → statement M
 print-spec =

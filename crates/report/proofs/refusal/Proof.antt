@@ -25,7 +25,12 @@ same-length c = search needs
 
 returns : tie.Need-returns
 unfolding line numbered refusedWord
-returns c = put-then (c .before .before .before .before .before .before .before .before .before .before .before .before .before .before .word .ensures) (put-then (c .before .before .before .before .before .before .before .before .before .before .number .ensures) (put-then (c .before .before .before .before .before .before .number2 .ensures) (c .before .before .byte .ensures)))
+returns c =
+    let word = c .before .before .before .before .before .before .before .before .before .before .before .before .before .before .word in
+    let number = c .before .before .before .before .before .before .before .before .before .before .number in
+    let number2 = c .before .before .before .before .before .before .number2 in
+    let byte = c .before .before .byte in
+    put-then (word .ensures) (put-then (number .ensures) (put-then (number2 .ensures) (byte .ensures)))
 
 pub refusal-spec : {M : Type 1} → statement M
 refusal-spec =

@@ -23,7 +23,10 @@ unfolding linesOf
 loop-holds c = (omega arith, refl, put-none _ _ _)
 
 return-line-requires : tie.Need-return-line-requires Inv-loop μ-loop
-return-line-requires c κs = (c .before .before .before .before .before .before .before .before .pre .0, (c .before .loop-test .taken, omega (arith, c .before .before .before .before .before .before .before .before .pre .1, c .before .before .loop .inv .2 .within, c .before .before .loop .inv .1, c .before .loop-test .taken)))
+return-line-requires c κs =
+    let pre = c .before .before .before .before .before .before .before .before .pre in
+    let loop = c .before .before .loop in
+    (pre .0, (c .before .loop-test .taken, omega (arith, pre .1, loop .inv .2 .within, loop .inv .1, c .before .loop-test .taken)))
 
 add-k : tie.Need-add-k Inv-loop μ-loop
 add-k c = search needs
@@ -32,13 +35,26 @@ loop-less : tie.Need-loop-less Inv-loop μ-loop
 loop-less c = omega (arith, c .before .before .before .before .loop-test .taken)
 
 loop-again : tie.Need-loop-again Inv-loop μ-loop
-loop-again c = (omega (arith, c .before .before .before .before .loop-test .taken), c .before .before .return-line .kept .1 .1 .1 .1 .1 .1 .1 .0 ∙ c .before .before .before .before .before .loop .inv .1, put-line (tableLine (termsIn (c .before .before .before .before .before .before .before .before .before .before .before .args .c)) (returnsOf (c .before .before .before .before .before .before .before .before .before .before .before .args .list .now)) (c .before .before .before .before .before .before .before .before .before .before .before .args .statics .now) (c .before .before .before .before .before .before .before .before .before .before .before .args .mixeds .now) (c .before .before .before .before .before .before .before .before .before .before .before .args .dynamics .now)) (c .before .before .before .before .before .loop .inv .2) (c .before .before .return-line .ensures))
+loop-again c =
+    let args = c .before .before .before .before .before .before .before .before .before .before .before .args in
+    let loop = c .before .before .before .before .before .loop in
+    let loop-test = c .before .before .before .before .loop-test in
+    let return-line = c .before .before .return-line in (
+      omega (arith, loop-test .taken),
+      return-line .kept .1 .1 .1 .1 .1 .1 .1 .0 ∙ loop .inv .1,
+      put-line (tableLine (termsIn (args .c)) (returnsOf (args .list .now)) (args .statics .now) (args .mixeds .now) (args .dynamics .now)) (loop .inv .2) (return-line .ensures),
+    )
 
 same-length : tie.Need-same-length Inv-loop μ-loop
 same-length c = c .before .loop .inv .1
 
 returns : tie.Need-returns Inv-loop μ-loop
-returns c = let e : c .before .loop .k ≡ c .before .before .before .before .before .before .before .args .count = omega (arith, c .before .loop .inv .0, c .loop-test .left) in put-eq (ap (linesOf (tableLine (termsIn (c .before .before .before .before .before .before .before .args .c)) (returnsOf (c .before .before .before .before .before .before .before .args .list .now)) (c .before .before .before .before .before .before .before .args .statics .now) (c .before .before .before .before .before .before .before .args .mixeds .now) (c .before .before .before .before .before .before .before .args .dynamics .now))) e) (put-most {m = 126 * c .before .loop .k} (omega arith) (c .before .loop .inv .2))
+returns c =
+    let args = c .before .before .before .before .before .before .before .args in
+    let loop = c .before .loop in
+    let k' = loop .k in
+    let e : k' ≡ args .count = omega (arith, loop .inv .0, c .loop-test .left) in
+    put-eq (ap (linesOf (tableLine (termsIn (args .c)) (returnsOf (args .list .now)) (args .statics .now) (args .mixeds .now) (args .dynamics .now))) e) (put-most {m = 126 * k'} (omega arith) (loop .inv .2))
 
 pub return-lines-spec : {M : Type 1} → statement M
 return-lines-spec =

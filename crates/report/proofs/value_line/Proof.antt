@@ -19,7 +19,11 @@ same-length c = search needs
 
 returns : tie.Need-returns
 unfolding line numbered
-returns c = put-then (c .before .before .before .before .before .before .before .before .before .before .word .ensures) (put-then (c .before .before .before .before .before .before .number .ensures) (c .before .before .byte .ensures))
+returns c =
+    let word = c .before .before .before .before .before .before .before .before .before .before .word in
+    let number = c .before .before .before .before .before .before .number in
+    let byte = c .before .before .byte in
+    put-then (word .ensures) (put-then (number .ensures) (byte .ensures))
 
 pub value-line-spec : {M : Type 1} → statement M
 value-line-spec =

@@ -28,7 +28,11 @@ same-length c = search needs
 
 returns : tie.Need-returns
 unfolding nameOf
-returns c = put-then (put-then (c .before .before .before .before .before .before .before .before .before .before .before .before .value-line .ensures) (c .before .before .before .before .before .before .before .value-line2 .ensures)) (c .before .before .value-line3 .ensures)
+returns c =
+    let value-line = c .before .before .before .before .before .before .before .before .before .before .before .before .value-line in
+    let value-line2 = c .before .before .before .before .before .before .before .value-line2 in
+    let value-line3 = c .before .before .value-line3 in
+    put-then (put-then (value-line .ensures) (value-line2 .ensures)) (value-line3 .ensures)
 
 pub value-lines-spec : {M : Type 1} → statement M
 value-lines-spec =

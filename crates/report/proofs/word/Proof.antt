@@ -33,13 +33,24 @@ loop-less : tie.Need-loop-less Inv-loop μ-loop
 loop-less c = omega (arith, c .before .before .before .before .before .loop-test .taken)
 
 loop-again : tie.Need-loop-again Inv-loop μ-loop
-loop-again c = (omega (arith, c .before .before .before .before .before .loop-test .taken), c .before .before .byte .kept .0 ∙ c .before .before .before .before .before .before .loop .inv .1, put-next (c .before .before .before .before .before .before .before .before .before .args .text .now) (c .before .before .before .before .before .loop-test .taken) (c .before .before .before .before .before .before .loop .inv .2) (c .before .before .byte .ensures))
+loop-again c =
+    let args = c .before .before .before .before .before .before .before .before .before .args in
+    let loop = c .before .before .before .before .before .before .loop in
+    let loop-test = c .before .before .before .before .before .loop-test in
+    let byte = c .before .before .byte in
+    (omega (arith, loop-test .taken), byte .kept .0 ∙ loop .inv .1, put-next (args .text .now) (loop-test .taken) (loop .inv .2) (byte .ensures))
 
 same-length : tie.Need-same-length Inv-loop μ-loop
 same-length c = c .before .loop .inv .1
 
 returns : tie.Need-returns Inv-loop μ-loop
-returns c = let e : c .before .loop .i ≡ length (c .before .before .before .before .args .text .now) = omega (arith, c .before .loop .inv .0, c .loop-test .left) in put-eq (ap (λ (k : ℕ). take k (c .before .before .before .before .args .text .now)) e ∙ take-length _) (put-most {m = c .before .loop .i} (omega arith) (c .before .loop .inv .2))
+returns c =
+    let args = c .before .before .before .before .args in
+    let text₀ = args .text .now in
+    let loop = c .before .loop in
+    let i' = loop .i in
+    let e : i' ≡ length text₀ = omega (arith, loop .inv .0, c .loop-test .left) in
+    put-eq (ap (λ (k : ℕ). take k text₀) e ∙ take-length _) (put-most {m = i'} (omega arith) (loop .inv .2))
 
 pub word-spec : {M : Type 1} → statement M
 word-spec =

@@ -34,11 +34,19 @@ admits-dynamic-requires c κs = search needs
 
 returns : tie.Need-returns
 unfolding badAt admissibleIn layoutOf freeIn
-returns c = rw (sym (c .before .admits-dynamic .ensures ∙ ap₂ (λ (m t : ℕ). admits dynamic m (c .before .before .before .before .before .before .before .args .e / (c .before .before .before .before .before .before .before .args .c .premium + 1)) t) (c .before .before .before .before .free-amount .ensures) (c .before .before .wide-amount .ensures .0)) ∙ c .if1 .taken)
+returns c =
+    let args = c .before .before .before .before .before .before .before .args in
+    let free-amount = c .before .before .before .before .free-amount in
+    let wide-amount = c .before .before .wide-amount in
+    rw (sym (c .before .admits-dynamic .ensures ∙ ap₂ (λ (m t : ℕ). admits dynamic m (args .e / (args .c .premium + 1)) t) (free-amount .ensures) (wide-amount .ensures .0)) ∙ c .if1 .taken)
 
 returns-2 : tie.Need-returns-2
 unfolding badAt admissibleIn layoutOf freeIn
-returns-2 c = rw (sym (c .before .admits-dynamic .ensures ∙ ap₂ (λ (m t : ℕ). admits dynamic m (c .before .before .before .before .before .before .before .args .e / (c .before .before .before .before .before .before .before .args .c .premium + 1)) t) (c .before .before .before .before .free-amount .ensures) (c .before .before .wide-amount .ensures .0)) ∙ c .if1 .left)
+returns-2 c =
+    let args = c .before .before .before .before .before .before .before .args in
+    let free-amount = c .before .before .before .before .free-amount in
+    let wide-amount = c .before .before .wide-amount in
+    rw (sym (c .before .admits-dynamic .ensures ∙ ap₂ (λ (m t : ℕ). admits dynamic m (args .e / (args .c .premium + 1)) t) (free-amount .ensures) (wide-amount .ensures .0)) ∙ c .if1 .left)
 
 pub bad-entry-spec : {M : Type 1} → statement M
 bad-entry-spec =

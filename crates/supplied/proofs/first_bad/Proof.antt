@@ -37,42 +37,102 @@ loop-holds c = subst (Searched _ _) (sym (zero-mul ((c .before .before .before .
 
 mul-from : tie.Need-mul-from Inv-loop μ-loop
 unfolding layerSize tableSize
-mul-from c = let f = search-fits (termsIn (c .before .before .before .before .before .before .args .c)) (c .before .before .before .before .before .before .args .table .now) (c .before .loop .j) (c .loop-test .taken) in let d = dates-le (c .before .before .before .before .before .before .pre .0) in let s = rows-step ((c .before .before .before .before .before .before .args .c .top + 1) * (c .before .before .before .before .before .before .args .c .premium + 1)) (c .before .loop .j) in omega (arith, c .before .before .before .before .before .before .pre .1)
+mul-from c =
+    let args = c .before .before .before .before .before .before .args in
+    let pre = c .before .before .before .before .before .before .pre in
+    let f = search-fits (termsIn (args .c)) (args .table .now) (c .before .loop .j) (c .loop-test .taken) in
+    let d = dates-le (pre .0) in
+    let s = rows-step ((args .c .top + 1) * (args .c .premium + 1)) (c .before .loop .j) in
+    omega (arith, pre .1)
 
 add-to : tie.Need-add-to Inv-loop μ-loop
 add-to c = omega (arith, c .before .before .before .before .before .before .pre .0 .dates)
 
 mul-to : tie.Need-mul-to Inv-loop μ-loop
 unfolding layerSize tableSize
-mul-to c = let f = search-fits (termsIn (c .before .before .before .before .before .before .args .c)) (c .before .before .before .before .before .before .args .table .now) (c .before .loop .j) (c .loop-test .taken) in let d = dates-le (c .before .before .before .before .before .before .pre .0) in let s = rows-step ((c .before .before .before .before .before .before .args .c .top + 1) * (c .before .before .before .before .before .before .args .c .premium + 1)) (c .before .loop .j) in omega (arith, c .before .before .before .before .before .before .pre .1)
+mul-to c =
+    let args = c .before .before .before .before .before .before .args in
+    let pre = c .before .before .before .before .before .before .pre in
+    let f = search-fits (termsIn (args .c)) (args .table .now) (c .before .loop .j) (c .loop-test .taken) in
+    let d = dates-le (pre .0) in
+    let s = rows-step ((args .c .top + 1) * (args .c .premium + 1)) (c .before .loop .j) in
+    omega (arith, pre .1)
 
 mul-first-in-layer : tie.Need-mul-first-in-layer Inv-loop μ-loop
 unfolding layerSize tableSize
-mul-first-in-layer c = let f = search-fits (termsIn (c .before .before .before .before .before .before .args .c)) (c .before .before .before .before .before .before .args .table .now) (c .before .loop .j) (c .loop-test .taken) in let d = dates-le (c .before .before .before .before .before .before .pre .0) in let s = rows-step ((c .before .before .before .before .before .before .args .c .top + 1) * (c .before .before .before .before .before .before .args .c .premium + 1)) (c .before .loop .j) in omega (arith, c .before .before .before .before .before .before .pre .1)
+mul-first-in-layer c =
+    let args = c .before .before .before .before .before .before .args in
+    let pre = c .before .before .before .before .before .before .pre in
+    let f = search-fits (termsIn (args .c)) (args .table .now) (c .before .loop .j) (c .loop-test .taken) in
+    let d = dates-le (pre .0) in
+    let s = rows-step ((args .c .top + 1) * (args .c .premium + 1)) (c .before .loop .j) in
+    omega (arith, pre .1)
 
 sub-first-in-layer : tie.Need-sub-first-in-layer Inv-loop μ-loop
 unfolding layerSize tableSize
-sub-first-in-layer c = let f = search-fits (termsIn (c .before .before .before .before .before .before .args .c)) (c .before .before .before .before .before .before .args .table .now) (c .before .loop .j) (c .loop-test .taken) in let d = dates-le (c .before .before .before .before .before .before .pre .0) in let s = rows-step ((c .before .before .before .before .before .before .args .c .top + 1) * (c .before .before .before .before .before .before .args .c .premium + 1)) (c .before .loop .j) in omega (arith, c .before .before .before .before .before .before .pre .1)
+sub-first-in-layer c =
+    let args = c .before .before .before .before .before .before .args in
+    let pre = c .before .before .before .before .before .before .pre in
+    let f = search-fits (termsIn (args .c)) (args .table .now) (c .before .loop .j) (c .loop-test .taken) in
+    let d = dates-le (pre .0) in
+    let s = rows-step ((args .c .top + 1) * (args .c .premium + 1)) (c .before .loop .j) in
+    omega (arith, pre .1)
 
 part-first-in-layer-start : tie.Need-part-first-in-layer-start Inv-loop μ-loop
 unfolding layerSize tableSize
-part-first-in-layer-start c = let f = search-fits (termsIn (c .before .before .before .before .before .before .args .c)) (c .before .before .before .before .before .before .args .table .now) (c .before .loop .j) (c .loop-test .taken) in let d = dates-le (c .before .before .before .before .before .before .pre .0) in let s = rows-step ((c .before .before .before .before .before .before .args .c .top + 1) * (c .before .before .before .before .before .before .args .c .premium + 1)) (c .before .loop .j) in omega (arith, c .before .before .before .before .before .before .pre .1)
+part-first-in-layer-start c =
+    let args = c .before .before .before .before .before .before .args in
+    let pre = c .before .before .before .before .before .before .pre in
+    let f = search-fits (termsIn (args .c)) (args .table .now) (c .before .loop .j) (c .loop-test .taken) in
+    let d = dates-le (pre .0) in
+    let s = rows-step ((args .c .top + 1) * (args .c .premium + 1)) (c .before .loop .j) in
+    omega (arith, pre .1)
 
 part-first-in-layer-end : tie.Need-part-first-in-layer-end Inv-loop μ-loop
 unfolding layerSize tableSize
-part-first-in-layer-end c = let f = search-fits (termsIn (c .before .before .before .before .before .before .args .c)) (c .before .before .before .before .before .before .args .table .now) (c .before .loop .j) (c .loop-test .taken) in let d = dates-le (c .before .before .before .before .before .before .pre .0) in let s = rows-step ((c .before .before .before .before .before .before .args .c .top + 1) * (c .before .before .before .before .before .before .args .c .premium + 1)) (c .before .loop .j) in omega (arith, c .before .before .before .before .before .before .pre .1)
+part-first-in-layer-end c =
+    let args = c .before .before .before .before .before .before .args in
+    let pre = c .before .before .before .before .before .before .pre in
+    let f = search-fits (termsIn (args .c)) (args .table .now) (c .before .loop .j) (c .loop-test .taken) in
+    let d = dates-le (pre .0) in
+    let s = rows-step ((args .c .top + 1) * (args .c .premium + 1)) (c .before .loop .j) in
+    omega (arith, pre .1)
 
 first-in-layer-requires : tie.Need-first-in-layer-requires Inv-loop μ-loop
 unfolding layerSize tableSize
-first-in-layer-requires c κs = (c .before .before .before .before .before .before .before .pre .0, (let f = search-fits (termsIn (c .before .before .before .before .before .before .before .args .c)) (c .before .before .before .before .before .before .before .args .table .now) (c .before .before .loop .j) (c .before .loop-test .taken) in let s = rows-step ((c .before .before .before .before .before .before .before .args .c .top + 1) * (c .before .before .before .before .before .before .before .args .c .premium + 1)) (c .before .before .loop .j) in let m = mid-len (c .before .before .loop .j * ((c .before .before .before .before .before .before .before .args .c .top + 1) * (c .before .before .before .before .before .before .before .args .c .premium + 1))) ((c .before .before .loop .j + 1) * ((c .before .before .before .before .before .before .before .args .c .top + 1) * (c .before .before .before .before .before .before .before .args .c .premium + 1))) (c .before .before .before .before .before .before .before .args .table .now) (omega (arith, c .before .before .before .before .before .before .before .pre .1)) in omega arith))
+first-in-layer-requires c κs =
+    let args = c .before .before .before .before .before .before .before .args in
+    let table₀ = args .table .now in
+    let pre = c .before .before .before .before .before .before .before .pre in
+    let loop = c .before .before .loop in
+    let j' = loop .j in (
+      pre .0,
+      (let f = search-fits (termsIn (args .c)) table₀ j' (c .before .loop-test .taken) in let s = rows-step ((args .c .top + 1) * (args .c .premium + 1)) j' in let m = mid-len (j' * ((args .c .top + 1) * (args .c .premium + 1))) ((j' + 1) * ((args .c .top + 1) * (args .c .premium + 1))) table₀ (omega (arith, pre .1)) in omega arith),
+    )
 
 add-result : tie.Need-add-result Inv-loop μ-loop
 unfolding layerSize tableSize
-add-result c = let f = search-fits (termsIn (c .before .before .before .before .before .before .before .before .before .args .c)) (c .before .before .before .before .before .before .before .before .before .args .table .now) (c .before .before .before .before .loop .j) (c .before .before .before .loop-test .taken) in let d = dates-le (c .before .before .before .before .before .before .before .before .before .pre .0) in let s = rows-step ((c .before .before .before .before .before .before .before .before .before .args .c .top + 1) * (c .before .before .before .before .before .before .before .before .before .args .c .premium + 1)) (c .before .before .before .before .loop .j) in omega (arith, c .before .before .before .before .before .before .before .before .before .pre .1)
+add-result c =
+    let args = c .before .before .before .before .before .before .before .before .before .args in
+    let pre = c .before .before .before .before .before .before .before .before .before .pre in
+    let loop = c .before .before .before .before .loop in
+    let j' = loop .j in
+    let loop-test = c .before .before .before .loop-test in
+    let f = search-fits (termsIn (args .c)) (args .table .now) j' (loop-test .taken) in
+    let d = dates-le (pre .0) in
+    let s = rows-step ((args .c .top + 1) * (args .c .premium + 1)) j' in
+    omega (arith, pre .1)
 
 returns : tie.Need-returns Inv-loop μ-loop
 unfolding layerSize tableSize
-returns c = sym (run-hit (c .before .before .before .before .loop .inv) (search-fits (termsIn (c .before .before .before .before .before .before .before .before .before .args .c)) (c .before .before .before .before .before .before .before .before .before .args .table .now) (c .before .before .before .before .loop .j) (c .before .before .before .loop-test .taken)) (search-same (termsIn (c .before .before .before .before .before .before .before .before .before .args .c)) (c .before .before .before .before .before .before .before .before .before .args .table .now) (c .before .before .before .before .loop .j) (c .before .before .before .loop-test .taken)) (sym (c .before .first-in-layer .ensures)) (c .if1 .taken))
+returns c =
+    let args = c .before .before .before .before .before .before .before .before .before .args in
+    let table₀ = args .table .now in
+    let c₀ = args .c in
+    let loop = c .before .before .before .before .loop in
+    let j' = loop .j in
+    let loop-test = c .before .before .before .loop-test in
+    sym (run-hit (loop .inv) (search-fits (termsIn c₀) table₀ j' (loop-test .taken)) (search-same (termsIn c₀) table₀ j' (loop-test .taken)) (sym (c .before .first-in-layer .ensures)) (c .if1 .taken))
 
 add-j : tie.Need-add-j Inv-loop μ-loop
 add-j c = omega (arith, c .before .before .before .before .before .before .before .before .before .pre .0 .dates)
@@ -82,7 +142,14 @@ loop-less c = omega arith
 
 loop-again : tie.Need-loop-again Inv-loop μ-loop
 unfolding layerSize tableSize
-loop-again c = subst (Searched _ _) (rows-step ((c .before .before .before .before .before .before .before .before .before .args .c .top + 1) * (c .before .before .before .before .before .before .before .before .before .args .c .premium + 1)) (c .before .before .before .before .loop .j)) (run-end (c .before .before .before .before .loop .inv) (search-fits (termsIn (c .before .before .before .before .before .before .before .before .before .args .c)) (c .before .before .before .before .before .before .before .before .before .args .table .now) (c .before .before .before .before .loop .j) (c .before .before .before .loop-test .taken)) (search-same (termsIn (c .before .before .before .before .before .before .before .before .before .args .c)) (c .before .before .before .before .before .before .before .before .before .args .table .now) (c .before .before .before .before .loop .j) (c .before .before .before .loop-test .taken)) (sym (c .before .first-in-layer .ensures)) (c .if1 .left))
+loop-again c =
+    let args = c .before .before .before .before .before .before .before .before .before .args in
+    let table₀ = args .table .now in
+    let c₀ = args .c in
+    let loop = c .before .before .before .before .loop in
+    let j' = loop .j in
+    let loop-test = c .before .before .before .loop-test in
+    subst (Searched _ _) (rows-step ((args .c .top + 1) * (args .c .premium + 1)) j') (run-end (loop .inv) (search-fits (termsIn c₀) table₀ j' (loop-test .taken)) (search-same (termsIn c₀) table₀ j' (loop-test .taken)) (sym (c .before .first-in-layer .ensures)) (c .if1 .left))
 
 mul-result : tie.Need-mul-result Inv-loop μ-loop
 unfolding layerSize tableSize
@@ -90,7 +157,9 @@ mul-result c = let d = dates-le (c .before .before .before .before .before .befo
 
 returns-2 : tie.Need-returns-2 Inv-loop μ-loop
 unfolding layerSize tableSize
-returns-2 c = sym (search-end (c .before .loop .inv) (rows-le ((c .before .before .before .before .before .before .args .c .top + 1) * (c .before .before .before .before .before .before .args .c .premium + 1)) (c .before .before .before .before .before .before .args .c .dates - 1) (c .before .loop .j) (c .loop-test .left)))
+returns-2 c =
+    let args = c .before .before .before .before .before .before .args in
+    sym (search-end (c .before .loop .inv) (rows-le ((args .c .top + 1) * (args .c .premium + 1)) (args .c .dates - 1) (c .before .loop .j) (c .loop-test .left)))
 
 pub first-bad-spec : {M : Type 1} → statement M
 first-bad-spec =

@@ -19,13 +19,20 @@ mul-follow-layer : tie.Need-mul-follow-layer
 mul-follow-layer c = let s = size-le (c .before .before .before .before .before .before .before .before .before .before .pre .layers .valid) in omega arith
 
 follow-layer-requires : tie.Need-follow-layer-requires
-follow-layer-requires c κs = following (c .before .before .before .before .before .before .before .before .before .before .pre) (c .before .before .before .expect-layer .last .0) (c .before .before .before .expect-layer .ensures)
+follow-layer-requires c κs =
+    let pre = c .before .before .before .before .before .before .before .before .before .before .pre in
+    let expect-layer = c .before .before .before .expect-layer in
+    following pre (expect-layer .last .0) (expect-layer .ensures)
 
 same-length : tie.Need-same-length
 same-length c = search needs
 
 returns : tie.Need-returns
-returns c = back (c .before .before .before .before .before .before .before .before .before .before .before .before .before .pre) (c .before .before .before .before .before .before .expect-layer .last .0) (c .before .before .before .before .before .before .expect-layer .ensures) _ (c .before .before .follow-layer .ensures)
+returns c =
+    let pre = c .before .before .before .before .before .before .before .before .before .before .before .before .before .pre in
+    let expect-layer = c .before .before .before .before .before .before .expect-layer in
+    let follow-layer = c .before .before .follow-layer in
+    back pre (expect-layer .last .0) (expect-layer .ensures) _ (follow-layer .ensures)
 
 pub follow-date-spec : {M : Type 1} → statement M
 follow-date-spec =

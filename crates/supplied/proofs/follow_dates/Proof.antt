@@ -38,31 +38,71 @@ sub-from c = omega arith
 
 mul-from : tie.Need-mul-from Inv-loop μ-loop
 unfolding layerSize tableSize
-mul-from c = let e = layer-end (c .before .before .before .before .before .before .before .before .pre) (c .loop-test .taken) (c .before .loop .inv .0) (c .before .loop .inv .1) in let w = layer-within (c .before .before .before .before .before .before .before .before .pre) (c .loop-test .taken) (c .before .loop .inv .0) (c .before .loop .inv .1) in let d = dates-le (c .before .before .before .before .before .before .before .before .pre .layers .valid) in omega (arith, c .before .before .before .before .before .before .before .before .pre .entries)
+mul-from c =
+    let pre = c .before .before .before .before .before .before .before .before .pre in
+    let loop = c .before .loop in
+    let e = layer-end pre (c .loop-test .taken) (loop .inv .0) (loop .inv .1) in
+    let w = layer-within pre (c .loop-test .taken) (loop .inv .0) (loop .inv .1) in
+    let d = dates-le (pre .layers .valid) in
+    omega (arith, pre .entries)
 
 mul-to : tie.Need-mul-to Inv-loop μ-loop
 unfolding layerSize tableSize
-mul-to c = let e = layer-end (c .before .before .before .before .before .before .before .before .pre) (c .loop-test .taken) (c .before .loop .inv .0) (c .before .loop .inv .1) in let w = layer-within (c .before .before .before .before .before .before .before .before .pre) (c .loop-test .taken) (c .before .loop .inv .0) (c .before .loop .inv .1) in let d = dates-le (c .before .before .before .before .before .before .before .before .pre .layers .valid) in omega (arith, c .before .before .before .before .before .before .before .before .pre .entries)
+mul-to c =
+    let pre = c .before .before .before .before .before .before .before .before .pre in
+    let loop = c .before .loop in
+    let e = layer-end pre (c .loop-test .taken) (loop .inv .0) (loop .inv .1) in
+    let w = layer-within pre (c .loop-test .taken) (loop .inv .0) (loop .inv .1) in
+    let d = dates-le (pre .layers .valid) in
+    omega (arith, pre .entries)
 
 mul-follow-date : tie.Need-mul-follow-date Inv-loop μ-loop
 unfolding layerSize tableSize
-mul-follow-date c = let e = layer-end (c .before .before .before .before .before .before .before .before .before .pre) (c .before .loop-test .taken) (c .before .before .loop .inv .0) (c .before .before .loop .inv .1) in let w = layer-within (c .before .before .before .before .before .before .before .before .before .pre) (c .before .loop-test .taken) (c .before .before .loop .inv .0) (c .before .before .loop .inv .1) in let d = dates-le (c .before .before .before .before .before .before .before .before .before .pre .layers .valid) in omega (arith, c .before .before .before .before .before .before .before .before .before .pre .entries)
+mul-follow-date c =
+    let pre = c .before .before .before .before .before .before .before .before .before .pre in
+    let loop = c .before .before .loop in
+    let e = layer-end pre (c .before .loop-test .taken) (loop .inv .0) (loop .inv .1) in
+    let w = layer-within pre (c .before .loop-test .taken) (loop .inv .0) (loop .inv .1) in
+    let d = dates-le (pre .layers .valid) in
+    omega (arith, pre .entries)
 
 sub-follow-date : tie.Need-sub-follow-date Inv-loop μ-loop
 unfolding layerSize tableSize
-sub-follow-date c = let e = layer-end (c .before .before .before .before .before .before .before .before .before .pre) (c .before .loop-test .taken) (c .before .before .loop .inv .0) (c .before .before .loop .inv .1) in let w = layer-within (c .before .before .before .before .before .before .before .before .before .pre) (c .before .loop-test .taken) (c .before .before .loop .inv .0) (c .before .before .loop .inv .1) in let d = dates-le (c .before .before .before .before .before .before .before .before .before .pre .layers .valid) in omega (arith, c .before .before .before .before .before .before .before .before .before .pre .entries)
+sub-follow-date c =
+    let pre = c .before .before .before .before .before .before .before .before .before .pre in
+    let loop = c .before .before .loop in
+    let e = layer-end pre (c .before .loop-test .taken) (loop .inv .0) (loop .inv .1) in
+    let w = layer-within pre (c .before .loop-test .taken) (loop .inv .0) (loop .inv .1) in
+    let d = dates-le (pre .layers .valid) in
+    omega (arith, pre .entries)
 
 part-follow-date-start : tie.Need-part-follow-date-start Inv-loop μ-loop
 unfolding layerSize tableSize
-part-follow-date-start c = let e = layer-end (c .before .before .before .before .before .before .before .before .before .pre) (c .before .loop-test .taken) (c .before .before .loop .inv .0) (c .before .before .loop .inv .1) in let w = layer-within (c .before .before .before .before .before .before .before .before .before .pre) (c .before .loop-test .taken) (c .before .before .loop .inv .0) (c .before .before .loop .inv .1) in let d = dates-le (c .before .before .before .before .before .before .before .before .before .pre .layers .valid) in omega (arith, c .before .before .before .before .before .before .before .before .before .pre .entries)
+part-follow-date-start c =
+    let pre = c .before .before .before .before .before .before .before .before .before .pre in
+    let loop = c .before .before .loop in
+    let e = layer-end pre (c .before .loop-test .taken) (loop .inv .0) (loop .inv .1) in
+    let w = layer-within pre (c .before .loop-test .taken) (loop .inv .0) (loop .inv .1) in
+    let d = dates-le (pre .layers .valid) in
+    omega (arith, pre .entries)
 
 part-follow-date-end : tie.Need-part-follow-date-end Inv-loop μ-loop
 unfolding layerSize tableSize
-part-follow-date-end c = let e = layer-end (c .before .before .before .before .before .before .before .before .before .pre) (c .before .loop-test .taken) (c .before .before .loop .inv .0) (c .before .before .loop .inv .1) in let w = layer-within (c .before .before .before .before .before .before .before .before .before .pre) (c .before .loop-test .taken) (c .before .before .loop .inv .0) (c .before .before .loop .inv .1) in let d = dates-le (c .before .before .before .before .before .before .before .before .before .pre .layers .valid) in omega (arith, c .before .before .before .before .before .before .before .before .before .pre .entries)
+part-follow-date-end c =
+    let pre = c .before .before .before .before .before .before .before .before .before .pre in
+    let loop = c .before .before .loop in
+    let e = layer-end pre (c .before .loop-test .taken) (loop .inv .0) (loop .inv .1) in
+    let w = layer-within pre (c .before .loop-test .taken) (loop .inv .0) (loop .inv .1) in
+    let d = dates-le (pre .layers .valid) in
+    omega (arith, pre .entries)
 
 follow-date-requires : tie.Need-follow-date-requires Inv-loop μ-loop
 unfolding layerSize
-follow-date-requires c κs = one-date (c .before .before .before .before .before .before .before .before .before .before .pre) (c .before .before .loop-test .taken) (c .before .before .before .loop .inv .0) (c .before .before .before .loop .inv .1)
+follow-date-requires c κs =
+    let pre = c .before .before .before .before .before .before .before .before .before .before .pre in
+    let loop = c .before .before .before .loop in
+    let loop-test = c .before .before .loop-test in
+    one-date pre (loop-test .taken) (loop .inv .0) (loop .inv .1)
 
 sub-i-2 : tie.Need-sub-i-2 Inv-loop μ-loop
 sub-i-2 c = omega arith
@@ -72,7 +112,12 @@ loop-less c = omega arith
 
 loop-again : tie.Need-loop-again Inv-loop μ-loop
 unfolding layerSize
-loop-again c = (omega (arith, c .before .before .before .before .before .before .loop .inv .0), first-before (c .before .before .before .before .before .before .before .before .before .before .before .before .before .pre) (c .before .before .before .before .before .loop-test .taken) (c .before .before .before .before .before .before .loop .inv .0) (c .before .before .before .before .before .before .loop .inv .1) _ (c .before .before .follow-date .ensures))
+loop-again c =
+    let pre = c .before .before .before .before .before .before .before .before .before .before .before .before .before .pre in
+    let loop = c .before .before .before .before .before .before .loop in
+    let loop-test = c .before .before .before .before .before .loop-test in
+    let follow-date = c .before .before .follow-date in
+    (omega (arith, loop .inv .0), first-before pre (loop-test .taken) (loop .inv .0) (loop .inv .1) _ (follow-date .ensures))
 
 same-length : tie.Need-same-length Inv-loop μ-loop
 same-length c = c .before .loop .inv .1 .long

@@ -21,7 +21,12 @@ loop-holds : tie.Need-loop-holds Inv-loop μ-loop
 loop-holds c = (omega arith, stored-none _ _ _ _)
 
 follow-row-requires : tie.Need-follow-row-requires Inv-loop μ-loop
-follow-row-requires c κs = subst (λ (xs : List ℕ). Following xs (c .before .before .before .before .before .args .layer .now) (c .before .before .before .before .before .args .base) (c .before .before .before .before .before .args .stride) (c .before .before .loop .w + 1) (c .before .before .before .before .before .args .level) (c .before .before .before .before .before .args .rate)) (sym (c .before .before .loop .inv .1)) (following-on (c .before .before .before .before .before .pre) (c .before .before .loop .w) (omega arith))
+follow-row-requires c κs =
+    let args = c .before .before .before .before .before .args in
+    let pre = c .before .before .before .before .before .pre in
+    let loop = c .before .before .loop in
+    let w' = loop .w in
+    subst (λ (xs : List ℕ). Following xs (args .layer .now) (args .base) (args .stride) (w' + 1) (args .level) (args .rate)) (sym (loop .inv .1)) (following-on pre w' (omega arith))
 
 add-w : tie.Need-add-w Inv-loop μ-loop
 add-w c = omega (arith, c .before .before .before .before .before .before .before .before .pre .few)
@@ -30,13 +35,30 @@ loop-less : tie.Need-loop-less Inv-loop μ-loop
 loop-less c = omega arith
 
 loop-again : tie.Need-loop-again Inv-loop μ-loop
-loop-again c = (omega arith, c .before .before .follow-row .ensures ∙ ap (λ (xs : List ℕ). stored xs (c .before .before .before .before .before .loop .w * c .before .before .before .before .before .before .before .before .args .stride) (followed (cells xs (c .before .before .before .before .before .before .before .before .args .base) (c .before .before .before .before .before .before .before .before .args .stride)) (cells (c .before .before .before .before .before .before .before .before .args .layer .now) 0 (c .before .before .before .before .before .before .before .before .args .stride)) (c .before .before .before .before .before .before .before .before .args .rate) (c .before .before .before .before .before .before .before .before .args .level) (c .before .before .before .before .before .loop .w)) (c .before .before .before .before .before .before .before .before .args .stride)) (c .before .before .before .before .before .loop .inv .1) ∙ follow-step (c .before .before .before .before .before .before .before .before .pre) (c .before .before .before .before .before .loop .w) (omega arith))
+loop-again c =
+    let args = c .before .before .before .before .before .before .before .before .args in
+    let stride₀ = args .stride in
+    let pre = c .before .before .before .before .before .before .before .before .pre in
+    let loop = c .before .before .before .before .before .loop in
+    let w' = loop .w in
+    let follow-row = c .before .before .follow-row in (
+      omega arith,
+      follow-row .ensures
+          ∙ ap (λ (xs : List ℕ). stored xs (w' * stride₀) (followed (cells xs (args .base) stride₀) (cells (args .layer .now) 0 stride₀) (args .rate) (args .level) w') stride₀) (loop .inv .1)
+          ∙ follow-step pre w' (omega arith),
+    )
 
 same-length : tie.Need-same-length Inv-loop μ-loop
 same-length c = ap length (c .before .loop .inv .1) ∙ length-stored _ _ _ _
 
 returns : tie.Need-returns Inv-loop μ-loop
-returns c = let e : c .before .loop .w ≡ c .before .before .before .before .args .n = omega arith in c .before .loop .inv .1 ∙ ap (λ (x : ℕ). stored (c .before .before .before .before .args .work .now) 0 (flat (c .before .before .before .before .args .stride) (followed (cells (c .before .before .before .before .args .work .now) (c .before .before .before .before .args .base) (c .before .before .before .before .args .stride)) (cells (c .before .before .before .before .args .layer .now) 0 (c .before .before .before .before .args .stride)) (c .before .before .before .before .args .rate) (c .before .before .before .before .args .level))) (x * c .before .before .before .before .args .stride)) e
+returns c =
+    let args = c .before .before .before .before .args in
+    let work₀ = args .work .now in
+    let stride₀ = args .stride in
+    let e : c .before .loop .w ≡ args .n = omega arith in
+    c .before .loop .inv .1
+    ∙ ap (λ (x : ℕ). stored work₀ 0 (flat stride₀ (followed (cells work₀ (args .base) stride₀) (cells (args .layer .now) 0 stride₀) (args .rate) (args .level))) (x * stride₀)) e
 
 pub follow-layer-spec : {M : Type 1} → statement M
 follow-layer-spec =

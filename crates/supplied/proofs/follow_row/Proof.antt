@@ -29,39 +29,105 @@ unfolding stored
 loop-holds c = (omega arith, refl)
 
 add-i : tie.Need-add-i Inv-loop μ-loop
-add-i c = let lw : length (c .before .loop .work) ≡ length (c .before .before .before .before .args .work .now) = ap length (c .before .loop .inv .1) ∙ length-stored _ _ _ _ in let p = row-room (c .before .before .before .before .args .w) (c .before .before .before .before .pre) (c .before .loop .a) (c .loop-test .taken) in let q = row-entry (c .before .before .before .before .args .w) (c .before .before .before .before .pre) (c .before .loop .a) (c .loop-test .taken) in omega arith
+add-i c =
+    let args = c .before .before .before .before .args in
+    let w₀ = args .w in
+    let pre = c .before .before .before .before .pre in
+    let loop = c .before .loop in
+    let a' = loop .a in
+    let lw : length (loop .work) ≡ length (args .work .now) = ap length (loop .inv .1) ∙ length-stored _ _ _ _ in
+    let p = row-room w₀ pre a' (c .loop-test .taken) in
+    let q = row-entry w₀ pre a' (c .loop-test .taken) in
+    omega arith
 
 mul-wide-amount : tie.Need-mul-wide-amount Inv-loop μ-loop
-mul-wide-amount c = let lw : length (c .before .loop .work) ≡ length (c .before .before .before .before .args .work .now) = ap length (c .before .loop .inv .1) ∙ length-stored _ _ _ _ in let p = row-room (c .before .before .before .before .args .w) (c .before .before .before .before .pre) (c .before .loop .a) (c .loop-test .taken) in let q = row-entry (c .before .before .before .before .args .w) (c .before .before .before .before .pre) (c .before .loop .a) (c .loop-test .taken) in omega arith
+mul-wide-amount c =
+    let args = c .before .before .before .before .args in
+    let w₀ = args .w in
+    let pre = c .before .before .before .before .pre in
+    let loop = c .before .loop in
+    let a' = loop .a in
+    let lw : length (loop .work) ≡ length (args .work .now) = ap length (loop .inv .1) ∙ length-stored _ _ _ _ in
+    let p = row-room w₀ pre a' (c .loop-test .taken) in
+    let q = row-entry w₀ pre a' (c .loop-test .taken) in
+    omega arith
 
 shared-slice-read-wide-amount : tie.Need-shared-slice-read-wide-amount Inv-loop μ-loop
-shared-slice-read-wide-amount c = let lw : length (c .before .before .loop .work) ≡ length (c .before .before .before .before .before .args .work .now) = ap length (c .before .before .loop .inv .1) ∙ length-stored _ _ _ _ in let p = row-room (c .before .before .before .before .before .args .w) (c .before .before .before .before .before .pre) (c .before .before .loop .a) (c .before .loop-test .taken) in let q = row-entry (c .before .before .before .before .before .args .w) (c .before .before .before .before .before .pre) (c .before .before .loop .a) (c .before .loop-test .taken) in omega arith
+shared-slice-read-wide-amount c =
+    let args = c .before .before .before .before .before .args in
+    let w₀ = args .w in
+    let pre = c .before .before .before .before .before .pre in
+    let loop = c .before .before .loop in
+    let a' = loop .a in
+    let lw : length (loop .work) ≡ length (args .work .now) = ap length (loop .inv .1) ∙ length-stored _ _ _ _ in
+    let p = row-room w₀ pre a' (c .before .loop-test .taken) in
+    let q = row-entry w₀ pre a' (c .before .loop-test .taken) in
+    omega arith
 
 wide-amount-requires : tie.Need-wide-amount-requires Inv-loop μ-loop
 wide-amount-requires c κs = search needs
 
 worth-requires : tie.Need-worth-requires Inv-loop μ-loop
 worth-requires c κs =
-    let amount = c .before .wide-amount .ensures .0 ∙ ap (λ (i : ℕ). getD (c .before .before .before .before .before .before .before .args .layer .now) i 0) (sym (zero-add (c .before .before .before .before .before .before .before .args .w * c .before .before .before .before .before .before .before .args .stride + c .before .before .before .before .loop .a))) in (
-      subst (λ (xs : List ℕ). State xs (c .before .before .before .before .before .before .before .args .base) (c .before .before .before .before .before .before .before .args .stride) (c .before .before .before .before .before .before .before .args .w) (c .before .before .before .before .loop .a) (freeAmount (c .before .before .before .before .before .before .before .args .level) (c .before .before .before .before .loop .a))) (sym (c .before .before .before .before .loop .inv .1)) (state-on (c .before .before .before .before .before .before .before .args .w) (c .before .before .before .before .before .before .before .pre) _ (c .before .before .before .before .loop .a) (c .before .before .before .before .loop .inv .0) (c .before .before .before .before .loop .a) (c .before .before .before .loop-test .taken)),
-      c .before .before .before .before .before .before .before .pre .rate-is,
-      le-trans (le-of-eq amount) (amount-within (c .before .before .before .before .before .before .before .args .w) (c .before .before .before .before .before .before .before .pre) (c .before .before .before .before .loop .a) (c .before .before .before .loop-test .taken)),
+    let args = c .before .before .before .before .before .before .before .args in
+    let stride₀ = args .stride in
+    let w₀ = args .w in
+    let pre = c .before .before .before .before .before .before .before .pre in
+    let loop = c .before .before .before .before .loop in
+    let a' = loop .a in
+    let loop-test = c .before .before .before .loop-test in
+    let amount = c .before .wide-amount .ensures .0 ∙ ap (λ (i : ℕ). getD (args .layer .now) i 0) (sym (zero-add (w₀ * stride₀ + a'))) in (
+      subst (λ (xs : List ℕ). State xs (args .base) stride₀ w₀ a' (freeAmount (args .level) a')) (sym (loop .inv .1)) (state-on w₀ pre _ a' (loop .inv .0) a' (loop-test .taken)),
+      pre .rate-is,
+      le-trans (le-of-eq amount) (amount-within w₀ pre a' (loop-test .taken)),
     )
 
 value-is : (c : tie.After-worth Inv-loop μ-loop) → c .worth .result ≡ followed (cells (c .before .before .before .before .before .before .before .before .args .work .now) (c .before .before .before .before .before .before .before .before .args .base) (c .before .before .before .before .before .before .before .before .args .stride)) (cells (c .before .before .before .before .before .before .before .before .args .layer .now) 0 (c .before .before .before .before .before .before .before .before .args .stride)) (c .before .before .before .before .before .before .before .before .args .rate) (c .before .before .before .before .before .before .before .before .args .level) (c .before .before .before .before .before .before .before .before .args .w) (c .before .before .before .before .before .loop .a)
 value-is c =
-    let amount = c .before .before .wide-amount .ensures .0 ∙ ap (λ (i : ℕ). getD (c .before .before .before .before .before .before .before .before .args .layer .now) i 0) (sym (zero-add (c .before .before .before .before .before .before .before .before .args .w * c .before .before .before .before .before .before .before .before .args .stride + c .before .before .before .before .before .loop .a))) in
-    let kept = ap (λ (xs : List ℕ). cells xs (c .before .before .before .before .before .before .before .before .args .base) (c .before .before .before .before .before .before .before .before .args .stride)) (c .before .before .before .before .before .loop .inv .1) ∙ sums-kept (c .before .before .before .before .before .before .before .before .args .w) (c .before .before .before .before .before .before .before .before .pre) _ (c .before .before .before .before .before .loop .a) (c .before .before .before .before .before .loop .inv .0) in
-    c .worth .ensures ∙ ap₂ (λ (e : ℕ → ℕ → ℕ) (t : ℕ). worthOver e (c .before .before .before .before .before .before .before .before .args .rate) (freeAmount (c .before .before .before .before .before .before .before .before .args .level) (c .before .before .before .before .before .loop .a)) (c .before .before .before .before .before .before .before .before .args .w) (c .before .before .before .before .before .loop .a) t) kept amount
+    let args = c .before .before .before .before .before .before .before .before .args in
+    let stride₀ = args .stride in
+    let w₀ = args .w in
+    let pre = c .before .before .before .before .before .before .before .before .pre in
+    let loop = c .before .before .before .before .before .loop in
+    let a' = loop .a in
+    let wide-amount = c .before .before .wide-amount in
+    let amount = wide-amount .ensures .0 ∙ ap (λ (i : ℕ). getD (args .layer .now) i 0) (sym (zero-add (w₀ * stride₀ + a'))) in
+    let kept = ap (λ (xs : List ℕ). cells xs (args .base) stride₀) (loop .inv .1) ∙ sums-kept w₀ pre _ a' (loop .inv .0) in
+    c .worth .ensures ∙ ap₂ (λ (e : ℕ → ℕ → ℕ) (t : ℕ). worthOver e (args .rate) (freeAmount (args .level) a') w₀ a' t) kept amount
 
 cast-work : tie.Need-cast-work Inv-loop μ-loop
-cast-work c = let s = value-small (c .before .before .before .before .before .before .before .before .args .w) (c .before .before .before .before .before .before .before .before .pre) (c .before .before .before .before .before .loop .a) (c .before .before .before .before .loop-test .taken) in rw (value-is c) (omega arith)
+cast-work c =
+    let args = c .before .before .before .before .before .before .before .before .args in
+    let pre = c .before .before .before .before .before .before .before .before .pre in
+    let loop = c .before .before .before .before .before .loop in
+    let loop-test = c .before .before .before .before .loop-test in
+    let s = value-small (args .w) pre (loop .a) (loop-test .taken) in rw (value-is c) (omega arith)
 
 mul-work : tie.Need-mul-work Inv-loop μ-loop
-mul-work c = let lw : length (c .before .before .before .before .before .loop .work) ≡ length (c .before .before .before .before .before .before .before .before .args .work .now) = ap length (c .before .before .before .before .before .loop .inv .1) ∙ length-stored _ _ _ _ in let p = row-room (c .before .before .before .before .before .before .before .before .args .w) (c .before .before .before .before .before .before .before .before .pre) (c .before .before .before .before .before .loop .a) (c .before .before .before .before .loop-test .taken) in let q = row-entry (c .before .before .before .before .before .before .before .before .args .w) (c .before .before .before .before .before .before .before .before .pre) (c .before .before .before .before .before .loop .a) (c .before .before .before .before .loop-test .taken) in omega arith
+mul-work c =
+    let args = c .before .before .before .before .before .before .before .before .args in
+    let w₀ = args .w in
+    let pre = c .before .before .before .before .before .before .before .before .pre in
+    let loop = c .before .before .before .before .before .loop in
+    let a' = loop .a in
+    let loop-test = c .before .before .before .before .loop-test in
+    let lw : length (loop .work) ≡ length (args .work .now) = ap length (loop .inv .1) ∙ length-stored _ _ _ _ in
+    let p = row-room w₀ pre a' (loop-test .taken) in
+    let q = row-entry w₀ pre a' (loop-test .taken) in
+    omega arith
 
 slice-write-work : tie.Need-slice-write-work Inv-loop μ-loop
-slice-write-work c = let lw : length (c .before .before .before .before .before .loop .work) ≡ length (c .before .before .before .before .before .before .before .before .args .work .now) = ap length (c .before .before .before .before .before .loop .inv .1) ∙ length-stored _ _ _ _ in let p = row-room (c .before .before .before .before .before .before .before .before .args .w) (c .before .before .before .before .before .before .before .before .pre) (c .before .before .before .before .before .loop .a) (c .before .before .before .before .loop-test .taken) in let q = row-entry (c .before .before .before .before .before .before .before .before .args .w) (c .before .before .before .before .before .before .before .before .pre) (c .before .before .before .before .before .loop .a) (c .before .before .before .before .loop-test .taken) in omega arith
+slice-write-work c =
+    let args = c .before .before .before .before .before .before .before .before .args in
+    let w₀ = args .w in
+    let pre = c .before .before .before .before .before .before .before .before .pre in
+    let loop = c .before .before .before .before .before .loop in
+    let a' = loop .a in
+    let loop-test = c .before .before .before .before .loop-test in
+    let lw : length (loop .work) ≡ length (args .work .now) = ap length (loop .inv .1) ∙ length-stored _ _ _ _ in
+    let p = row-room w₀ pre a' (loop-test .taken) in
+    let q = row-entry w₀ pre a' (loop-test .taken) in
+    omega arith
 
 add-a : tie.Need-add-a Inv-loop μ-loop
 add-a c = omega arith
@@ -70,13 +136,23 @@ loop-less : tie.Need-loop-less Inv-loop μ-loop
 loop-less c = omega arith
 
 loop-again : tie.Need-loop-again Inv-loop μ-loop
-loop-again c = (omega arith, (λ i. set (c .before .before .before .before .before .loop .inv .1 i) (c .before .before .before .before .before .before .before .before .args .w * c .before .before .before .before .before .before .before .before .args .stride + c .before .before .before .before .before .loop .a) (value-is c i)) ∙ stored-next _ _ _ _)
+loop-again c =
+    let args = c .before .before .before .before .before .before .before .before .args in
+    let loop = c .before .before .before .before .before .loop in
+    (omega arith, (λ i. set (loop .inv .1 i) (args .w * args .stride + loop .a) (value-is c i)) ∙ stored-next _ _ _ _)
 
 same-length : tie.Need-same-length Inv-loop μ-loop
 same-length c = ap length (c .before .loop .inv .1) ∙ length-stored _ _ _ _
 
 returns : tie.Need-returns Inv-loop μ-loop
-returns c = let e : c .before .loop .a ≡ c .before .before .before .before .args .stride = omega arith in c .before .loop .inv .1 ∙ ap (stored (c .before .before .before .before .args .work .now) (c .before .before .before .before .args .w * c .before .before .before .before .args .stride) (followed (cells (c .before .before .before .before .args .work .now) (c .before .before .before .before .args .base) (c .before .before .before .before .args .stride)) (cells (c .before .before .before .before .args .layer .now) 0 (c .before .before .before .before .args .stride)) (c .before .before .before .before .args .rate) (c .before .before .before .before .args .level) (c .before .before .before .before .args .w))) e
+returns c =
+    let args = c .before .before .before .before .args in
+    let work₀ = args .work .now in
+    let stride₀ = args .stride in
+    let w₀ = args .w in
+    let e : c .before .loop .a ≡ stride₀ = omega arith in
+    c .before .loop .inv .1
+    ∙ ap (stored work₀ (w₀ * stride₀) (followed (cells work₀ (args .base) stride₀) (cells (args .layer .now) 0 stride₀) (args .rate) (args .level) w₀)) e
 
 pub follow-row-spec : {M : Type 1} → statement M
 follow-row-spec =

@@ -30,12 +30,15 @@ refused-requires c κs = search needs
 returns : tie.Need-returns
 unfolding numberOf placeOf
 returns c =
-    let told = c .before .before .enum-told .given .1 in
-    let refusal = read-refused (c .before .before .before .before .before .before .before .before .before .args .bytes .now) _ (sym (c .before .before .before .before .read .ensures) ∙ told) in
+    let args = c .before .before .before .before .before .before .before .before .before .args in
+    let bytes₀ = args .bytes .now in
+    let list₀ = args .list .now in
+    let read = c .before .before .before .before .read in
+    let enum-told-of = c .before .before .enum-told in
+    let told = enum-told-of .given .1 in
+    let refusal = read-refused bytes₀ _ (sym (read .ensures) ∙ told) in
     let outcome = c .before .outcome .ensures ∙ ap (λ (r : Reading). outcomeOf (readingVerdict r)) told in
-    let w = whole-refused (c .before .before .before .before .before .before .before .before .before .args .bytes .now) (c .before .before .before .before .before .before .before .before .before .args .list .now) (c .before .before .before .before .before .before .before .before .before .args .work .now) (c .before .before .before .before .before .before .before .before .before .args .table .now) (c .refused .result) _ _
-    (ap (λ (v : Verdict). andThen v (verdict (listChecks (c .before .before .before .before .before .before .before .before .before .args .list .now)))) refusal)
-    (c .refused .ensures ∙ ap refused-by outcome) in
+    let w = whole-refused bytes₀ list₀ (args .work .now) (args .table .now) (c .refused .result) _ _ (ap (λ (v : Verdict). andThen v (verdict (listChecks list₀))) refusal) (c .refused .ensures ∙ ap refused-by outcome) in
     (w .answer-is, w .work-is)
 
 read-requires-2 : tie.Need-read-requires-2
@@ -56,19 +59,29 @@ refused-requires-2 c κs = search needs
 returns-2 : tie.Need-returns-2
 unfolding numberOf placeOf
 returns-2 c =
-    let known = read-accepted (c .before .before .before .before .before .before .before .before .before .before .before .before .before .args .bytes .now) _ (sym (c .before .before .before .before .before .before .before .before .read .ensures) ∙ c .before .before .before .before .before .before .reading .given .1) in
-    let told = c .before .before .enum-told2 .given .1 in
-    let refusal = list-refused (c .before .before .before .before .before .before .before .before .before .before .before .before .before .args .list .now) _ (sym (c .before .before .before .before .read2 .ensures) ∙ told) in
+    let args = c .before .before .before .before .before .before .before .before .before .before .before .before .before .args in
+    let bytes₀ = args .bytes .now in
+    let list₀ = args .list .now in
+    let read = c .before .before .before .before .before .before .before .before .read in
+    let reading = c .before .before .before .before .before .before .reading in
+    let read2 = c .before .before .before .before .read2 in
+    let enum-told2 = c .before .before .enum-told2 in
+    let known = read-accepted bytes₀ _ (sym (read .ensures) ∙ reading .given .1) in
+    let told = enum-told2 .given .1 in
+    let refusal = list-refused list₀ _ (sym (read2 .ensures) ∙ told) in
     let outcome = c .before .outcome2 .ensures ∙ ap (λ (r : Listing). outcomeOf (listingVerdict r)) told in
-    let w = whole-refused (c .before .before .before .before .before .before .before .before .before .before .before .before .before .args .bytes .now) (c .before .before .before .before .before .before .before .before .before .before .before .before .before .args .list .now) (c .before .before .before .before .before .before .before .before .before .before .before .before .before .args .work .now) (c .before .before .before .before .before .before .before .before .before .before .before .before .before .args .table .now) (c .refused2 .result) _ _
-    (ap₂ andThen (known .accepts) refusal)
-    (c .refused2 .ensures ∙ ap refused-by outcome) in
+    let w = whole-refused bytes₀ list₀ (args .work .now) (args .table .now) (c .refused2 .result) _ _ (ap₂ andThen (known .accepts) refusal) (c .refused2 .ensures ∙ ap refused-by outcome) in
     (w .answer-is, w .work-is)
 
 valued-requires : tie.Need-valued-requires
 valued-requires c κs =
-    let known = read-accepted (c .before .before .before .before .before .before .before .before .before .before .before .before .before .args .bytes .now) _ (sym (c .before .before .before .before .before .before .before .before .read .ensures) ∙ c .before .before .before .before .before .before .reading .given .1) in
-    let listed = list-accepted (c .before .before .before .before .before .before .before .before .before .before .before .before .before .args .list .now) _ (sym (c .before .before .before .before .read2 .ensures) ∙ c .before .before .listing .given .1) in
+    let args = c .before .before .before .before .before .before .before .before .before .before .before .before .before .args in
+    let read = c .before .before .before .before .before .before .before .before .read in
+    let reading = c .before .before .before .before .before .before .reading in
+    let read2 = c .before .before .before .before .read2 in
+    let listing = c .before .before .listing in
+    let known = read-accepted (args .bytes .now) _ (sym (read .ensures) ∙ reading .given .1) in
+    let listed = list-accepted (args .list .now) _ (sym (read2 .ensures) ∙ listing .given .1) in
     ready known listed
 
 same-length : tie.Need-same-length
@@ -76,9 +89,17 @@ same-length c = search needs
 
 returns-3 : tie.Need-returns-3
 returns-3 c =
-    let known = read-accepted (c .before .before .before .before .before .before .before .before .before .before .before .before .before .before .before .before .args .bytes .now) _ (sym (c .before .before .before .before .before .before .before .before .before .before .before .read .ensures) ∙ c .before .before .before .before .before .before .before .before .before .reading .given .1) in
-    let listed = list-accepted (c .before .before .before .before .before .before .before .before .before .before .before .before .before .before .before .before .args .list .now) _ (sym (c .before .before .before .before .before .before .before .read2 .ensures) ∙ c .before .before .before .before .before .listing .given .1) in
-    let w = whole (c .before .before .before .before .before .before .before .before .before .before .before .before .before .before .before .before .args .bytes .now) (c .before .before .before .before .before .before .before .before .before .before .before .before .before .before .before .before .args .list .now) (c .before .before .before .before .before .before .before .before .before .before .before .before .before .before .before .before .args .work .now) (c .before .before .before .before .before .before .before .before .before .before .before .before .before .before .before .before .args .table .now) (c .before .before .valued .result) _ (known .accepts) (listed .accepts) _ (known .terms) (c .before .before .valued .ensures) in
+    let args = c .before .before .before .before .before .before .before .before .before .before .before .before .before .before .before .before .args in
+    let bytes₀ = args .bytes .now in
+    let list₀ = args .list .now in
+    let read = c .before .before .before .before .before .before .before .before .before .before .before .read in
+    let reading = c .before .before .before .before .before .before .before .before .before .reading in
+    let read2 = c .before .before .before .before .before .before .before .read2 in
+    let listing = c .before .before .before .before .before .listing in
+    let valued = c .before .before .valued in
+    let known = read-accepted bytes₀ _ (sym (read .ensures) ∙ reading .given .1) in
+    let listed = list-accepted list₀ _ (sym (read2 .ensures) ∙ listing .given .1) in
+    let w = whole bytes₀ list₀ (args .work .now) (args .table .now) (valued .result) _ (known .accepts) (listed .accepts) _ (known .terms) (valued .ensures) in
     (w .answer-is, w .work-is)
 
 pub value-spec : {M : Type 1} → statement M

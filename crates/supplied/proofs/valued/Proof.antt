@@ -27,10 +27,16 @@ same-length : tie.Need-same-length
 same-length c = search needs
 
 returns : tie.Need-returns
-returns c = answered-refused 11 0 _ (slices-refused (termsIn (c .before .before .before .before .before .before .before .args .c)) (c .before .before .before .before .before .before .before .args .work .now) (c .before .before .before .before .before .before .before .args .table .now) (sym (c .before .before .too-short .ensures) ∙ c .before .if1 .taken)) (c .refused .ensures)
+returns c =
+    let args = c .before .before .before .before .before .before .before .args in
+    let too-short = c .before .before .too-short in
+    answered-refused 11 0 _ (slices-refused (termsIn (args .c)) (args .work .now) (args .table .now) (sym (too-short .ensures) ∙ c .before .if1 .taken)) (c .refused .ensures)
 
 first-bad-requires : tie.Need-first-bad-requires
-first-bad-requires c κs = (c .before .before .before .before .before .before .pre .valid, lent-room (termsIn (c .before .before .before .before .before .before .args .c)) 0 (c .before .before .before .before .before .before .args .work .now) (c .before .before .before .before .before .before .args .table .now) (sym (c .before .too-short .ensures) ∙ c .if1 .left) .1)
+first-bad-requires c κs =
+    let args = c .before .before .before .before .before .before .args in
+    let pre = c .before .before .before .before .before .before .pre in
+    (pre .valid, lent-room (termsIn (args .c)) 0 (args .work .now) (args .table .now) (sym (c .before .too-short .ensures) ∙ c .if1 .left) .1)
 
 sub-if2 : tie.Need-sub-if2
 sub-if2 c = search needs
@@ -55,7 +61,12 @@ same-length-2 c = search needs
 
 returns-2 : tie.Need-returns-2
 unfolding layerSize tableSize
-returns-2 c = answered-refused 14 _ _ (entry-refused (termsIn (c .before .before .before .before .before .before .before .before .before .before .before .before .args .c)) (c .before .before .before .before .before .before .before .before .before .before .before .before .args .work .now) (c .before .before .before .before .before .before .before .before .before .before .before .before .args .table .now) (sym (c .before .before .before .before .before .before .before .too-short .ensures) ∙ c .before .before .before .before .before .before .if1 .left) (sym (ap (λ (x : ℕ). ltb x ((c .before .before .before .before .before .before .before .before .before .before .before .before .args .c .dates - 1) * ((c .before .before .before .before .before .before .before .before .before .before .before .before .args .c .top + 1) * (c .before .before .before .before .before .before .before .before .before .before .before .before .args .c .premium + 1)))) (c .before .before .before .before .before .first-bad .ensures)) ∙ lt-ltb _ _ (c .before .if2 .taken))) (c .refused2 .ensures ∙ ap (λ (x : ℕ). refusal 14 x) (c .before .before .before .before .before .first-bad .ensures))
+returns-2 c =
+    let args = c .before .before .before .before .before .before .before .before .before .before .before .before .args in
+    let too-short = c .before .before .before .before .before .before .before .too-short in
+    let if1 = c .before .before .before .before .before .before .if1 in
+    let first-bad = c .before .before .before .before .before .first-bad in
+    answered-refused 14 _ _ (entry-refused (termsIn (args .c)) (args .work .now) (args .table .now) (sym (too-short .ensures) ∙ if1 .left) (sym (ap (λ (x : ℕ). ltb x ((args .c .dates - 1) * ((args .c .top + 1) * (args .c .premium + 1)))) (first-bad .ensures)) ∙ lt-ltb _ _ (c .before .if2 .taken))) (c .refused2 .ensures ∙ ap (λ (x : ℕ). refusal 14 x) (first-bad .ensures))
 
 add-fill-maturity : tie.Need-add-fill-maturity
 add-fill-maturity c = search needs
@@ -65,22 +76,61 @@ add-fill-maturity-2 c = search needs
 
 fill-maturity-requires : tie.Need-fill-maturity-requires
 unfolding layerSize tableSize
-fill-maturity-requires c κs = let v = c .before .before .before .before .before .before .before .before .before .before .before .before .before .before .pre .valid in let r = lent-room (termsIn (c .before .before .before .before .before .before .before .before .before .before .before .before .before .before .args .c)) 0 (c .before .before .before .before .before .before .before .before .before .before .before .before .before .before .args .work .now) (c .before .before .before .before .before .before .before .before .before .before .before .before .before .before .args .table .now) (sym (c .before .before .before .before .before .before .before .before .before .too-short .ensures) ∙ c .before .before .before .before .before .before .before .before .if1 .left) in (omega (arith, v .top), omega (arith, v .top, v .premium), omega (arith, r .0))
+fill-maturity-requires c κs =
+    let args = c .before .before .before .before .before .before .before .before .before .before .before .before .before .before .args in
+    let pre = c .before .before .before .before .before .before .before .before .before .before .before .before .before .before .pre in
+    let too-short = c .before .before .before .before .before .before .before .before .before .too-short in
+    let if1 = c .before .before .before .before .before .before .before .before .if1 in
+    let v = pre .valid in
+    let r = lent-room (termsIn (args .c)) 0 (args .work .now) (args .table .now) (sym (too-short .ensures) ∙ if1 .left) in
+    (omega (arith, v .top), omega (arith, v .top, v .premium), omega (arith, r .0))
 
 follow-dates-requires : tie.Need-follow-dates-requires
 unfolding layerSize tableSize
-follow-dates-requires c κs = let r = lent-room (termsIn (c .before .before .before .before .before .before .before .before .before .before .before .before .before .before .before .before .before .before .args .c)) 0 (c .before .before .before .before .before .before .before .before .before .before .before .before .before .before .before .before .before .before .args .work .now) (c .before .before .before .before .before .before .before .before .before .before .before .before .before .before .before .before .before .before .args .table .now) (sym (c .before .before .before .before .before .before .before .before .before .before .before .before .before .too-short .ensures) ∙ c .before .before .before .before .before .before .before .before .before .before .before .before .if1 .left) in starting (c .before .before .before .before .before .before .before .before .before .before .before .before .before .before .before .before .before .before .args .work .now) (c .before .before .before .before .before .before .before .before .before .before .before .before .before .before .before .before .before .before .pre .valid) (c .before .before .before .before .before .before .before .before .before .before .before .before .before .before .before .before .before .before .pre .listing) (r .0) (r .1) (rw (sym (c .before .before .before .before .before .before .before .before .before .before .before .first-bad .ensures)) (c .before .before .before .before .before .before .before .if2 .left)) (c .before .before .before .fill-maturity .ensures)
+follow-dates-requires c κs =
+    let args = c .before .before .before .before .before .before .before .before .before .before .before .before .before .before .before .before .before .before .args in
+    let work₀ = args .work .now in
+    let pre = c .before .before .before .before .before .before .before .before .before .before .before .before .before .before .before .before .before .before .pre in
+    let too-short = c .before .before .before .before .before .before .before .before .before .before .before .before .before .too-short in
+    let if1 = c .before .before .before .before .before .before .before .before .before .before .before .before .if1 in
+    let first-bad = c .before .before .before .before .before .before .before .before .before .before .before .first-bad in
+    let if2 = c .before .before .before .before .before .before .before .if2 in
+    let fill-maturity = c .before .before .before .fill-maturity in
+    let r = lent-room (termsIn (args .c)) 0 work₀ (args .table .now) (sym (too-short .ensures) ∙ if1 .left) in
+    starting work₀ (pre .valid) (pre .listing) (r .0) (r .1) (rw (sym (first-bad .ensures)) (if2 .left)) (fill-maturity .ensures)
 
 settle-requires : tie.Need-settle-requires
 unfolding layerSize tableSize
-settle-requires c κs = let d = first-from _ (c .before .before .before .before .before .before .before .fill-maturity .ensures) (c .before .before .before .follow-dates .ensures) in settling (c .before .before .before .before .before .before .before .before .before .before .before .before .before .before .before .before .before .before .before .before .before .before .args .work .now) (c .before .before .before .before .before .before .before .before .before .before .before .before .before .before .before .before .before .before .before .before .before .before .pre .valid) (c .before .before .before .before .before .before .before .before .before .before .before .before .before .before .before .before .before .before .before .before .before .before .pre .listing) (lent-room (termsIn (c .before .before .before .before .before .before .before .before .before .before .before .before .before .before .before .before .before .before .before .before .before .before .args .c)) 0 (c .before .before .before .before .before .before .before .before .before .before .before .before .before .before .before .before .before .before .before .before .before .before .args .work .now) (c .before .before .before .before .before .before .before .before .before .before .before .before .before .before .before .before .before .before .before .before .before .before .args .table .now) (sym (c .before .before .before .before .before .before .before .before .before .before .before .before .before .before .before .before .before .too-short .ensures) ∙ c .before .before .before .before .before .before .before .before .before .before .before .before .before .before .before .before .if1 .left) .0) (d .long)
+settle-requires c κs =
+    let args = c .before .before .before .before .before .before .before .before .before .before .before .before .before .before .before .before .before .before .before .before .before .before .args in
+    let work₀ = args .work .now in
+    let pre = c .before .before .before .before .before .before .before .before .before .before .before .before .before .before .before .before .before .before .before .before .before .before .pre in
+    let too-short = c .before .before .before .before .before .before .before .before .before .before .before .before .before .before .before .before .before .too-short in
+    let if1 = c .before .before .before .before .before .before .before .before .before .before .before .before .before .before .before .before .if1 in
+    let fill-maturity = c .before .before .before .before .before .before .before .fill-maturity in
+    let follow-dates = c .before .before .before .follow-dates in
+    let d = first-from _ (fill-maturity .ensures) (follow-dates .ensures) in
+    settling work₀ (pre .valid) (pre .listing) (lent-room (termsIn (args .c)) 0 work₀ (args .table .now) (sym (too-short .ensures) ∙ if1 .left) .0) (d .long)
 
 same-length-3 : tie.Need-same-length-3
 same-length-3 c = search needs
 
 returns-3 : tie.Need-returns-3
 unfolding layerSize tableSize
-returns-3 c = let d = first-from _ (c .before .before .before .before .before .before .before .before .before .before .fill-maturity .ensures) (c .before .before .before .before .before .before .follow-dates .ensures) in answered-accepted _ _ (table-accepted (termsIn (c .before .before .before .before .before .before .before .before .before .before .before .before .before .before .before .before .before .before .before .before .before .before .before .before .before .args .c)) (c .before .before .before .before .before .before .before .before .before .before .before .before .before .before .before .before .before .before .before .before .before .before .before .before .before .args .work .now) (c .before .before .before .before .before .before .before .before .before .before .before .before .before .before .before .before .before .before .before .before .before .before .before .before .before .args .table .now) (sym (c .before .before .before .before .before .before .before .before .before .before .before .before .before .before .before .before .before .before .before .before .too-short .ensures) ∙ c .before .before .before .before .before .before .before .before .before .before .before .before .before .before .before .before .before .before .before .if1 .left) (sym (ap (λ (x : ℕ). ltb x ((c .before .before .before .before .before .before .before .before .before .before .before .before .before .before .before .before .before .before .before .before .before .before .before .before .before .args .c .dates - 1) * ((c .before .before .before .before .before .before .before .before .before .before .before .before .before .before .before .before .before .before .before .before .before .before .before .before .before .args .c .top + 1) * (c .before .before .before .before .before .before .before .before .before .before .before .before .before .before .before .before .before .before .before .before .before .before .before .before .before .args .c .premium + 1)))) (c .before .before .before .before .before .before .before .before .before .before .before .before .before .before .before .before .before .before .first-bad .ensures)) ∙ le-ltb _ _ (c .before .before .before .before .before .before .before .before .before .before .before .before .before .before .if2 .left))) (lent-room (termsIn (c .before .before .before .before .before .before .before .before .before .before .before .before .before .before .before .before .before .before .before .before .before .before .before .before .before .args .c)) 0 (c .before .before .before .before .before .before .before .before .before .before .before .before .before .before .before .before .before .before .before .before .before .before .before .before .before .args .work .now) (c .before .before .before .before .before .before .before .before .before .before .before .before .before .before .before .before .before .before .before .before .before .before .before .before .before .args .table .now) (sym (c .before .before .before .before .before .before .before .before .before .before .before .before .before .before .before .before .before .before .before .before .too-short .ensures) ∙ c .before .before .before .before .before .before .before .before .before .before .before .before .before .before .before .before .before .before .before .if1 .left) .0) d (c .before .before .settle .ensures)
+returns-3 c =
+    let args = c .before .before .before .before .before .before .before .before .before .before .before .before .before .before .before .before .before .before .before .before .before .before .before .before .before .args in
+    let table₀ = args .table .now in
+    let work₀ = args .work .now in
+    let c₀ = args .c in
+    let too-short = c .before .before .before .before .before .before .before .before .before .before .before .before .before .before .before .before .before .before .before .before .too-short in
+    let if1 = c .before .before .before .before .before .before .before .before .before .before .before .before .before .before .before .before .before .before .before .if1 in
+    let first-bad = c .before .before .before .before .before .before .before .before .before .before .before .before .before .before .before .before .before .before .first-bad in
+    let if2 = c .before .before .before .before .before .before .before .before .before .before .before .before .before .before .if2 in
+    let fill-maturity = c .before .before .before .before .before .before .before .before .before .before .fill-maturity in
+    let follow-dates = c .before .before .before .before .before .before .follow-dates in
+    let settle = c .before .before .settle in
+    let d = first-from _ (fill-maturity .ensures) (follow-dates .ensures) in
+    answered-accepted _ _ (table-accepted (termsIn c₀) work₀ table₀ (sym (too-short .ensures) ∙ if1 .left) (sym (ap (λ (x : ℕ). ltb x ((args .c .dates - 1) * ((args .c .top + 1) * (args .c .premium + 1)))) (first-bad .ensures)) ∙ le-ltb _ _ (if2 .left))) (lent-room (termsIn c₀) 0 work₀ table₀ (sym (too-short .ensures) ∙ if1 .left) .0) d (settle .ensures)
 
 pub valued-spec : {M : Type 1} → statement M
 valued-spec =

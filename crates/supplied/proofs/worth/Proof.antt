@@ -56,7 +56,14 @@ add-result c = search needs
 
 returns : tie.Need-returns
 unfolding worthOver
-returns c = ap₂ (λ (x y : ℕ). x + y) (c .before .before .cash .ensures .0 ∙ ap (λ (m : ℕ). cash (c .before .before .before .before .before .before .before .args .rate) m (c .before .before .before .before .before .before .before .args .t)) (c .before .before .before .before .before .free-amount .ensures)) (c .wide .ensures .0 ∙ ap₂ (λ (x y : ℕ). cells (c .before .before .before .before .before .before .before .args .work .now) (c .before .before .before .before .before .before .before .args .base) (c .before .before .before .before .before .before .before .args .stride) x y) (c .before .before .before .balance-after .ensures) (c .before .before .before .before .guarantee-after .ensures ∙ ap (λ (m : ℕ). guaranteeAfter m (c .before .before .before .before .before .before .before .args .w) (c .before .before .before .before .before .before .before .args .a) (c .before .before .before .before .before .before .before .args .t)) (c .before .before .before .before .before .free-amount .ensures)))
+returns c =
+    let args = c .before .before .before .before .before .before .before .args in
+    let t₀ = args .t in
+    let free-amount = c .before .before .before .before .before .free-amount in
+    let guarantee-after = c .before .before .before .before .guarantee-after in
+    let balance-after = c .before .before .before .balance-after in
+    let cash-of = c .before .before .cash in
+    ap₂ (λ (x y : ℕ). x + y) (cash-of .ensures .0 ∙ ap (λ (m : ℕ). cash (args .rate) m t₀) (free-amount .ensures)) (c .wide .ensures .0 ∙ ap₂ (λ (x y : ℕ). cells (args .work .now) (args .base) (args .stride) x y) (balance-after .ensures) (guarantee-after .ensures ∙ ap (λ (m : ℕ). guaranteeAfter m (args .w) (args .a) t₀) (free-amount .ensures)))
 
 pub worth-spec : {M : Type 1} → statement M
 worth-spec =

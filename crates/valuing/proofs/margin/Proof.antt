@@ -20,7 +20,8 @@ cast-result-2 : tie.Need-cast-result-2
 cast-result-2 c = search needs
 
 sub-result : tie.Need-sub-result
-sub-result c = rw (toZ-pos w64 {n = c .args .value} (omega arith), toZ-pos w64 {n = 10000 * c .args .premium} (omega arith), diff (c .args .value) (10000 * c .args .premium)) (sfits-of (mag-sub (c .args .value) (10000 * c .args .premium) (2 ^ 63) (omega arith) (omega arith)))
+sub-result c =
+    rw (toZ-pos w64 {n = c .args .value} (omega arith), toZ-pos w64 {n = 10000 * c .args .premium} (omega arith), diff (c .args .value) (10000 * c .args .premium)) (sfits-of (mag-sub (c .args .value) (10000 * c .args .premium) (2 ^ 63) (omega arith) (omega arith)))
 
 returns : tie.Need-returns
 unfolding margin

@@ -39,11 +39,18 @@ same-length c = search needs
 
 margin-fits : (c : tie.After-margin) → SFits w64 (c .margin .result)
 unfolding margin
-margin-fits c = rw (c .margin .ensures) (sfits-of (mag-sub (c .before .before .before .before .before .before .before .start-value .result) (10000 * c .before .before .before .before .before .before .before .before .before .before .before .args .c .premium) (2 ^ 63) (omega arith) (omega (arith, c .before .before .before .before .before .before .before .before .before .before .before .pre .layers .valid .premium, c .before .before .before .before .before .before .before .before .before .before .before .pre .layers .valid .top))))
+margin-fits c =
+    let args = c .before .before .before .before .before .before .before .before .before .before .before .args in
+    let pre = c .before .before .before .before .before .before .before .before .before .before .before .pre in
+    let start-value = c .before .before .before .before .before .before .before .start-value in
+    rw (c .margin .ensures) (sfits-of (mag-sub (start-value .result) (10000 * args .c .premium) (2 ^ 63) (omega arith) (omega (arith, pre .layers .valid .premium, pre .layers .valid .top))))
 
 returns : tie.Need-returns
 unfolding layerSize
-returns c = record { number-is = refl; place-is = refl; value-is = c .before .before .before .before .before .before .before .start-value .ensures; margin-is = toZ-ofZ (margin-fits c) ∙ c .margin .ensures; work-is = c .before .before .before .clear .ensures }
+returns c =
+    let start-value = c .before .before .before .before .before .before .before .start-value in
+    let clear = c .before .before .before .clear in
+    record { number-is = refl; place-is = refl; value-is = start-value .ensures; margin-is = toZ-ofZ (margin-fits c) ∙ c .margin .ensures; work-is = clear .ensures }
 
 pub settle-spec : {M : Type 1} → statement M
 settle-spec =

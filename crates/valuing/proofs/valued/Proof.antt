@@ -16,7 +16,9 @@ refused-requires : tie.Need-refused-requires
 refused-requires c κs = search needs
 
 returns : tie.Need-returns
-returns c = answered-refused 10 0 _ (behaviour-refused (termsIn (c .before .before .before .before .before .args .c)) (c .before .before .before .before .before .args .behaviour) (c .before .before .before .before .before .args .work .now) (c .before .before .before .before .before .args .table .now) (lt-ltb _ _ (c .before .if1 .taken))) (c .refused .ensures)
+returns c =
+    let args = c .before .before .before .before .before .args in
+    answered-refused 10 0 _ (behaviour-refused (termsIn (args .c)) (args .behaviour) (args .work .now) (args .table .now) (lt-ltb _ _ (c .before .if1 .taken))) (c .refused .ensures)
 
 too-short-requires : tie.Need-too-short-requires
 too-short-requires c κs = search needs
@@ -31,7 +33,11 @@ same-length-2 : tie.Need-same-length-2
 same-length-2 c = search needs
 
 returns-2 : tie.Need-returns-2
-returns-2 c = answered-refused 11 0 _ (lent-refused (termsIn (c .before .before .before .before .before .before .before .before .before .args .c)) (c .before .before .before .before .before .before .before .before .before .args .behaviour) (c .before .before .before .before .before .before .before .before .before .args .work .now) (c .before .before .before .before .before .before .before .before .before .args .table .now) (le-ltb _ _ (c .before .before .before .before .before .if1 .left)) (sym (c .before .before .too-short .ensures) ∙ c .before .if2 .taken)) (c .refused2 .ensures)
+returns-2 c =
+    let args = c .before .before .before .before .before .before .before .before .before .args in
+    let if1 = c .before .before .before .before .before .if1 in
+    let too-short = c .before .before .too-short in
+    answered-refused 11 0 _ (lent-refused (termsIn (args .c)) (args .behaviour) (args .work .now) (args .table .now) (le-ltb _ _ (if1 .left)) (sym (too-short .ensures) ∙ c .before .if2 .taken)) (c .refused2 .ensures)
 
 add-fill-maturity : tie.Need-add-fill-maturity
 add-fill-maturity c = search needs
@@ -41,15 +47,40 @@ add-fill-maturity-2 c = search needs
 
 fill-maturity-requires : tie.Need-fill-maturity-requires
 unfolding layerSize
-fill-maturity-requires c κs = let v = c .before .before .before .before .before .before .before .before .before .before .before .pre .valid in let r = lent-room (termsIn (c .before .before .before .before .before .before .before .before .before .before .before .args .c)) (c .before .before .before .before .before .before .before .before .before .before .before .args .behaviour) (c .before .before .before .before .before .before .before .before .before .before .before .args .work .now) (c .before .before .before .before .before .before .before .before .before .before .before .args .table .now) (sym (c .before .before .before .before .too-short .ensures) ∙ c .before .before .before .if2 .left) in (omega (arith, v .top), omega (arith, v .top, v .premium), omega (arith, r .0))
+fill-maturity-requires c κs =
+    let args = c .before .before .before .before .before .before .before .before .before .before .before .args in
+    let pre = c .before .before .before .before .before .before .before .before .before .before .before .pre in
+    let too-short = c .before .before .before .before .too-short in
+    let if2 = c .before .before .before .if2 in
+    let v = pre .valid in
+    let r = lent-room (termsIn (args .c)) (args .behaviour) (args .work .now) (args .table .now) (sym (too-short .ensures) ∙ if2 .left) in
+    (omega (arith, v .top), omega (arith, v .top, v .premium), omega (arith, r .0))
 
 all-dates-requires : tie.Need-all-dates-requires
 unfolding layerSize tableSize
-all-dates-requires c κs = let r = lent-room (termsIn (c .before .before .before .before .before .before .before .before .before .before .before .before .before .before .before .before .args .c)) (c .before .before .before .before .before .before .before .before .before .before .before .before .before .before .before .before .args .behaviour) (c .before .before .before .before .before .before .before .before .before .before .before .before .before .before .before .before .args .work .now) (c .before .before .before .before .before .before .before .before .before .before .before .before .before .before .before .before .args .table .now) (sym (c .before .before .before .before .before .before .before .before .before .too-short .ensures) ∙ c .before .before .before .before .before .before .before .before .if2 .left) in let v = c .before .before .before .before .before .before .before .before .before .before .before .before .before .before .before .before .pre .valid in starting (c .before .before .before .before .before .before .before .before .before .before .before .before .before .before .before .before .args .work .now) v (c .before .before .before .before .before .before .before .before .before .before .before .before .before .before .before .before .pre .listing) (omega arith) (r .0) (r .1) (c .before .before .before .before .fill-maturity .ensures)
+all-dates-requires c κs =
+    let args = c .before .before .before .before .before .before .before .before .before .before .before .before .before .before .before .before .args in
+    let work₀ = args .work .now in
+    let pre = c .before .before .before .before .before .before .before .before .before .before .before .before .before .before .before .before .pre in
+    let too-short = c .before .before .before .before .before .before .before .before .before .too-short in
+    let if2 = c .before .before .before .before .before .before .before .before .if2 in
+    let fill-maturity = c .before .before .before .before .fill-maturity in
+    let r = lent-room (termsIn (args .c)) (args .behaviour) work₀ (args .table .now) (sym (too-short .ensures) ∙ if2 .left) in
+    let v = pre .valid in
+    starting work₀ v (pre .listing) (omega arith) (r .0) (r .1) (fill-maturity .ensures)
 
 settle-requires : tie.Need-settle-requires
 unfolding layerSize
-settle-requires c κs = let d = from-start _ (c .before .before .before .before .before .before .before .before .before .before .fill-maturity .ensures) (c .before .before .before .before .before .all-dates .ensures) in settling (c .before .before .before .before .before .before .before .before .before .before .before .before .before .before .before .before .before .before .before .before .before .before .args .work .now) (c .before .before .before .before .before .before .before .before .before .before .before .before .before .before .before .before .before .before .before .before .before .before .pre .valid) (c .before .before .before .before .before .before .before .before .before .before .before .before .before .before .before .before .before .before .before .before .before .before .pre .listing) (lent-room (termsIn (c .before .before .before .before .before .before .before .before .before .before .before .before .before .before .before .before .before .before .before .before .before .before .args .c)) (c .before .before .before .before .before .before .before .before .before .before .before .before .before .before .before .before .before .before .before .before .before .before .args .behaviour) (c .before .before .before .before .before .before .before .before .before .before .before .before .before .before .before .before .before .before .before .before .before .before .args .work .now) (c .before .before .before .before .before .before .before .before .before .before .before .before .before .before .before .before .before .before .before .before .before .before .args .table .now) (sym (c .before .before .before .before .before .before .before .before .before .before .before .before .before .before .before .too-short .ensures) ∙ c .before .before .before .before .before .before .before .before .before .before .before .before .before .before .if2 .left) .0) (d .long)
+settle-requires c κs =
+    let args = c .before .before .before .before .before .before .before .before .before .before .before .before .before .before .before .before .before .before .before .before .before .before .args in
+    let work₀ = args .work .now in
+    let pre = c .before .before .before .before .before .before .before .before .before .before .before .before .before .before .before .before .before .before .before .before .before .before .pre in
+    let too-short = c .before .before .before .before .before .before .before .before .before .before .before .before .before .before .before .too-short in
+    let if2 = c .before .before .before .before .before .before .before .before .before .before .before .before .before .before .if2 in
+    let fill-maturity = c .before .before .before .before .before .before .before .before .before .before .fill-maturity in
+    let all-dates = c .before .before .before .before .before .all-dates in
+    let d = from-start _ (fill-maturity .ensures) (all-dates .ensures) in
+    settling work₀ (pre .valid) (pre .listing) (lent-room (termsIn (args .c)) (args .behaviour) work₀ (args .table .now) (sym (too-short .ensures) ∙ if2 .left) .0) (d .long)
 
 same-length-3 : tie.Need-same-length-3
 same-length-3 c = search needs
@@ -59,7 +90,22 @@ same-length-4 c = search needs
 
 returns-3 : tie.Need-returns-3
 unfolding layerSize
-returns-3 c = let d = from-start _ (c .before .before .before .before .before .before .before .before .before .before .before .before .before .fill-maturity .ensures) (c .before .before .before .before .before .before .before .before .all-dates .ensures) in let r = lent-room (termsIn (c .before .before .before .before .before .before .before .before .before .before .before .before .before .before .before .before .before .before .before .before .before .before .before .before .before .args .c)) (c .before .before .before .before .before .before .before .before .before .before .before .before .before .before .before .before .before .before .before .before .before .before .before .before .before .args .behaviour) (c .before .before .before .before .before .before .before .before .before .before .before .before .before .before .before .before .before .before .before .before .before .before .before .before .before .args .work .now) (c .before .before .before .before .before .before .before .before .before .before .before .before .before .before .before .before .before .before .before .before .before .before .before .before .before .args .table .now) (sym (c .before .before .before .before .before .before .before .before .before .before .before .before .before .before .before .before .before .before .too-short .ensures) ∙ c .before .before .before .before .before .before .before .before .before .before .before .before .before .before .before .before .before .if2 .left) in answered-accepted _ _ (lent-accepted (termsIn (c .before .before .before .before .before .before .before .before .before .before .before .before .before .before .before .before .before .before .before .before .before .before .before .before .before .args .c)) (c .before .before .before .before .before .before .before .before .before .before .before .before .before .before .before .before .before .before .before .before .before .before .before .before .before .args .behaviour) (c .before .before .before .before .before .before .before .before .before .before .before .before .before .before .before .before .before .before .before .before .before .before .before .before .before .args .work .now) (c .before .before .before .before .before .before .before .before .before .before .before .before .before .before .before .before .before .before .before .before .before .before .before .before .before .args .table .now) (le-ltb _ _ (c .before .before .before .before .before .before .before .before .before .before .before .before .before .before .before .before .before .before .before .before .before .if1 .left)) (sym (c .before .before .before .before .before .before .before .before .before .before .before .before .before .before .before .before .before .before .too-short .ensures) ∙ c .before .before .before .before .before .before .before .before .before .before .before .before .before .before .before .before .before .if2 .left)) (c .before .before .before .before .before .before .before .before .before .before .before .before .before .before .before .before .before .before .before .before .before .before .before .before .before .pre .valid) (r .0) (r .1) d (c .before .before .settle .ensures)
+returns-3 c =
+    let args = c .before .before .before .before .before .before .before .before .before .before .before .before .before .before .before .before .before .before .before .before .before .before .before .before .before .args in
+    let table₀ = args .table .now in
+    let behaviour₀ = args .behaviour in
+    let work₀ = args .work .now in
+    let c₀ = args .c in
+    let pre = c .before .before .before .before .before .before .before .before .before .before .before .before .before .before .before .before .before .before .before .before .before .before .before .before .before .pre in
+    let if1 = c .before .before .before .before .before .before .before .before .before .before .before .before .before .before .before .before .before .before .before .before .before .if1 in
+    let too-short = c .before .before .before .before .before .before .before .before .before .before .before .before .before .before .before .before .before .before .too-short in
+    let if2 = c .before .before .before .before .before .before .before .before .before .before .before .before .before .before .before .before .before .if2 in
+    let fill-maturity = c .before .before .before .before .before .before .before .before .before .before .before .before .before .fill-maturity in
+    let all-dates = c .before .before .before .before .before .before .before .before .all-dates in
+    let settle = c .before .before .settle in
+    let d = from-start _ (fill-maturity .ensures) (all-dates .ensures) in
+    let r = lent-room (termsIn c₀) behaviour₀ work₀ table₀ (sym (too-short .ensures) ∙ if2 .left) in
+    answered-accepted _ _ (lent-accepted (termsIn c₀) behaviour₀ work₀ table₀ (le-ltb _ _ (if1 .left)) (sym (too-short .ensures) ∙ if2 .left)) (pre .valid) (r .0) (r .1) d (settle .ensures)
 
 pub valued-spec : {M : Type 1} → statement M
 valued-spec =

@@ -23,35 +23,69 @@ sub-from c = search needs
 
 mul-from : tie.Need-mul-from
 unfolding layerSize tableSize
-mul-from c = let e = layer-end (c .before .before .before .before .before .pre .0) (c .before .before .before .before .before .pre .1) (c .before .before .before .before .before .pre .2) (c .before .before .before .before .before .pre .3) in let w = layer-within (c .before .before .before .before .before .pre .0) (c .before .before .before .before .before .pre .1) (c .before .before .before .before .before .pre .2) (c .before .before .before .before .before .pre .3) in let d = dates-le (c .before .before .before .before .before .pre .0 .valid) in omega (arith, c .before .before .before .before .before .pre .0 .entries)
+mul-from c =
+    let pre = c .before .before .before .before .before .pre in
+    let e = layer-end (pre .0) (pre .1) (pre .2) (pre .3) in
+    let w = layer-within (pre .0) (pre .1) (pre .2) (pre .3) in
+    let d = dates-le (pre .0 .valid) in
+    omega (arith, pre .0 .entries)
 
 mul-to : tie.Need-mul-to
 unfolding layerSize tableSize
-mul-to c = let e = layer-end (c .before .before .before .before .before .pre .0) (c .before .before .before .before .before .pre .1) (c .before .before .before .before .before .pre .2) (c .before .before .before .before .before .pre .3) in let w = layer-within (c .before .before .before .before .before .pre .0) (c .before .before .before .before .before .pre .1) (c .before .before .before .before .before .pre .2) (c .before .before .before .before .before .pre .3) in let d = dates-le (c .before .before .before .before .before .pre .0 .valid) in omega (arith, c .before .before .before .before .before .pre .0 .entries)
+mul-to c =
+    let pre = c .before .before .before .before .before .pre in
+    let e = layer-end (pre .0) (pre .1) (pre .2) (pre .3) in
+    let w = layer-within (pre .0) (pre .1) (pre .2) (pre .3) in
+    let d = dates-le (pre .0 .valid) in
+    omega (arith, pre .0 .entries)
 
 mul-entry-of : tie.Need-mul-entry-of
 unfolding layerSize tableSize
-mul-entry-of c = let e = layer-end (c .before .before .before .before .before .pre .0) (c .before .before .before .before .before .pre .1) (c .before .before .before .before .before .pre .2) (c .before .before .before .before .before .pre .3) in let w = layer-within (c .before .before .before .before .before .pre .0) (c .before .before .before .before .before .pre .1) (c .before .before .before .before .before .pre .2) (c .before .before .before .before .before .pre .3) in let d = dates-le (c .before .before .before .before .before .pre .0 .valid) in omega (arith, c .before .before .before .before .before .pre .0 .entries)
+mul-entry-of c =
+    let pre = c .before .before .before .before .before .pre in
+    let e = layer-end (pre .0) (pre .1) (pre .2) (pre .3) in
+    let w = layer-within (pre .0) (pre .1) (pre .2) (pre .3) in
+    let d = dates-le (pre .0 .valid) in
+    omega (arith, pre .0 .entries)
 
 sub-entry-of : tie.Need-sub-entry-of
 unfolding layerSize tableSize
-sub-entry-of c = let e = layer-end (c .before .before .before .before .before .pre .0) (c .before .before .before .before .before .pre .1) (c .before .before .before .before .before .pre .2) (c .before .before .before .before .before .pre .3) in let w = layer-within (c .before .before .before .before .before .pre .0) (c .before .before .before .before .before .pre .1) (c .before .before .before .before .before .pre .2) (c .before .before .before .before .before .pre .3) in let d = dates-le (c .before .before .before .before .before .pre .0 .valid) in omega (arith, c .before .before .before .before .before .pre .0 .entries)
+sub-entry-of c =
+    let pre = c .before .before .before .before .before .pre in
+    let e = layer-end (pre .0) (pre .1) (pre .2) (pre .3) in
+    let w = layer-within (pre .0) (pre .1) (pre .2) (pre .3) in
+    let d = dates-le (pre .0 .valid) in
+    omega (arith, pre .0 .entries)
 
 part-entry-of-start : tie.Need-part-entry-of-start
 unfolding layerSize tableSize
-part-entry-of-start c = let e = layer-end (c .before .before .before .before .before .pre .0) (c .before .before .before .before .before .pre .1) (c .before .before .before .before .before .pre .2) (c .before .before .before .before .before .pre .3) in let w = layer-within (c .before .before .before .before .before .pre .0) (c .before .before .before .before .before .pre .1) (c .before .before .before .before .before .pre .2) (c .before .before .before .before .before .pre .3) in let d = dates-le (c .before .before .before .before .before .pre .0 .valid) in omega (arith, c .before .before .before .before .before .pre .0 .entries)
+part-entry-of-start c =
+    let pre = c .before .before .before .before .before .pre in
+    let e = layer-end (pre .0) (pre .1) (pre .2) (pre .3) in
+    let w = layer-within (pre .0) (pre .1) (pre .2) (pre .3) in
+    let d = dates-le (pre .0 .valid) in
+    omega (arith, pre .0 .entries)
 
 part-entry-of-end : tie.Need-part-entry-of-end
 unfolding layerSize tableSize
-part-entry-of-end c = let e = layer-end (c .before .before .before .before .before .pre .0) (c .before .before .before .before .before .pre .1) (c .before .before .before .before .before .pre .2) (c .before .before .before .before .before .pre .3) in let w = layer-within (c .before .before .before .before .before .pre .0) (c .before .before .before .before .before .pre .1) (c .before .before .before .before .before .pre .2) (c .before .before .before .before .before .pre .3) in let d = dates-le (c .before .before .before .before .before .pre .0 .valid) in omega (arith, c .before .before .before .before .before .pre .0 .entries)
+part-entry-of-end c =
+    let pre = c .before .before .before .before .before .pre in
+    let e = layer-end (pre .0) (pre .1) (pre .2) (pre .3) in
+    let w = layer-within (pre .0) (pre .1) (pre .2) (pre .3) in
+    let d = dates-le (pre .0 .valid) in
+    omega (arith, pre .0 .entries)
 
 entry-of-requires : tie.Need-entry-of-requires
 unfolding layerSize
-entry-of-requires c κs = entry-within (c .before .before .before .before .before .before .pre .0) (c .before .before .before .before .before .before .pre .1) (c .before .before .before .before .before .before .pre .2) (c .before .before .before .before .before .before .pre .3)
+entry-of-requires c κs =
+    let pre = c .before .before .before .before .before .before .pre in
+    entry-within (pre .0) (pre .1) (pre .2) (pre .3)
 
 returns : tie.Need-returns
 unfolding layerSize
-returns c = c .entry-of .ensures ∙ amount-is (c .before .before .before .before .before .before .before .pre .0) (c .before .before .before .before .before .before .before .pre .1) (c .before .before .before .before .before .before .before .pre .2) (c .before .before .before .before .before .before .before .pre .3)
+returns c =
+    let pre = c .before .before .before .before .before .before .before .pre in
+    c .entry-of .ensures ∙ amount-is (pre .0) (pre .1) (pre .2) (pre .3)
 
 pub amount-on-spec : {M : Type 1} → statement M
 amount-on-spec =

@@ -29,7 +29,11 @@ wide-requires : tie.Need-wide-requires Inv-loop μ-loop
 wide-requires c κs = search needs
 
 returns : tie.Need-returns Inv-loop μ-loop
-returns c = sym (search-hit (c .before .before .before .before .loop .inv) (c .before .before .before .loop-test .taken) (sym (ap (leb (c .before .before .before .before .before .before .args .count)) (c .before .wide .ensures .0)) ∙ le-leb _ _ (c .if1 .taken)))
+returns c =
+    let args = c .before .before .before .before .before .before .args in
+    let loop = c .before .before .before .before .loop in
+    let loop-test = c .before .before .before .loop-test in
+    sym (search-hit (loop .inv) (loop-test .taken) (sym (ap (leb (args .count)) (c .before .wide .ensures .0)) ∙ le-leb _ _ (c .if1 .taken)))
 
 add-j : tie.Need-add-j Inv-loop μ-loop
 add-j c = omega arith
@@ -38,7 +42,11 @@ loop-less : tie.Need-loop-less Inv-loop μ-loop
 loop-less c = omega arith
 
 loop-again : tie.Need-loop-again Inv-loop μ-loop
-loop-again c = search-more (c .before .before .before .before .loop .inv) (c .before .before .before .loop-test .taken) (sym (ap (leb (c .before .before .before .before .before .before .args .count)) (c .before .wide .ensures .0)) ∙ lt-leb _ _ (c .if1 .left))
+loop-again c =
+    let args = c .before .before .before .before .before .before .args in
+    let loop = c .before .before .before .before .loop in
+    let loop-test = c .before .before .before .loop-test in
+    search-more (loop .inv) (loop-test .taken) (sym (ap (leb (args .count)) (c .before .wide .ensures .0)) ∙ lt-leb _ _ (c .if1 .left))
 
 returns-2 : tie.Need-returns-2 Inv-loop μ-loop
 returns-2 c = sym (search-end (c .before .loop .inv) (c .loop-test .left))

@@ -22,15 +22,29 @@ mul-word : tie.Need-mul-word
 mul-word c = search needs
 
 word-requires : tie.Need-word-requires
-word-requires c κs = let k = c .before .before .before .before .before .pre .numbers 0 (c .before .before .before .before .before .pre .valid .dates-least) in omega (arith, c .wide .ensures .0, c .before .before .before .before .before .pre .listing .long)
+word-requires c κs =
+    let pre = c .before .before .before .before .before .pre in
+    let k = pre .numbers 0 (pre .valid .dates-least) in omega (arith, c .wide .ensures .0, pre .listing .long)
 
 next-account-requires : tie.Need-next-account-requires
 unfolding returnsOf
-next-account-requires c κs = let k = c .before .before .before .before .before .before .pre .numbers 0 (c .before .before .before .before .before .before .pre .valid .dates-least) in let v = c .before .before .before .before .before .before .pre .valid in (v .fee, le-trans (v .premium) (v .top), rw (c .word .ensures .0) (c .before .before .before .before .before .before .pre .listing .valid .factor (c .before .wide .result) (omega (arith, c .before .wide .ensures .0, c .before .before .before .before .before .before .pre .listing .all))))
+next-account-requires c κs =
+    let pre = c .before .before .before .before .before .before .pre in
+    let k = pre .numbers 0 (pre .valid .dates-least) in
+    let v = pre .valid in (
+      v .fee,
+      le-trans (v .premium) (v .top),
+      rw (c .word .ensures .0) (pre .listing .valid .factor (c .before .wide .result) (omega (arith, c .before .wide .ensures .0, pre .listing .all))),
+    )
 
 returns : tie.Need-returns
 unfolding returnsOf
-returns c = subst (λ (x : ℕ). Met (termsIn (c .before .before .before .before .before .before .before .args .c)) (returnsOf (c .before .before .before .before .before .before .before .args .list .now)) (c .before .before .before .before .before .before .before .args .table .now) (c .before .before .before .before .before .before .before .args .path .now) 1 x (c .before .before .before .before .before .before .before .args .c .premium)) (sym (c .next-account .ensures ∙ ap (λ (f : ℕ). nextAccount (c .before .before .before .before .before .before .before .args .c .fee) (c .before .before .before .before .before .before .before .args .c .top) (c .before .before .before .before .before .before .before .args .c .premium) f) (c .before .word .ensures .0 ∙ ap (λ (k : ℕ). word (c .before .before .before .before .before .before .before .args .list .now) (4 * k)) (c .before .before .wide .ensures .0)))) (first-met (c .before .before .before .before .before .before .before .pre))
+returns c =
+    let args = c .before .before .before .before .before .before .before .args in
+    let list₀ = args .list .now in
+    let pre = c .before .before .before .before .before .before .before .pre in
+    let wide = c .before .before .wide in
+    subst (λ (x : ℕ). Met (termsIn (args .c)) (returnsOf list₀) (args .table .now) (args .path .now) 1 x (args .c .premium)) (sym (c .next-account .ensures ∙ ap (λ (f : ℕ). nextAccount (args .c .fee) (args .c .top) (args .c .premium) f) (c .before .word .ensures .0 ∙ ap (λ (k : ℕ). word list₀ (4 * k)) (wide .ensures .0)))) (first-met pre)
 
 pub first-place-spec : {M : Type 1} → statement M
 first-place-spec =

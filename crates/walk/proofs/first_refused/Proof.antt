@@ -17,7 +17,8 @@ use Rattle.walk.proofs.first_refused.Statement.{statement}
 use Rattle.walk.proofs.first_refused.Tie as tie
 
 abbrev Inv-loop : tie.InvT-loop
-Inv-loop c list count table path place₀ i₀ place i = (0 < i) × (i ≤ c .dates) × Met (termsIn c) (returnsOf list) table path i (place .account) (place .guarantee) × Searched (badDate (termsIn c) (returnsOf list) table path) (c .dates - 1) (i - 1)
+Inv-loop c list count table path place₀ i₀ place i =
+    (0 < i) × (i ≤ c .dates) × Met (termsIn c) (returnsOf list) table path i (place .account) (place .guarantee) × Searched (badDate (termsIn c) (returnsOf list) table path) (c .dates - 1) (i - 1)
 
 abbrev μ-loop : tie.MeasureT-loop
 μ-loop c list count table path place₀ i₀ place i = c .dates - i
@@ -35,7 +36,18 @@ admitted-requires : tie.Need-admitted-requires Inv-loop μ-loop
 admitted-requires c κs = search needs
 
 next-place-requires : tie.Need-next-place-requires Inv-loop μ-loop
-next-place-requires c κs = (c .before .before .before .before .before .before .before .before .before .before .pre, c .before .before .before .before .before .loop .inv .2, c .before .before .before .before .before .loop .inv .0, c .before .before .before .if1 .taken, c .before .before .amount-on .ensures, dynamic-is _ _ _ (subst T (sym (sym (c .before .admitted .ensures) ∙ c .if2 .taken)) tt))
+next-place-requires c κs =
+    let pre = c .before .before .before .before .before .before .before .before .before .before .pre in
+    let loop = c .before .before .before .before .before .loop in
+    let if1 = c .before .before .before .if1 in
+    let amount-on = c .before .before .amount-on in (
+      pre,
+      loop .inv .2,
+      loop .inv .0,
+      if1 .taken,
+      amount-on .ensures,
+      dynamic-is _ _ _ (subst T (sym (sym (c .before .admitted .ensures) ∙ c .if2 .taken)) tt),
+    )
 
 add-i : tie.Need-add-i Inv-loop μ-loop
 add-i c = omega (arith, c .before .before .before .before .before .before .before .before .before .before .before .pre .valid .dates)
@@ -44,10 +56,27 @@ loop-less : tie.Need-loop-less Inv-loop μ-loop
 loop-less c = omega arith
 
 loop-again : tie.Need-loop-again Inv-loop μ-loop
-loop-again c = (omega arith, omega arith, met-up (c .before .before .before .before .before .before .loop .i) (c .next-place .ensures), subst (Searched _ _) (let e : c .before .before .before .before .before .before .loop .i - 1 + 1 ≡ c .before .before .before .before .before .before .loop .i + 1 - 1 = omega (arith, c .before .before .before .before .before .before .loop .inv .0) in e) (search-more (c .before .before .before .before .before .before .loop .inv .3) (omega (arith, c .before .before .before .before .before .before .loop .inv .0, c .before .before .before .before .if1 .taken)) (bad-is (c .before .before .before .before .before .before .loop .inv .2) (c .before .before .before .before .before .before .loop .inv .0) ∙ sym (ap not (c .before .before .admitted .ensures ∙ ap (λ (t : ℕ). admits dynamic (freeAmount (c .before .before .before .before .before .before .before .before .before .before .before .args .c .level) (c .before .before .before .before .before .before .loop .place .guarantee)) (c .before .before .before .before .before .before .loop .place .account) t) (c .before .before .before .amount-on .ensures))) ∙ ap not (c .before .if2 .taken))))
+loop-again c =
+    let args = c .before .before .before .before .before .before .before .before .before .before .before .args in
+    let loop = c .before .before .before .before .before .before .loop in
+    let i' = loop .i in
+    let if1 = c .before .before .before .before .if1 in
+    let amount-on = c .before .before .before .amount-on in
+    let admitted = c .before .before .admitted in (
+      omega arith,
+      omega arith,
+      met-up i' (c .next-place .ensures),
+      subst (Searched _ _) (let e : i' - 1 + 1 ≡ i' + 1 - 1 = omega (arith, loop .inv .0) in e) (search-more (loop .inv .3) (omega (arith, loop .inv .0, if1 .taken)) (bad-is (loop .inv .2) (loop .inv .0) ∙ sym (ap not (admitted .ensures ∙ ap (λ (t : ℕ). admits dynamic (freeAmount (args .c .level) (loop .place .guarantee)) (loop .place .account) t) (amount-on .ensures))) ∙ ap not (c .before .if2 .taken))),
+    )
 
 returns : tie.Need-returns Inv-loop μ-loop
-returns c = let e = search-hit (c .before .before .before .before .before .loop .inv .3) (omega (arith, c .before .before .before .before .before .loop .inv .0, c .before .before .before .if1 .taken)) (bad-is (c .before .before .before .before .before .loop .inv .2) (c .before .before .before .before .before .loop .inv .0) ∙ sym (ap not (c .before .admitted .ensures ∙ ap (λ (t : ℕ). admits dynamic (freeAmount (c .before .before .before .before .before .before .before .before .before .before .args .c .level) (c .before .before .before .before .before .loop .place .guarantee)) (c .before .before .before .before .before .loop .place .account) t) (c .before .before .amount-on .ensures))) ∙ ap not (c .if2 .left)) in omega (arith, c .before .before .before .before .before .loop .inv .0)
+returns c =
+    let args = c .before .before .before .before .before .before .before .before .before .before .args in
+    let loop = c .before .before .before .before .before .loop in
+    let if1 = c .before .before .before .if1 in
+    let amount-on = c .before .before .amount-on in
+    let e = search-hit (loop .inv .3) (omega (arith, loop .inv .0, if1 .taken)) (bad-is (loop .inv .2) (loop .inv .0) ∙ sym (ap not (c .before .admitted .ensures ∙ ap (λ (t : ℕ). admits dynamic (freeAmount (args .c .level) (loop .place .guarantee)) (loop .place .account) t) (amount-on .ensures))) ∙ ap not (c .if2 .left)) in
+    omega (arith, loop .inv .0)
 
 returns-2 : tie.Need-returns-2 Inv-loop μ-loop
 returns-2 c = let e = search-end (c .before .before .loop .inv .3) (omega (arith, c .if1 .left)) in omega (arith, c .before .before .loop .inv .0, c .before .before .loop .inv .1, c .if1 .left)

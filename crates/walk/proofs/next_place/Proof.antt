@@ -31,11 +31,23 @@ mul-word : tie.Need-mul-word
 mul-word c = search needs
 
 word-requires : tie.Need-word-requires
-word-requires c κs = let k = c .before .before .before .before .before .before .before .pre .0 .numbers (c .before .before .before .before .before .before .before .args .i) (c .before .before .before .before .before .before .before .pre .3) in omega (arith, c .wide .ensures .0, c .before .before .before .before .before .before .before .pre .0 .listing .long)
+word-requires c κs =
+    let args = c .before .before .before .before .before .before .before .args in
+    let pre = c .before .before .before .before .before .before .before .pre in
+    let k = pre .0 .numbers (args .i) (pre .3) in omega (arith, c .wide .ensures .0, pre .0 .listing .long)
 
 next-account-requires : tie.Need-next-account-requires
 unfolding returnsOf balanceAfter
-next-account-requires c κs = let k = c .before .before .before .before .before .before .before .before .pre .0 .numbers (c .before .before .before .before .before .before .before .before .args .i) (c .before .before .before .before .before .before .before .before .pre .3) in let v = c .before .before .before .before .before .before .before .before .pre .0 .valid in (v .fee, le-trans (le-of-eq (c .before .before .before .balance-after .ensures)) (le-trans (sub-le _ _) (le-trans (c .before .before .before .before .before .before .before .before .pre .1 .account) (v .top))), rw (c .word .ensures .0) (c .before .before .before .before .before .before .before .before .pre .0 .listing .valid .factor (c .before .wide .result) (omega (arith, c .before .wide .ensures .0, c .before .before .before .before .before .before .before .before .pre .0 .listing .all))))
+next-account-requires c κs =
+    let args = c .before .before .before .before .before .before .before .before .args in
+    let pre = c .before .before .before .before .before .before .before .before .pre in
+    let balance-after = c .before .before .before .balance-after in
+    let k = pre .0 .numbers (args .i) (pre .3) in
+    let v = pre .0 .valid in (
+      v .fee,
+      le-trans (le-of-eq (balance-after .ensures)) (le-trans (sub-le _ _) (le-trans (pre .1 .account) (v .top))),
+      rw (c .word .ensures .0) (pre .0 .listing .valid .factor (c .before .wide .result) (omega (arith, c .before .wide .ensures .0, pre .0 .listing .all))),
+    )
 
 guarantee-after-requires : tie.Need-guarantee-after-requires
 guarantee-after-requires c κs = search needs
@@ -43,10 +55,22 @@ guarantee-after-requires c κs = search needs
 returns : tie.Need-returns
 unfolding returnsOf
 returns c =
-    let m = next-met (c .before .before .before .before .before .before .before .before .before .before .pre .0) (c .before .before .before .before .before .before .before .before .before .before .pre .1) (c .before .before .before .before .before .before .before .before .before .before .pre .2) (c .before .before .before .before .before .before .before .before .before .before .pre .3) (c .before .before .before .before .before .before .before .before .before .before .args .t) (c .before .before .before .before .before .before .before .before .before .before .pre .4) in
-    let account = c .before .next-account .ensures ∙ ap₂ (λ (x f : ℕ). nextAccount (c .before .before .before .before .before .before .before .before .before .before .args .c .fee) (c .before .before .before .before .before .before .before .before .before .before .args .c .top) x f) (c .before .before .before .before .before .balance-after .ensures) (c .before .before .word .ensures .0 ∙ ap (λ (k : ℕ). word (c .before .before .before .before .before .before .before .before .before .before .args .list .now) (4 * k)) (c .before .before .before .wide .ensures .0)) in
-    let guarantee = c .guarantee-after .ensures ∙ ap (λ (m : ℕ). guaranteeAfter m (c .before .before .before .before .before .before .before .before .before .before .args .place .account) (c .before .before .before .before .before .before .before .before .before .before .args .place .guarantee) (c .before .before .before .before .before .before .before .before .before .before .args .t)) (c .before .before .before .before .before .before .free-amount .ensures) in
-    subst₂ (λ (x y : ℕ). Met (termsIn (c .before .before .before .before .before .before .before .before .before .before .args .c)) (returnsOf (c .before .before .before .before .before .before .before .before .before .before .args .list .now)) (c .before .before .before .before .before .before .before .before .before .before .args .table .now) (c .before .before .before .before .before .before .before .before .before .before .args .path .now) (suc (c .before .before .before .before .before .before .before .before .before .before .args .i)) x y) (sym account) (sym guarantee) m
+    let args = c .before .before .before .before .before .before .before .before .before .before .args in
+    let list₀ = args .list .now in
+    let t₀ = args .t in
+    let pre = c .before .before .before .before .before .before .before .before .before .before .pre in
+    let free-amount = c .before .before .before .before .before .before .free-amount in
+    let balance-after = c .before .before .before .before .before .balance-after in
+    let wide = c .before .before .before .wide in
+    let word-of = c .before .before .word in
+    let m = next-met (pre .0) (pre .1) (pre .2) (pre .3) t₀ (pre .4) in
+    let account =
+    c .before .next-account .ensures
+    ∙ ap₂ (λ (x f : ℕ). nextAccount (args .c .fee) (args .c .top) x f) (balance-after .ensures) (word-of .ensures .0 ∙ ap (λ (k : ℕ). word list₀ (4 * k)) (wide .ensures .0)) in
+    let guarantee =
+    c .guarantee-after .ensures
+    ∙ ap (λ (m : ℕ). guaranteeAfter m (args .place .account) (args .place .guarantee) t₀) (free-amount .ensures) in
+    subst₂ (λ (x y : ℕ). Met (termsIn (args .c)) (returnsOf list₀) (args .table .now) (args .path .now) (suc (args .i)) x y) (sym account) (sym guarantee) m
 
 pub next-place-spec : {M : Type 1} → statement M
 next-place-spec =

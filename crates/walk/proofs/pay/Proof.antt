@@ -16,7 +16,8 @@ use Rattle.walk.proofs.pay.Statement.{statement}
 use Rattle.walk.proofs.pay.Tie as tie
 
 abbrev Inv-loop : tie.InvT-loop
-Inv-loop c list count table path cash₀ place₀ i₀ cash place i = (0 < i) × (i ≤ c .dates) × Met (termsIn c) (returnsOf list) table path i (place .account) (place .guarantee) × (cash ≡ stored cash₀ 0 (paid (termsIn c) (returnsOf list) table path) (i - 1))
+Inv-loop c list count table path cash₀ place₀ i₀ cash place i =
+    (0 < i) × (i ≤ c .dates) × Met (termsIn c) (returnsOf list) table path i (place .account) (place .guarantee) × (cash ≡ stored cash₀ 0 (paid (termsIn c) (returnsOf list) table path) (i - 1))
 
 abbrev μ-loop : tie.MeasureT-loop
 μ-loop c list count table path cash₀ place₀ i₀ cash place i = c .dates - i
@@ -36,7 +37,13 @@ free-amount-requires c κs = search needs
 
 cash-requires : tie.Need-cash-requires Inv-loop μ-loop
 unfolding freeAmount
-cash-requires c κs = (c .before .before .before .before .before .before .before .before .before .before .pre .0 .valid .penalty, (let v = c .before .before .before .before .before .before .before .before .before .before .pre .0 .valid in let x = amount-within (c .before .before .before .before .loop .inv .2) (c .before .before .before .before .loop .inv .0) (c .before .before .before .before .before .before .before .before .before .before .pre .2) (c .before .before .if1 .taken) in le-trans (le-of-eq (c .before .amount-on .ensures)) (le-trans x (max-le (le-trans (c .before .before .before .before .loop .inv .2 .account) (v .top)) (le-trans (min-le-right _ _) (le-trans (c .before .before .before .before .loop .inv .2 .guarantee) (le-trans (v .premium) (v .top))))))))
+cash-requires c κs =
+    let pre = c .before .before .before .before .before .before .before .before .before .before .pre in
+    let loop = c .before .before .before .before .loop in
+    let if1 = c .before .before .if1 in (
+      pre .0 .valid .penalty,
+      (let v = pre .0 .valid in let x = amount-within (loop .inv .2) (loop .inv .0) (pre .2) (if1 .taken) in le-trans (le-of-eq (c .before .amount-on .ensures)) (le-trans x (max-le (le-trans (loop .inv .2 .account) (v .top)) (le-trans (min-le-right _ _) (le-trans (loop .inv .2 .guarantee) (le-trans (v .premium) (v .top))))))),
+    )
 
 cash-is : (c : tie.After-cash Inv-loop μ-loop) → c .cash .result ≡ paid (termsIn (c .before .before .before .before .before .before .before .before .before .before .before .args .c)) (returnsOf (c .before .before .before .before .before .before .before .before .before .before .before .args .list .now)) (c .before .before .before .before .before .before .before .before .before .before .before .args .table .now) (c .before .before .before .before .before .before .before .before .before .before .before .args .path .now) (c .before .before .before .before .before .loop .i - 1)
 cash-is c =
@@ -51,13 +58,38 @@ sub-cash : tie.Need-sub-cash Inv-loop μ-loop
 sub-cash c = omega (arith, c .before .before .before .before .before .loop .inv .0)
 
 mul-cash : tie.Need-mul-cash Inv-loop μ-loop
-mul-cash c = let z = ap length (c .before .before .before .before .before .loop .inv .3) ∙ length-stored (c .before .before .before .before .before .before .before .before .before .before .before .args .cash .now) 0 (paid (termsIn (c .before .before .before .before .before .before .before .before .before .before .before .args .c)) (returnsOf (c .before .before .before .before .before .before .before .before .before .before .before .args .list .now)) (c .before .before .before .before .before .before .before .before .before .before .before .args .table .now) (c .before .before .before .before .before .before .before .before .before .before .before .args .path .now)) (c .before .before .before .before .before .loop .i - 1) in omega (arith, c .before .before .before .before .before .before .before .before .before .before .before .pre .1, c .before .before .before .before .before .loop .inv .1)
+mul-cash c =
+    let args = c .before .before .before .before .before .before .before .before .before .before .before .args in
+    let pre = c .before .before .before .before .before .before .before .before .before .before .before .pre in
+    let loop = c .before .before .before .before .before .loop in
+    let z =
+    ap length (loop .inv .3)
+    ∙ length-stored (args .cash .now) 0 (paid (termsIn (args .c)) (returnsOf (args .list .now)) (args .table .now) (args .path .now)) (loop .i - 1) in
+    omega (arith, pre .1, loop .inv .1)
 
 slice-write-cash : tie.Need-slice-write-cash Inv-loop μ-loop
-slice-write-cash c = let z = ap length (c .before .before .before .before .before .loop .inv .3) ∙ length-stored (c .before .before .before .before .before .before .before .before .before .before .before .args .cash .now) 0 (paid (termsIn (c .before .before .before .before .before .before .before .before .before .before .before .args .c)) (returnsOf (c .before .before .before .before .before .before .before .before .before .before .before .args .list .now)) (c .before .before .before .before .before .before .before .before .before .before .before .args .table .now) (c .before .before .before .before .before .before .before .before .before .before .before .args .path .now)) (c .before .before .before .before .before .loop .i - 1) in omega (arith, c .before .before .before .before .before .before .before .before .before .before .before .pre .1, c .before .before .before .before .before .loop .inv .1, c .before .before .before .before .before .loop .inv .0)
+slice-write-cash c =
+    let args = c .before .before .before .before .before .before .before .before .before .before .before .args in
+    let pre = c .before .before .before .before .before .before .before .before .before .before .before .pre in
+    let loop = c .before .before .before .before .before .loop in
+    let z =
+    ap length (loop .inv .3)
+    ∙ length-stored (args .cash .now) 0 (paid (termsIn (args .c)) (returnsOf (args .list .now)) (args .table .now) (args .path .now)) (loop .i - 1) in
+    omega (arith, pre .1, loop .inv .1, loop .inv .0)
 
 next-place-requires : tie.Need-next-place-requires Inv-loop μ-loop
-next-place-requires c κs = (c .before .before .before .before .before .before .before .before .before .before .before .pre .0, c .before .before .before .before .before .loop .inv .2, c .before .before .before .before .before .loop .inv .0, c .before .before .before .if1 .taken, c .before .before .amount-on .ensures, le-trans (le-of-eq (c .before .before .amount-on .ensures)) (amount-within (c .before .before .before .before .before .loop .inv .2) (c .before .before .before .before .before .loop .inv .0) (c .before .before .before .before .before .before .before .before .before .before .before .pre .2) (c .before .before .before .if1 .taken)))
+next-place-requires c κs =
+    let pre = c .before .before .before .before .before .before .before .before .before .before .before .pre in
+    let loop = c .before .before .before .before .before .loop in
+    let if1 = c .before .before .before .if1 in
+    let amount-on = c .before .before .amount-on in (
+      pre .0,
+      loop .inv .2,
+      loop .inv .0,
+      if1 .taken,
+      amount-on .ensures,
+      le-trans (le-of-eq (amount-on .ensures)) (amount-within (loop .inv .2) (loop .inv .0) (pre .2) (if1 .taken)),
+    )
 
 add-i : tie.Need-add-i Inv-loop μ-loop
 add-i c = omega (arith, c .before .before .before .before .before .before .before .before .before .before .before .before .pre .0 .valid .dates)
@@ -66,33 +98,63 @@ loop-less : tie.Need-loop-less Inv-loop μ-loop
 loop-less c = omega arith
 
 loop-again : tie.Need-loop-again Inv-loop μ-loop
-loop-again c = (omega arith, omega arith, met-up (c .before .before .before .before .before .before .loop .i) (c .next-place .ensures), (λ x. set (c .before .before .before .before .before .before .loop .inv .3 x) (c .before .before .before .before .before .before .loop .i - 1) (cash-is (c .before) x)) ∙ stored-push _ _ _ ∙ ap (stored (c .before .before .before .before .before .before .before .before .before .before .before .before .args .cash .now) 0 (paid (termsIn (c .before .before .before .before .before .before .before .before .before .before .before .before .args .c)) (returnsOf (c .before .before .before .before .before .before .before .before .before .before .before .before .args .list .now)) (c .before .before .before .before .before .before .before .before .before .before .before .before .args .table .now) (c .before .before .before .before .before .before .before .before .before .before .before .before .args .path .now))) (let e : c .before .before .before .before .before .before .loop .i - 1 + 1 ≡ c .before .before .before .before .before .before .loop .i + 1 - 1 = omega (arith, c .before .before .before .before .before .before .loop .inv .0) in e))
+loop-again c =
+    let args = c .before .before .before .before .before .before .before .before .before .before .before .before .args in
+    let loop = c .before .before .before .before .before .before .loop in
+    let i' = loop .i in (
+      omega arith,
+      omega arith,
+      met-up i' (c .next-place .ensures),
+      (λ x. set (loop .inv .3 x) (i' - 1) (cash-is (c .before) x))
+          ∙ stored-push _ _ _
+          ∙ ap (stored (args .cash .now) 0 (paid (termsIn (args .c)) (returnsOf (args .list .now)) (args .table .now) (args .path .now))) (let e : i' - 1 + 1 ≡ i' + 1 - 1 = omega (arith, loop .inv .0) in e),
+    )
 
 sub-last : tie.Need-sub-last Inv-loop μ-loop
 sub-last c = omega (arith, c .before .before .before .before .before .before .before .before .before .pre .0 .valid .dates-least)
 
 maturity-value-requires : tie.Need-maturity-value-requires Inv-loop μ-loop
-maturity-value-requires c κs = let v = c .before .before .before .before .before .before .before .before .before .pre .0 .valid in (le-trans (c .before .before .before .loop .inv .2 .account) (v .top), le-trans (c .before .before .before .loop .inv .2 .guarantee) (le-trans (v .premium) (v .top)))
+maturity-value-requires c κs =
+    let pre = c .before .before .before .before .before .before .before .before .before .pre in
+    let loop = c .before .before .before .loop in
+    let v = pre .0 .valid in (le-trans (loop .inv .2 .account) (v .top), le-trans (loop .inv .2 .guarantee) (le-trans (v .premium) (v .top)))
 
 cast-cash-2 : tie.Need-cast-cash-2 Inv-loop μ-loop
 cast-cash-2 c = omega (arith, c .maturity-value .ensures .1)
 
 mul-cash-2 : tie.Need-mul-cash-2 Inv-loop μ-loop
-mul-cash-2 c = let z = ap length (c .before .before .before .before .loop .inv .3) ∙ length-stored (c .before .before .before .before .before .before .before .before .before .before .args .cash .now) 0 (paid (termsIn (c .before .before .before .before .before .before .before .before .before .before .args .c)) (returnsOf (c .before .before .before .before .before .before .before .before .before .before .args .list .now)) (c .before .before .before .before .before .before .before .before .before .before .args .table .now) (c .before .before .before .before .before .before .before .before .before .before .args .path .now)) (c .before .before .before .before .loop .i - 1) in omega (arith, c .before .before .before .before .before .before .before .before .before .before .pre .1, c .before .before .before .before .before .before .before .before .before .before .pre .0 .valid .dates)
+mul-cash-2 c =
+    let args = c .before .before .before .before .before .before .before .before .before .before .args in
+    let pre = c .before .before .before .before .before .before .before .before .before .before .pre in
+    let loop = c .before .before .before .before .loop in
+    let z =
+    ap length (loop .inv .3)
+    ∙ length-stored (args .cash .now) 0 (paid (termsIn (args .c)) (returnsOf (args .list .now)) (args .table .now) (args .path .now)) (loop .i - 1) in
+    omega (arith, pre .1, pre .0 .valid .dates)
 
 slice-write-cash-2 : tie.Need-slice-write-cash-2 Inv-loop μ-loop
-slice-write-cash-2 c = let z = ap length (c .before .before .before .before .loop .inv .3) ∙ length-stored (c .before .before .before .before .before .before .before .before .before .before .args .cash .now) 0 (paid (termsIn (c .before .before .before .before .before .before .before .before .before .before .args .c)) (returnsOf (c .before .before .before .before .before .before .before .before .before .before .args .list .now)) (c .before .before .before .before .before .before .before .before .before .before .args .table .now) (c .before .before .before .before .before .before .before .before .before .before .args .path .now)) (c .before .before .before .before .loop .i - 1) in omega (arith, c .before .before .before .before .before .before .before .before .before .before .pre .1, c .before .before .before .before .before .before .before .before .before .before .pre .0 .valid .dates-least)
+slice-write-cash-2 c =
+    let args = c .before .before .before .before .before .before .before .before .before .before .args in
+    let pre = c .before .before .before .before .before .before .before .before .before .before .pre in
+    let loop = c .before .before .before .before .loop in
+    let z =
+    ap length (loop .inv .3)
+    ∙ length-stored (args .cash .now) 0 (paid (termsIn (args .c)) (returnsOf (args .list .now)) (args .table .now) (args .path .now)) (loop .i - 1) in
+    omega (arith, pre .1, pre .0 .valid .dates-least)
 
 same-length : tie.Need-same-length Inv-loop μ-loop
 same-length c = length-set (c .before .before .before .before .loop .cash) _ _ ∙ ap length (c .before .before .before .before .loop .inv .3) ∙ length-stored _ _ _ _
 
 returns : tie.Need-returns Inv-loop μ-loop
 returns c =
-    let e : c .before .before .before .before .loop .i ≡ c .before .before .before .before .before .before .before .before .before .before .args .c .dates = omega (arith, c .before .before .before .before .loop .inv .1, c .before .before .if1 .left) in
-    let met = subst (λ (n : ℕ). Met (termsIn (c .before .before .before .before .before .before .before .before .before .before .args .c)) (returnsOf (c .before .before .before .before .before .before .before .before .before .before .args .list .now)) (c .before .before .before .before .before .before .before .before .before .before .args .table .now) (c .before .before .before .before .before .before .before .before .before .before .args .path .now) n (c .before .before .before .before .loop .place .account) (c .before .before .before .before .loop .place .guarantee)) e (c .before .before .before .before .loop .inv .2) in
-    let filled = c .before .before .before .before .loop .inv .3 ∙ ap (λ (n : ℕ). stored (c .before .before .before .before .before .before .before .before .before .before .args .cash .now) 0 (paid (termsIn (c .before .before .before .before .before .before .before .before .before .before .args .c)) (returnsOf (c .before .before .before .before .before .before .before .before .before .before .args .list .now)) (c .before .before .before .before .before .before .before .before .before .before .args .table .now) (c .before .before .before .before .before .before .before .before .before .before .args .path .now)) (n - 1)) e in
-    let last = c .maturity-value .ensures .0 ∙ sym (ap (λ (s : State). maturityValue (s .account) (s .guarantee)) (met .state)) in
-    λ x. set (filled x) (c .before .before .before .before .before .before .before .before .before .before .args .c .dates - 1) (last x)
+    let args = c .before .before .before .before .before .before .before .before .before .before .args in
+    let table₀ = args .table .now in
+    let list₀ = args .list .now in
+    let path₀ = args .path .now in
+    let c₀ = args .c in
+    let loop = c .before .before .before .before .loop in
+    let if1 = c .before .before .if1 in
+    let e : loop .i ≡ args .c .dates = omega (arith, loop .inv .1, if1 .left) in let met = subst (λ (n : ℕ). Met (termsIn c₀) (returnsOf list₀) table₀ path₀ n (loop .place .account) (loop .place .guarantee)) e (loop .inv .2) in let filled = loop .inv .3 ∙ ap (λ (n : ℕ). stored (args .cash .now) 0 (paid (termsIn c₀) (returnsOf list₀) table₀ path₀) (n - 1)) e in let last = c .maturity-value .ensures .0 ∙ sym (ap (λ (s : State). maturityValue (s .account) (s .guarantee)) (met .state)) in λ x. set (filled x) (args .c .dates - 1) (last x)
 
 pub pay-spec : {M : Type 1} → statement M
 pay-spec =

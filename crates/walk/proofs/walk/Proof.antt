@@ -27,11 +27,13 @@ outcome-requires c κs = search needs
 returns : tie.Need-returns
 unfolding numberOf placeOf
 returns c =
+    let args = c .before .before .before .before .before .before .before .before .before .args in
+    let bytes₀ = args .bytes .now in
+    let list₀ = args .list .now in
+    let read = c .before .before .before .read in
     let told = c .before .enum-told .given .1 in
-    let refusal = read-refused (c .before .before .before .before .before .before .before .before .before .args .bytes .now) _ (sym (c .before .before .before .read .ensures) ∙ told) in
-    let w = whole-refused (c .before .before .before .before .before .before .before .before .before .args .bytes .now) (c .before .before .before .before .before .before .before .before .before .args .list .now) (c .before .before .before .before .before .before .before .before .before .args .table .now) (c .before .before .before .before .before .before .before .before .before .args .path .now) (c .before .before .before .before .before .before .before .before .before .args .cash .now) (c .outcome .result) _ _
-    (ap (λ (v : Verdict). andThen v (verdict (listChecks (c .before .before .before .before .before .before .before .before .before .args .list .now)))) refusal)
-    (c .outcome .ensures ∙ ap (λ (r : Reading). outcomeOf (readingVerdict r)) told) in
+    let refusal = read-refused bytes₀ _ (sym (read .ensures) ∙ told) in
+    let w = whole-refused bytes₀ list₀ (args .table .now) (args .path .now) (args .cash .now) (c .outcome .result) _ _ (ap (λ (v : Verdict). andThen v (verdict (listChecks list₀))) refusal) (c .outcome .ensures ∙ ap (λ (r : Reading). outcomeOf (readingVerdict r)) told) in
     (w .outcome-is, w .cash-is)
 
 read-requires-2 : tie.Need-read-requires-2
@@ -49,18 +51,27 @@ outcome-requires-2 c κs = search needs
 returns-2 : tie.Need-returns-2
 unfolding numberOf placeOf
 returns-2 c =
-    let known = read-accepted (c .before .before .before .before .before .before .before .before .before .before .before .before .before .args .bytes .now) _ (sym (c .before .before .before .before .before .before .before .read .ensures) ∙ c .before .before .before .before .before .reading .given .1) in
+    let args = c .before .before .before .before .before .before .before .before .before .before .before .before .before .args in
+    let bytes₀ = args .bytes .now in
+    let list₀ = args .list .now in
+    let read = c .before .before .before .before .before .before .before .read in
+    let reading = c .before .before .before .before .before .reading in
+    let read2 = c .before .before .before .read2 in
+    let known = read-accepted bytes₀ _ (sym (read .ensures) ∙ reading .given .1) in
     let told = c .before .enum-told2 .given .1 in
-    let refusal = list-refused (c .before .before .before .before .before .before .before .before .before .before .before .before .before .args .list .now) _ (sym (c .before .before .before .read2 .ensures) ∙ told) in
-    let w = whole-refused (c .before .before .before .before .before .before .before .before .before .before .before .before .before .args .bytes .now) (c .before .before .before .before .before .before .before .before .before .before .before .before .before .args .list .now) (c .before .before .before .before .before .before .before .before .before .before .before .before .before .args .table .now) (c .before .before .before .before .before .before .before .before .before .before .before .before .before .args .path .now) (c .before .before .before .before .before .before .before .before .before .before .before .before .before .args .cash .now) (c .outcome2 .result) _ _
-    (ap₂ andThen (known .accepts) refusal)
-    (c .outcome2 .ensures ∙ ap (λ (r : Listing). outcomeOf (listingVerdict r)) told) in
+    let refusal = list-refused list₀ _ (sym (read2 .ensures) ∙ told) in
+    let w = whole-refused bytes₀ list₀ (args .table .now) (args .path .now) (args .cash .now) (c .outcome2 .result) _ _ (ap₂ andThen (known .accepts) refusal) (c .outcome2 .ensures ∙ ap (λ (r : Listing). outcomeOf (listingVerdict r)) told) in
     (w .outcome-is, w .cash-is)
 
 walked-requires : tie.Need-walked-requires
 walked-requires c κs =
-    let known = read-accepted (c .before .before .before .before .before .before .before .before .before .before .before .before .before .before .args .bytes .now) _ (sym (c .before .before .before .before .before .before .before .before .read .ensures) ∙ c .before .before .before .before .before .before .reading .given .1) in
-    let listed = list-accepted (c .before .before .before .before .before .before .before .before .before .before .before .before .before .before .args .list .now) _ (sym (c .before .before .before .before .read2 .ensures) ∙ c .before .before .listing .given .1) in
+    let args = c .before .before .before .before .before .before .before .before .before .before .before .before .before .before .args in
+    let read = c .before .before .before .before .before .before .before .before .read in
+    let reading = c .before .before .before .before .before .before .reading in
+    let read2 = c .before .before .before .before .read2 in
+    let listing = c .before .before .listing in
+    let known = read-accepted (args .bytes .now) _ (sym (read .ensures) ∙ reading .given .1) in
+    let listed = list-accepted (args .list .now) _ (sym (read2 .ensures) ∙ listing .given .1) in
     ready known listed
 
 same-length : tie.Need-same-length
@@ -68,9 +79,17 @@ same-length c = search needs
 
 returns-3 : tie.Need-returns-3
 returns-3 c =
-    let known = read-accepted (c .before .before .before .before .before .before .before .before .before .before .before .before .before .before .before .before .before .args .bytes .now) _ (sym (c .before .before .before .before .before .before .before .before .before .before .before .read .ensures) ∙ c .before .before .before .before .before .before .before .before .before .reading .given .1) in
-    let listed = list-accepted (c .before .before .before .before .before .before .before .before .before .before .before .before .before .before .before .before .before .args .list .now) _ (sym (c .before .before .before .before .before .before .before .read2 .ensures) ∙ c .before .before .before .before .before .listing .given .1) in
-    let w = whole (c .before .before .before .before .before .before .before .before .before .before .before .before .before .before .before .before .before .args .bytes .now) (c .before .before .before .before .before .before .before .before .before .before .before .before .before .before .before .before .before .args .list .now) (c .before .before .before .before .before .before .before .before .before .before .before .before .before .before .before .before .before .args .table .now) (c .before .before .before .before .before .before .before .before .before .before .before .before .before .before .before .before .before .args .path .now) (c .before .before .before .before .before .before .before .before .before .before .before .before .before .before .before .before .before .args .cash .now) (c .before .before .walked .result) _ (known .accepts) (listed .accepts) _ (known .terms) (c .before .before .walked .ensures) in
+    let args = c .before .before .before .before .before .before .before .before .before .before .before .before .before .before .before .before .before .args in
+    let bytes₀ = args .bytes .now in
+    let list₀ = args .list .now in
+    let read = c .before .before .before .before .before .before .before .before .before .before .before .read in
+    let reading = c .before .before .before .before .before .before .before .before .before .reading in
+    let read2 = c .before .before .before .before .before .before .before .read2 in
+    let listing = c .before .before .before .before .before .listing in
+    let walked = c .before .before .walked in
+    let known = read-accepted bytes₀ _ (sym (read .ensures) ∙ reading .given .1) in
+    let listed = list-accepted list₀ _ (sym (read2 .ensures) ∙ listing .given .1) in
+    let w = whole bytes₀ list₀ (args .table .now) (args .path .now) (args .cash .now) (walked .result) _ (known .accepts) (listed .accepts) _ (known .terms) (walked .ensures) in
     (w .outcome-is, w .cash-is)
 
 pub walk-spec : {M : Type 1} → statement M

@@ -53,10 +53,16 @@ checked-requires c κs = search needs
 returns-2 : tie.Need-returns-2
 unfolding recordRead verdict recordChecks termsOf long
 returns-2 c =
-    let bytes = c .before .before .before .before .before .before .before .before .before .before .before .args .bytes .now in
-    let given : Contract = record { premium = c .before .before .before .before .before .before .before .before .word .result; level = c .before .before .before .before .before .before .before .word2 .result; top = c .before .before .before .before .before .before .word3 .result; dates = c .before .before .before .before .before .word4 .result; fee = c .before .before .before .before .word5 .result; penalty = c .before .before .before .word6 .result; discount = c .before .before .word7 .result + 65536 * c .before .word8 .result } in
-    let same : given ≡ contractOf (termsOf bytes) = λ i. record { premium = (c .before .before .before .before .before .before .before .before .word .ensures .0) i; level = (c .before .before .before .before .before .before .before .word2 .ensures .0) i; top = (c .before .before .before .before .before .before .word3 .ensures .0) i; dates = (c .before .before .before .before .before .word4 .ensures .0) i; fee = (c .before .before .before .before .word5 .ensures .0) i; penalty = (c .before .before .before .word6 .ensures .0) i; discount = (c .before .before .word7 .ensures .0) i + 65536 * (c .before .word8 .ensures .0) i } in
-    rw (eq-eqb _ _ (c .before .before .before .before .before .before .before .before .before .if1 .left)) (c .checked .ensures ∙ ap (λ (x : Contract). readingOf (verdict (termsChecks (termsIn x))) x) same)
+    let args = c .before .before .before .before .before .before .before .before .before .before .before .args in
+    let if1 = c .before .before .before .before .before .before .before .before .before .if1 in
+    let word = c .before .before .before .before .before .before .before .before .word in
+    let word2 = c .before .before .before .before .before .before .before .word2 in
+    let word3 = c .before .before .before .before .before .before .word3 in
+    let word4 = c .before .before .before .before .before .word4 in
+    let word5 = c .before .before .before .before .word5 in
+    let word6 = c .before .before .before .word6 in
+    let word7 = c .before .before .word7 in
+    let bytes = args .bytes .now in let given : Contract = record { premium = word .result; level = word2 .result; top = word3 .result; dates = word4 .result; fee = word5 .result; penalty = word6 .result; discount = word7 .result + 65536 * c .before .word8 .result } in let same : given ≡ contractOf (termsOf bytes) = λ i. record { premium = (word .ensures .0) i; level = (word2 .ensures .0) i; top = (word3 .ensures .0) i; dates = (word4 .ensures .0) i; fee = (word5 .ensures .0) i; penalty = (word6 .ensures .0) i; discount = (word7 .ensures .0) i + 65536 * (c .before .word8 .ensures .0) i } in rw (eq-eqb _ _ (if1 .left)) (c .checked .ensures ∙ ap (λ (x : Contract). readingOf (verdict (termsChecks (termsIn x))) x) same)
 
 pub read-spec : {M : Type 1} → statement M
 read-spec =
