@@ -1,8 +1,21 @@
 // One date on plain numbers: the leaves that every operation is made of.
 ghost use mathlib.Core.Path.{_≡_};
-ghost use Prim.Native.Nat.{ℕ, _-_, _≤_, max, min};
+ghost use Prim.Native.Nat.{ℕ, _-_, _≤_, _<_, max, min};
 ghost use Rattle.rules.specs.Contract.{topMost, rateMost, discountMost, factorMost};
 ghost use Rattle.rules.specs.Date.{dynamic, freeAmount, largestAmount, surrenders, admits, penalty, cash, guaranteeAfter, balanceAfter, nextAccount, maturityValue, discounted};
+
+// An entry of a working slice, and one of a table, as a number.
+pub fn wide(x: u32) -> usize
+    ensures { λ r. ⌜ (r ≡ x) × (r < 4294967296) ⌝ }
+{
+    x as usize
+}
+
+pub fn wide16(x: u16) -> usize
+    ensures { λ r. ⌜ (r ≡ x) × (r < 65536) ⌝ }
+{
+    x as usize
+}
 
 pub fn smaller(x: usize, y: usize) -> usize
     ensures { λ r. ⌜ r ≡ min x y ⌝ }

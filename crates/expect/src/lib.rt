@@ -13,19 +13,13 @@ ghost use Rattle.contract.specs.Reading.{termsIn};
 ghost use Rattle.expect.specs.Expected.{term, Run, Summed, Row, Listing, Layers, Balance, expected};
 use contract::Contract;
 
-fn wide(x: u32) -> usize
-    ensures { λ r. ⌜ (r ≡ x) × (r < 4294967296) ⌝ }
-{
-    x as usize
-}
-
 // What return k adds to the sum of guarantee a. Both factors have 32 bits, so that the loops over guarantees can be widened.
 fn product(work: &[u32], starts: &[usize; 64], weights: &[u32; 64], k: usize, a: usize) -> usize
     requires { ⌜ (k < returnsMost) × (getD (now weights) k 0 ≤ weightMost) × (getD (now starts) k 0 + a < length (now work)) ⌝ }
     ensures { λ r. ⌜ (r ≡ term (now (work .entry)) (now (starts .entry)) (now (weights .entry)) a k) × (r ≤ 42949672960000) ⌝ }
 {
     let at = starts[k] + a;
-    wide(weights[k]) * wide(work[at])
+    date::wide(weights[k]) * date::wide(work[at])
 }
 
 // The sum over the returns for guarantee a.

@@ -23,18 +23,6 @@ use contract::Reading;
 use contract::Returns;
 use valuing::Answer;
 
-fn wide(x: u32) -> usize
-    ensures { λ r. ⌜ (r ≡ x) × (r < 4294967296) ⌝ }
-{
-    x as usize
-}
-
-fn wide_amount(x: u16) -> usize
-    ensures { λ r. ⌜ (r ≡ x) × (r < 65536) ⌝ }
-{
-    x as usize
-}
-
 // Refusal 14 of entry e of a date's layer.
 fn bad_entry(layer: &[u16], c: Contract, e: usize) -> bool
     requires { ⌜ Valid (termsIn c) × (e < length (now layer)) ⌝ }
@@ -43,7 +31,7 @@ fn bad_entry(layer: &[u16], c: Contract, e: usize) -> bool
     let stride = c.premium + 1;
     let w = e / stride;
     let m = date::free_amount(c.level, e % stride);
-    if date::admits_dynamic(m, w, wide_amount(layer[e])) {
+    if date::admits_dynamic(m, w, date::wide16(layer[e])) {
         return false;
     }
     true
@@ -101,7 +89,7 @@ fn worth(
     let m = date::free_amount(level, a);
     let g = date::guarantee_after(m, w, a, t);
     let at = base + (date::balance_after(w, t) * stride + g);
-    date::cash(rate, m, t) + wide(work[at])
+    date::cash(rate, m, t) + date::wide(work[at])
 }
 
 // The states of account w.
@@ -120,7 +108,7 @@ fn follow_row(
     let row = w * stride;
     for a in 0..stride {
         let i = row + a;
-        let t = wide_amount(layer[i]);
+        let t = date::wide16(layer[i]);
         work[i] = worth(&work[..], base, stride, w, a, level, rate, t) as u32;
     }
 }

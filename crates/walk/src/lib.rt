@@ -30,12 +30,6 @@ pub struct Place {
     pub guarantee: usize,
 }
 
-fn wide(x: u16) -> usize
-    ensures { λ r. ⌜ (r ≡ x) × (r < 65536) ⌝ }
-{
-    x as usize
-}
-
 // Refusal 11.
 fn too_short(c: Contract, table: &[u16], cash: &[u32]) -> bool
     requires { ⌜ Valid (termsIn c) ⌝ }
@@ -55,7 +49,7 @@ fn first_missing(path: &[u16], count: usize, n: usize) -> usize
 {
     let mut j: usize = 0;
     while j < n {
-        if count <= wide(path[j]) {
+        if count <= date::wide16(path[j]) {
             return j;
         }
         j += 1;
@@ -68,7 +62,7 @@ fn first_place(c: Contract, list: &[u8], count: usize, table: &[u16], path: &[u1
     requires { ⌜ Walking (termsIn c) count (now list) (now table) (now path) ⌝ }
     ensures { λ r. ⌜ Met (termsIn c) (returnsOf (now (list .entry))) (now (table .entry)) (now (path .entry)) 1 (r .account) (r .guarantee) ⌝ }
 {
-    let factor = contract::word(list, Contract::RETURN_BYTES * wide(path[0]));
+    let factor = contract::word(list, Contract::RETURN_BYTES * date::wide16(path[0]));
     Place {
         account: date::next_account(c.fee, c.top, c.premium, factor),
         guarantee: c.premium,
@@ -79,7 +73,7 @@ fn entry_of(layer: &[u16], stride: usize, account: usize, guarantee: usize) -> u
     requires { ⌜ account * stride + guarantee < length (now layer) ⌝ }
     ensures { λ r. ⌜ r ≡ getD (now (layer .entry)) (account * stride + guarantee) 0 ⌝ }
 {
-    wide(layer[account * stride + guarantee])
+    date::wide16(layer[account * stride + guarantee])
 }
 
 // The table's amount on date i, from the layer of that date.
@@ -118,7 +112,7 @@ fn next_place(
 {
     let m = date::free_amount(c.level, place.guarantee);
     let balance = date::balance_after(place.account, t);
-    let factor = contract::word(list, Contract::RETURN_BYTES * wide(path[i]));
+    let factor = contract::word(list, Contract::RETURN_BYTES * date::wide16(path[i]));
     Place {
         account: date::next_account(c.fee, c.top, balance, factor),
         guarantee: date::guarantee_after(m, place.account, place.guarantee, t),

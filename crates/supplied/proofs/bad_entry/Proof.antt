@@ -20,14 +20,14 @@ rem-free-amount c = search needs
 free-amount-requires : tie.Need-free-amount-requires
 free-amount-requires c κs = search needs
 
-mul-wide-amount : tie.Need-mul-wide-amount
-mul-wide-amount c = search needs
+mul-wide16 : tie.Need-mul-wide16
+mul-wide16 c = search needs
 
-shared-slice-read-wide-amount : tie.Need-shared-slice-read-wide-amount
-shared-slice-read-wide-amount c = search needs
+shared-slice-read-wide16 : tie.Need-shared-slice-read-wide16
+shared-slice-read-wide16 c = search needs
 
-wide-amount-requires : tie.Need-wide-amount-requires
-wide-amount-requires c κs = search needs
+wide16-requires : tie.Need-wide16-requires
+wide16-requires c κs = search needs
 
 admits-dynamic-requires : tie.Need-admits-dynamic-requires
 admits-dynamic-requires c κs = search needs
@@ -37,16 +37,16 @@ unfolding badAt admissibleIn layoutOf freeIn
 returns c =
     let args = c .before .before .before .before .before .before .before .args in
     let free-amount = c .before .before .before .before .free-amount in
-    let wide-amount = c .before .before .wide-amount in
-    rw (sym (c .before .admits-dynamic .ensures ∙ ap₂ (λ (m t : ℕ). admits dynamic m (args .e / (args .c .premium + 1)) t) (free-amount .ensures) (wide-amount .ensures .0)) ∙ c .if1 .taken)
+    let wide16 = c .before .before .wide16 in
+    rw (sym (c .before .admits-dynamic .ensures ∙ ap₂ (λ (m t : ℕ). admits dynamic m (args .e / (args .c .premium + 1)) t) (free-amount .ensures) (wide16 .ensures .0)) ∙ c .if1 .taken)
 
 returns-2 : tie.Need-returns-2
 unfolding badAt admissibleIn layoutOf freeIn
 returns-2 c =
     let args = c .before .before .before .before .before .before .before .args in
     let free-amount = c .before .before .before .before .free-amount in
-    let wide-amount = c .before .before .wide-amount in
-    rw (sym (c .before .admits-dynamic .ensures ∙ ap₂ (λ (m t : ℕ). admits dynamic m (args .e / (args .c .premium + 1)) t) (free-amount .ensures) (wide-amount .ensures .0)) ∙ c .if1 .left)
+    let wide16 = c .before .before .wide16 in
+    rw (sym (c .before .admits-dynamic .ensures ∙ ap₂ (λ (m t : ℕ). admits dynamic m (args .e / (args .c .premium + 1)) t) (free-amount .ensures) (wide16 .ensures .0)) ∙ c .if1 .left)
 
 pub bad-entry-spec : {M : Type 1} → statement M
 bad-entry-spec =
@@ -56,9 +56,9 @@ bad-entry-spec =
     div-w
     rem-free-amount
     free-amount-requires
-    mul-wide-amount
-    shared-slice-read-wide-amount
-    wide-amount-requires
+    mul-wide16
+    shared-slice-read-wide16
+    wide16-requires
     admits-dynamic-requires
     returns
     returns-2)

@@ -40,8 +40,8 @@ add-i c =
     let q = row-entry w₀ pre a' (c .loop-test .taken) in
     omega arith
 
-mul-wide-amount : tie.Need-mul-wide-amount Inv-loop μ-loop
-mul-wide-amount c =
+mul-wide16 : tie.Need-mul-wide16 Inv-loop μ-loop
+mul-wide16 c =
     let args = c .before .before .before .before .args in
     let w₀ = args .w in
     let pre = c .before .before .before .before .pre in
@@ -52,8 +52,8 @@ mul-wide-amount c =
     let q = row-entry w₀ pre a' (c .loop-test .taken) in
     omega arith
 
-shared-slice-read-wide-amount : tie.Need-shared-slice-read-wide-amount Inv-loop μ-loop
-shared-slice-read-wide-amount c =
+shared-slice-read-wide16 : tie.Need-shared-slice-read-wide16 Inv-loop μ-loop
+shared-slice-read-wide16 c =
     let args = c .before .before .before .before .before .args in
     let w₀ = args .w in
     let pre = c .before .before .before .before .before .pre in
@@ -64,8 +64,8 @@ shared-slice-read-wide-amount c =
     let q = row-entry w₀ pre a' (c .before .loop-test .taken) in
     omega arith
 
-wide-amount-requires : tie.Need-wide-amount-requires Inv-loop μ-loop
-wide-amount-requires c κs = search needs
+wide16-requires : tie.Need-wide16-requires Inv-loop μ-loop
+wide16-requires c κs = search needs
 
 worth-requires : tie.Need-worth-requires Inv-loop μ-loop
 worth-requires c κs =
@@ -76,7 +76,7 @@ worth-requires c κs =
     let loop = c .before .before .before .before .loop in
     let a' = loop .a in
     let loop-test = c .before .before .before .loop-test in
-    let amount = c .before .wide-amount .ensures .0 ∙ ap (λ (i : ℕ). getD (args .layer .now) i 0) (sym (zero-add (w₀ * stride₀ + a'))) in (
+    let amount = c .before .wide16 .ensures .0 ∙ ap (λ (i : ℕ). getD (args .layer .now) i 0) (sym (zero-add (w₀ * stride₀ + a'))) in (
       subst (λ (xs : List ℕ). State xs (args .base) stride₀ w₀ a' (freeAmount (args .level) a')) (sym (loop .inv .1)) (state-on w₀ pre _ a' (loop .inv .0) a' (loop-test .taken)),
       pre .rate-is,
       le-trans (le-of-eq amount) (amount-within w₀ pre a' (loop-test .taken)),
@@ -90,8 +90,8 @@ value-is c =
     let pre = c .before .before .before .before .before .before .before .before .pre in
     let loop = c .before .before .before .before .before .loop in
     let a' = loop .a in
-    let wide-amount = c .before .before .wide-amount in
-    let amount = wide-amount .ensures .0 ∙ ap (λ (i : ℕ). getD (args .layer .now) i 0) (sym (zero-add (w₀ * stride₀ + a'))) in
+    let wide16 = c .before .before .wide16 in
+    let amount = wide16 .ensures .0 ∙ ap (λ (i : ℕ). getD (args .layer .now) i 0) (sym (zero-add (w₀ * stride₀ + a'))) in
     let kept = ap (λ (xs : List ℕ). cells xs (args .base) stride₀) (loop .inv .1) ∙ sums-kept w₀ pre _ a' (loop .inv .0) in
     c .worth .ensures ∙ ap₂ (λ (e : ℕ → ℕ → ℕ) (t : ℕ). worthOver e (args .rate) (freeAmount (args .level) a') w₀ a' t) kept amount
 
@@ -163,9 +163,9 @@ follow-row-spec =
     mul-row
     loop-holds
     add-i
-    mul-wide-amount
-    shared-slice-read-wide-amount
-    wide-amount-requires
+    mul-wide16
+    shared-slice-read-wide16
+    wide16-requires
     worth-requires
     cast-work
     mul-work

@@ -12,11 +12,11 @@ use Rattle.walk.proofs.Laws.{first-met}
 use Rattle.walk.proofs.first_place.Statement.{statement}
 use Rattle.walk.proofs.first_place.Tie as tie
 
-shared-slice-read-wide : tie.Need-shared-slice-read-wide
-shared-slice-read-wide c = search needs
+shared-slice-read-wide16 : tie.Need-shared-slice-read-wide16
+shared-slice-read-wide16 c = search needs
 
-wide-requires : tie.Need-wide-requires
-wide-requires c κs = search needs
+wide16-requires : tie.Need-wide16-requires
+wide16-requires c κs = search needs
 
 mul-word : tie.Need-mul-word
 mul-word c = search needs
@@ -24,7 +24,7 @@ mul-word c = search needs
 word-requires : tie.Need-word-requires
 word-requires c κs =
     let pre = c .before .before .before .before .before .pre in
-    let k = pre .numbers 0 (pre .valid .dates-least) in omega (arith, c .wide .ensures .0, pre .listing .long)
+    let k = pre .numbers 0 (pre .valid .dates-least) in omega (arith, c .wide16 .ensures .0, pre .listing .long)
 
 next-account-requires : tie.Need-next-account-requires
 unfolding returnsOf
@@ -34,7 +34,7 @@ next-account-requires c κs =
     let v = pre .valid in (
       v .fee,
       le-trans (v .premium) (v .top),
-      rw (c .word .ensures .0) (pre .listing .valid .factor (c .before .wide .result) (omega (arith, c .before .wide .ensures .0, pre .listing .all))),
+      rw (c .word .ensures .0) (pre .listing .valid .factor (c .before .wide16 .result) (omega (arith, c .before .wide16 .ensures .0, pre .listing .all))),
     )
 
 returns : tie.Need-returns
@@ -43,15 +43,15 @@ returns c =
     let args = c .before .before .before .before .before .before .before .args in
     let list₀ = args .list .now in
     let pre = c .before .before .before .before .before .before .before .pre in
-    let wide = c .before .before .wide in
-    subst (λ (x : ℕ). Met (termsIn (args .c)) (returnsOf list₀) (args .table .now) (args .path .now) 1 x (args .c .premium)) (sym (c .next-account .ensures ∙ ap (λ (f : ℕ). nextAccount (args .c .fee) (args .c .top) (args .c .premium) f) (c .before .word .ensures .0 ∙ ap (λ (k : ℕ). word list₀ (4 * k)) (wide .ensures .0)))) (first-met pre)
+    let wide16 = c .before .before .wide16 in
+    subst (λ (x : ℕ). Met (termsIn (args .c)) (returnsOf list₀) (args .table .now) (args .path .now) 1 x (args .c .premium)) (sym (c .next-account .ensures ∙ ap (λ (f : ℕ). nextAccount (args .c .fee) (args .c .top) (args .c .premium) f) (c .before .word .ensures .0 ∙ ap (λ (k : ℕ). word list₀ (4 * k)) (wide16 .ensures .0)))) (first-met pre)
 
 pub first-place-spec : {M : Type 1} → statement M
 first-place-spec =
     tie.close
     (tie.spec
-    shared-slice-read-wide
-    wide-requires
+    shared-slice-read-wide16
+    wide16-requires
     mul-word
     word-requires
     next-account-requires
