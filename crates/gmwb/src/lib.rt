@@ -85,12 +85,12 @@ pub extern "C" fn gmwb_value_table(
     ensures { λ _. ⌜ now (margin .exit) ≡ suppliedAnswer (now (bytes .entry)) (now (list .entry)) (now (work .entry)) (now (table .entry)) .margin ⌝ }
     ensures { λ _. ⌜ now (work .exit) ≡ suppliedWork (now (bytes .entry)) (now (list .entry)) (now (work .entry)) (now (table .entry)) ⌝ }
 {
-    let answer = supplied::value(bytes, list, work, table);
-    *place = answer.place;
-    *value = answer.value;
-    let difference = answer.margin;
+    let told = supplied::value(bytes, list, work, table);
+    *place = told.place;
+    *value = told.value;
+    let difference = told.margin;
     *margin = difference;
-    answer.number
+    told.number
 }
 
 // Walks a contract along a path and fills its cash.
