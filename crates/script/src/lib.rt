@@ -593,19 +593,6 @@ fn checked(record: &[u8], out: &mut [u8]) -> usize
     byte(out, next, NEW_LINE)
 }
 
-// check RECORD
-fn check_line(line: &[u8], out: &mut [u8]) -> usize
-    ensures { λ r. ⌜ r ≤ length (now (out .entry)) ⌝ }
-{
-    let mut record = [0u8; 64];
-    let a = bytes(part(line, SPACE, 1), &mut record);
-    let i = a.n;
-    if !a.known {
-        return error(out);
-    }
-    checked(&record[0..i], out)
-}
-
 fn booked(record: &[u8], date: u64, w: u64, g: u64, t: u64, buffer: &mut [u8], out: &mut [u8]) -> usize
     ensures { λ r. ⌜ r ≤ length (now (out .entry)) ⌝ }
 {
@@ -622,24 +609,37 @@ fn booked(record: &[u8], date: u64, w: u64, g: u64, t: u64, buffer: &mut [u8], o
     byte(out, next, NEW_LINE)
 }
 
-// book RECORD DATE ACCOUNT GUARANTEE AMOUNT BUFFER
-fn book_line(line: &[u8], out: &mut [u8]) -> usize
+// DATE ACCOUNT GUARANTEE AMOUNT BUFFER of a booking.
+fn book_line(record: &[u8], line: &[u8], out: &mut [u8]) -> usize
     ensures { λ r. ⌜ r ≤ length (now (out .entry)) ⌝ }
 {
-    let mut record = [0u8; 64];
-    let mut buffer = [0u8; 64];
-    let a = bytes(part(line, SPACE, 1), &mut record);
     let date = decimal(part(line, SPACE, 2));
     let w = decimal(part(line, SPACE, 3));
     let g = decimal(part(line, SPACE, 4));
     let t = decimal(part(line, SPACE, 5));
+    let mut buffer = [0u8; 64];
     let b = slice8(part(line, SPACE, 6), &mut buffer);
-    let i = a.n;
     let j = b.n;
-    if !(a.known && date.known && w.known && g.known && t.known && b.known) {
+    if !(date.known && w.known && g.known && t.known && b.known) {
         return error(out);
     }
-    booked(&record[0..i], date.n, w.n, g.n, t.n, &mut buffer[0..j], out)
+    booked(record, date.n, w.n, g.n, t.n, &mut buffer[0..j], out)
+}
+
+// The operations on a record alone.
+fn record_line(line: &[u8], is_check: bool, out: &mut [u8]) -> usize
+    ensures { λ r. ⌜ r ≤ length (now (out .entry)) ⌝ }
+{
+    let mut record = [0u8; 64];
+    let a = bytes(part(line, SPACE, 1), &mut record);
+    let i = a.n;
+    if !a.known {
+        return error(out);
+    }
+    if is_check {
+        return checked(&record[0..i], out);
+    }
+    book_line(&record[0..i], line, out)
 }
 
 // Value and margin behind number and place, then the digests.
@@ -669,8 +669,124 @@ fn value(
     valued(answer, work, table, out)
 }
 
-// value RECORD LIST BEHAVIOUR WORK TABLE
-fn value_line(line: &[u8], held: usize, work: &mut [u32], table: &mut [u16], out: &mut [u8]) -> Done
+fn no_table(out: &mut [u8]) -> Done
+    ensures { λ r. ⌜ (r .text ≤ length (now (out .entry))) × (r .table ≡ 0) ⌝ }
+{
+    Done {
+        text: error(out),
+        table: 0,
+    }
+}
+
+// BEHAVIOUR WORK TABLE of a valuation.
+fn value_line(
+    record: &[u8],
+    list: &[u8],
+    line: &[u8],
+    held: usize,
+    work: &mut [u32],
+    table: &mut [u16],
+    out: &mut [u8],
+) -> Done
+    requires { ⌜ held ≤ length (now table) ⌝ }
+    ensures { λ r. ⌜ (r .text ≤ length (now (out .entry))) × (r .table ≤ length (now (table .entry))) ⌝ }
+{
+    let behaviour = decimal(part(line, SPACE, 3));
+    let c = slice32(part(line, SPACE, 4), work);
+    let d = table16(part(line, SPACE, 5), table, held);
+    let k = c.n;
+    let n = d.n;
+    if !(behaviour.known && c.known && d.known) {
+        return no_table(out);
+    }
+    let text = value(record, list, behaviour.n, &mut work[0..k], &mut table[0..n], out);
+    Done { text, table: n }
+}
+
+fn value_of(record: &[u8], list: &[u8], work: &mut [u32], table: &[u16], out: &mut [u8]) -> usize
+    ensures { λ r. ⌜ r ≤ length (now (out .entry)) ⌝ }
+{
+    let answer = supplied::value(record, list, work, table);
+    valued(answer, work, table, out)
+}
+
+// WORK TABLE of a supplied table.
+fn table_line(
+    record: &[u8],
+    list: &[u8],
+    line: &[u8],
+    held: usize,
+    work: &mut [u32],
+    table: &mut [u16],
+    out: &mut [u8],
+) -> Done
+    requires { ⌜ held ≤ length (now table) ⌝ }
+    ensures { λ r. ⌜ (r .text ≤ length (now (out .entry))) × (r .table ≤ length (now (table .entry))) ⌝ }
+{
+    let c = slice32(part(line, SPACE, 3), work);
+    let d = table16(part(line, SPACE, 4), table, held);
+    let k = c.n;
+    let n = d.n;
+    if !(c.known && d.known) {
+        return no_table(out);
+    }
+    let text = value_of(record, list, &mut work[0..k], &table[0..n], out);
+    Done { text, table: n }
+}
+
+fn walked(
+    record: &[u8],
+    list: &[u8],
+    table: &[u16],
+    path: &[u16],
+    cash: &mut [u32],
+    out: &mut [u8],
+) -> usize
+    ensures { λ r. ⌜ r ≤ length (now (out .entry)) ⌝ }
+{
+    let told = walk::walk(record, list, table, path, cash);
+    let a = outcome(out, told.number, told.place);
+    let b = spaced(out, a, digest16(table));
+    let c = spaced(out, b, digest32(cash));
+    byte(out, c, NEW_LINE)
+}
+
+// TABLE NUMBERS CASH of a walk. The cash is put in the working slice.
+fn walk_line(
+    record: &[u8],
+    list: &[u8],
+    line: &[u8],
+    held: usize,
+    work: &mut [u32],
+    table: &mut [u16],
+    out: &mut [u8],
+) -> Done
+    requires { ⌜ held ≤ length (now table) ⌝ }
+    ensures { λ r. ⌜ (r .text ≤ length (now (out .entry))) × (r .table ≤ length (now (table .entry))) ⌝ }
+{
+    let d = table16(part(line, SPACE, 3), table, held);
+    let mut path: [u16; 64] = [0; 64];
+    let b = slice16(part(line, SPACE, 4), &mut path);
+    let c = slice32(part(line, SPACE, 5), work);
+    let n = d.n;
+    let j = b.n;
+    let k = c.n;
+    if !(d.known && b.known && c.known) {
+        return no_table(out);
+    }
+    let text = walked(record, list, &table[0..n], &path[0..j], &mut work[0..k], out);
+    Done { text, table: n }
+}
+
+// The operations on a record and a list: valuation 0, supplied table 1, walk 2.
+fn list_line(
+    line: &[u8],
+    kind: usize,
+    held: usize,
+    work: &mut [u32],
+    table: &mut [u16],
+    out: &mut [u8],
+) -> Done
     requires { ⌜ held ≤ length (now table) ⌝ }
     ensures { λ r. ⌜ (r .text ≤ length (now (out .entry))) × (r .table ≤ length (now (table .entry))) ⌝ }
 {
@@ -678,26 +794,53 @@ fn value_line(line: &[u8], held: usize, work: &mut [u32], table: &mut [u16], out
     let mut list = [0u8; 512];
     let a = bytes(part(line, SPACE, 1), &mut record);
     let b = bytes(part(line, SPACE, 2), &mut list);
-    let behaviour = decimal(part(line, SPACE, 3));
-    let c = slice32(part(line, SPACE, 4), work);
-    let d = table16(part(line, SPACE, 5), table, held);
     let i = a.n;
     let j = b.n;
-    let k = c.n;
-    let n = d.n;
-    if !(a.known && b.known && behaviour.known && c.known && d.known) {
-        return Done {
-            text: error(out),
-            table: 0,
-        };
+    if !(a.known && b.known) {
+        return no_table(out);
     }
-    let text = value(
-        &record[0..i],
-        &list[0..j],
-        behaviour.n,
-        &mut work[0..k],
-        &mut table[0..n],
-        out,
-    );
-    Done { text, table: n }
+    if kind == 0 {
+        return value_line(&record[0..i], &list[0..j], line, held, work, table, out);
+    }
+    if kind == 1 {
+        return table_line(&record[0..i], &list[0..j], line, held, work, table, out);
+    }
+    walk_line(&record[0..i], &list[0..j], line, held, work, table, out)
+}
+
+fn kept(text: usize, held: usize) -> Done
+    ensures { λ r. ⌜ (r .text ≡ text) × (r .table ≡ held) ⌝ }
+{
+    Done { text, table: held }
+}
+
+// Answers a line at the start of out. `held` entries of the table are the last table.
+pub fn answer(line: &[u8], held: usize, work: &mut [u32], table: &mut [u16], out: &mut [u8]) -> Done
+    requires { ⌜ held ≤ length (now table) ⌝ }
+    ensures { λ r. ⌜ (r .text ≤ length (now (out .entry))) × (r .table ≤ length (now (table .entry))) ⌝ }
+{
+    if line.len() == 0 {
+        return kept(0, held);
+    }
+    if line[0] == 35 {
+        return kept(0, held);
+    }
+    let name = part(line, SPACE, 0);
+    let fields = times(line, SPACE);
+    if fields == 1 && same(name, b"check") {
+        return kept(record_line(line, true, out), held);
+    }
+    if fields == 6 && same(name, b"book") {
+        return kept(record_line(line, false, out), held);
+    }
+    if fields == 5 && same(name, b"value") {
+        return list_line(line, 0, held, work, table, out);
+    }
+    if fields == 4 && same(name, b"value_table") {
+        return list_line(line, 1, held, work, table, out);
+    }
+    if fields == 5 && same(name, b"walk") {
+        return list_line(line, 2, held, work, table, out);
+    }
+    no_table(out)
 }
