@@ -85,7 +85,7 @@ fn main() {
         return;
     }
     let mut text = [0u8; 65536];
-    let mut work: [u32; 16384] = [0; 16384];
+    let mut work: [u32; 65536] = [0; 65536];
     let mut table: [u16; 65536] = [0; 65536];
     run(fd, &mut text, &mut work, &mut table);
     libc::close(fd);
