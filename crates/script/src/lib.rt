@@ -8,9 +8,13 @@ use contract::Contract;
 use valuing::Answer;
 
 const SPACE: u8 = 32;
+
 const COMMA: u8 = 44;
+
 const COLON: u8 = 58;
+
 const NEW_LINE: u8 = 10;
+
 const PLACES: usize = 20;
 
 // ---- words and numbers
@@ -112,7 +116,11 @@ fn times(text: &[u8], b: u8) -> usize {
 
 // `-`, which stands for no entries.
 fn is_none(text: &[u8]) -> bool {
-    if text.len() == 1 { text[0] == 45 } else { false }
+    if text.len() == 1 {
+        text[0] == 45
+    } else {
+        false
+    }
 }
 
 // 16 and more: no digit.
@@ -593,7 +601,15 @@ fn checked(record: &[u8], out: &mut [u8]) -> usize
     byte(out, next, NEW_LINE)
 }
 
-fn booked(record: &[u8], date: u64, w: u64, g: u64, t: u64, buffer: &mut [u8], out: &mut [u8]) -> usize
+fn booked(
+    record: &[u8],
+    date: u64,
+    w: u64,
+    g: u64,
+    t: u64,
+    buffer: &mut [u8],
+    out: &mut [u8],
+) -> usize
     ensures { λ r. ⌜ r ≤ length (now (out .entry)) ⌝ }
 {
     let told = booking::book(
@@ -626,6 +642,15 @@ fn book_line(record: &[u8], line: &[u8], out: &mut [u8]) -> usize
     booked(record, date.n, w.n, g.n, t.n, &mut buffer[0..j], out)
 }
 
+fn with_record(is_check: bool, record: &[u8], line: &[u8], out: &mut [u8]) -> usize
+    ensures { λ r. ⌜ r ≤ length (now (out .entry)) ⌝ }
+{
+    if is_check {
+        return checked(record, out);
+    }
+    book_line(record, line, out)
+}
+
 // The operations on a record alone.
 fn record_line(line: &[u8], is_check: bool, out: &mut [u8]) -> usize
     ensures { λ r. ⌜ r ≤ length (now (out .entry)) ⌝ }
@@ -636,10 +661,7 @@ fn record_line(line: &[u8], is_check: bool, out: &mut [u8]) -> usize
     if !a.known {
         return error(out);
     }
-    if is_check {
-        return checked(&record[0..i], out);
-    }
-    book_line(&record[0..i], line, out)
+    with_record(is_check, &record[0..i], line, out)
 }
 
 // Value and margin behind number and place, then the digests.
@@ -699,7 +721,14 @@ fn value_line(
     if !(behaviour.known && c.known && d.known) {
         return no_table(out);
     }
-    let text = value(record, list, behaviour.n, &mut work[0..k], &mut table[0..n], out);
+    let text = value(
+        record,
+        list,
+        behaviour.n,
+        &mut work[0..k],
+        &mut table[0..n],
+        out,
+    );
     Done { text, table: n }
 }
 
@@ -774,11 +803,41 @@ fn walk_line(
     if !(d.known && b.known && c.known) {
         return no_table(out);
     }
-    let text = walked(record, list, &table[0..n], &path[0..j], &mut work[0..k], out);
+    let text = walked(
+        record,
+        list,
+        &table[0..n],
+        &path[0..j],
+        &mut work[0..k],
+        out,
+    );
     Done { text, table: n }
 }
 
-// The operations on a record and a list: valuation 0, supplied table 1, walk 2.
+// Valuation 0, supplied table 1, walk 2.
+fn with_list(
+    kind: usize,
+    record: &[u8],
+    list: &[u8],
+    line: &[u8],
+    held: usize,
+    work: &mut [u32],
+    table: &mut [u16],
+    out: &mut [u8],
+) -> Done
+    requires { ⌜ held ≤ length (now table) ⌝ }
+    ensures { λ r. ⌜ (r .text ≤ length (now (out .entry))) × (r .table ≤ length (now (table .entry))) ⌝ }
+{
+    if kind == 0 {
+        return value_line(record, list, line, held, work, table, out);
+    }
+    if kind == 1 {
+        return table_line(record, list, line, held, work, table, out);
+    }
+    walk_line(record, list, line, held, work, table, out)
+}
+
+// The operations on a record and a list.
 fn list_line(
     line: &[u8],
     kind: usize,
@@ -799,13 +858,16 @@ fn list_line(
     if !(a.known && b.known) {
         return no_table(out);
     }
-    if kind == 0 {
-        return value_line(&record[0..i], &list[0..j], line, held, work, table, out);
-    }
-    if kind == 1 {
-        return table_line(&record[0..i], &list[0..j], line, held, work, table, out);
-    }
-    walk_line(&record[0..i], &list[0..j], line, held, work, table, out)
+    with_list(
+        kind,
+        &record[0..i],
+        &list[0..j],
+        line,
+        held,
+        work,
+        table,
+        out,
+    )
 }
 
 fn kept(text: usize, held: usize) -> Done
