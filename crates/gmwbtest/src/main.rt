@@ -5,7 +5,7 @@ ghost use Prim.Native.Nat.{_≤_};
 ghost use lib.ListN.{length};
 use libc::STDOUT_FILENO;
 
-const NEW_LINE: u8 = 10;
+const NEW_LINE: u8 = b'\n';
 // More pieces of a file than a script has.
 const PIECES: usize = 4096;
 

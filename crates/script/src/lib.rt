@@ -1,40 +1,41 @@
 // A line of a script of operations in, its answer out; second/script.rs describes both. It serves the test program and is no
 // part of the product, so the contracts are modest: bounds and lengths, and no word of what a line means. What it answers is
-// compared with the second program's answers.
+// compared with the second program's answers. Entries one by one are read for 16-bit slices only.
 ghost use mathlib.Core.Path.{_≡_};
 ghost use Prim.Native.Nat.{_+_, _≤_, _<_};
 ghost use lib.ListN.{length};
 use contract::Contract;
 use valuing::Answer;
 
-const SPACE: u8 = 32;
+const SPACE: u8 = b' ';
 
-const COMMA: u8 = 44;
+const COMMA: u8 = b',';
 
-const COLON: u8 = 58;
+const COLON: u8 = b':';
 
-const NEW_LINE: u8 = 10;
+const NEW_LINE: u8 = b'\n';
 
 const PLACES: usize = 20;
 
 // ---- words and numbers
 // What a word says, if it is understood.
-pub struct Number {
-    pub known: bool,
-    pub n: u64,
+struct Number {
+    known: bool,
+    n: u64,
 }
 
 // How many entries a word gives, if it is understood.
-pub struct Count {
-    pub known: bool,
-    pub n: usize,
+struct Count {
+    known: bool,
+    n: usize,
 }
 
-pub struct Shape {
-    pub known: bool,
-    pub length: usize,
-    pub seed: u64,
-    pub limit: u64,
+// A slice told by its pattern.
+struct Shape {
+    known: bool,
+    length: usize,
+    seed: u64,
+    limit: u64,
 }
 
 // What a line leaves: the length of its answer, and how many entries of the table count as the last table.
@@ -117,24 +118,24 @@ fn times(text: &[u8], b: u8) -> usize {
 // `-`, which stands for no entries.
 fn is_none(text: &[u8]) -> bool {
     if text.len() == 1 {
-        text[0] == 45
+        text[0] == b'-'
     } else {
         false
     }
 }
 
-// 16 and more: no digit.
+// What a hex digit counts; 16 for any other byte.
 fn digit(b: u8) -> u8
     ensures { λ r. ⌜ r ≤ 16 ⌝ }
 {
-    if 48 <= b {
-        if b <= 57 {
-            return b - 48;
+    if b'0' <= b {
+        if b <= b'9' {
+            return b - b'0';
         }
     }
-    if 97 <= b {
-        if b <= 102 {
-            return b - 87;
+    if b'a' <= b {
+        if b <= b'f' {
+            return b - b'a' + 10;
         }
     }
     16
@@ -287,7 +288,7 @@ fn rest(x: u64, limit: u64) -> u64
     x % limit
 }
 
-// Entry by entry SEED + 7,919 x i, mod the width's prime and then mod the limit.
+// Entry by entry SEED + 7,919 × i, mod the width's prime and then mod the limit.
 fn fill32(out: &mut [u32], n: usize, seed: u64, limit: u64)
     requires { ⌜ (n ≤ length (now out)) × (0 < limit) ⌝ }
 {
@@ -433,7 +434,7 @@ fn table16(text: &[u8], out: &mut [u16], held: usize) -> Count
     if text.len() == 0 {
         return no_count();
     }
-    if text[0] != 61 {
+    if text[0] != b'=' {
         return slice16(text, out);
     }
     if text.len() == 1 {
@@ -497,7 +498,7 @@ fn digit_of(out: &mut [u8], at: usize, x: u64, unit: u64) -> usize
             return at;
         }
     }
-    byte(out, at, 48 + (x / unit % 10) as u8)
+    byte(out, at, b'0' + (x / unit % 10) as u8)
 }
 
 fn tenth(unit: u64) -> u64
@@ -575,7 +576,7 @@ fn signed(out: &mut [u8], at: usize, x: i64) -> usize
     if less == 0 {
         return digits(out, next, above(x));
     }
-    let behind_sign = byte(out, next, 45);
+    let behind_sign = byte(out, next, b'-');
     digits(out, behind_sign, less)
 }
 
@@ -583,11 +584,11 @@ fn signed(out: &mut [u8], at: usize, x: i64) -> usize
 fn error(out: &mut [u8]) -> usize
     ensures { λ r. ⌜ r ≤ length (now (out .entry)) ⌝ }
 {
-    let a = byte(out, 0, 101);
-    let b = byte(out, a, 114);
-    let c = byte(out, b, 114);
-    let d = byte(out, c, 111);
-    let e = byte(out, d, 114);
+    let a = byte(out, 0, b'e');
+    let b = byte(out, a, b'r');
+    let c = byte(out, b, b'r');
+    let d = byte(out, c, b'o');
+    let e = byte(out, d, b'r');
     byte(out, e, NEW_LINE)
 }
 
@@ -884,7 +885,7 @@ pub fn answer(line: &[u8], held: usize, work: &mut [u32], table: &mut [u16], out
     if line.len() == 0 {
         return kept(0, held);
     }
-    if line[0] == 35 {
+    if line[0] == b'#' {
         return kept(0, held);
     }
     let name = part(line, SPACE, 0);
