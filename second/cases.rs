@@ -598,7 +598,7 @@ fn every_count_of_dates(s: &mut Script) {
     }
 }
 
-fn smallest_and_largest(s: &mut Script) {
+fn smallest(s: &mut Script) {
     s.part("Top 1.");
     for dates in [1, 2, 3, 10, 40] {
         let terms = Terms {
@@ -617,6 +617,9 @@ fn smallest_and_largest(s: &mut Script) {
             }
         }
     }
+}
+
+fn largest(s: &mut Script) {
     s.part("Top 4,000, where the slices are too short.");
     for premium in [1, 2, 100, 3_999, 4_000] {
         let terms = Terms {
@@ -636,7 +639,7 @@ fn smallest_and_largest(s: &mut Script) {
             s.book(terms, [1, 4_000, guarantee, amount], 16);
         }
     }
-    s.part("Top 4,000 with premium 1 and N 1, whose working slice just fits; N 2 with its table.");
+    s.part("Top 4,000 with premium 1: N 1, the working slice just long enough and one short; N 2 with its table.");
     let least = Terms {
         premium: 1,
         level: 1,
@@ -652,8 +655,7 @@ fn smallest_and_largest(s: &mut Script) {
     }
 }
 
-/// The engine takes guarantees in blocks of 64 and returns by four.
-fn around_blocks(s: &mut Script) {
+fn every_count_of_returns(s: &mut Script) {
     s.part("1 to 64 returns, each behaviour.");
     for count in 1..=64 {
         let returns = s.draw.returns(count);
@@ -665,6 +667,10 @@ fn around_blocks(s: &mut Script) {
             s.valued_and_walked(terms, &returns, behaviour);
         }
     }
+}
+
+/// The engine takes guarantees in blocks of 64.
+fn around_blocks(s: &mut Script) {
     s.part("Premiums around 64 and 128, with tops at and above the premium.");
     for premium in [62, 63, 64, 65, 66, 126, 127, 128, 129, 130] {
         for above in [0, 1, 60] {
@@ -862,7 +868,9 @@ pub fn script() -> String {
     ends_of_returns(&mut s);
     refusals(&mut s);
     every_count_of_dates(&mut s);
-    smallest_and_largest(&mut s);
+    smallest(&mut s);
+    largest(&mut s);
+    every_count_of_returns(&mut s);
     around_blocks(&mut s);
     lengths_of_slices(&mut s);
     random_records(&mut s);

@@ -321,8 +321,14 @@ fn count_operation(tally: &mut Tally, operation: &Operation, number: u64) {
         return;
     }
     count(tally, refusal(name, number));
-    if number == 11 {
-        count_short(tally, &c, operation);
+    let returns = returns(list_of(operation));
+    match number {
+        2 if c.top == 4_001 => count(tally, "top 4,001 refused with 2".to_string()),
+        8 if returns.iter().any(|r| r.0 == 30_001) => {
+            count(tally, "factor 30,001 refused with 8".to_string())
+        }
+        11 => count_short(tally, &c, operation),
+        _ => {}
     }
     let mut behind = order_of(name).iter().skip_while(|n| **n != number).skip(1);
     if let Some(next) = behind.next().filter(|next| fails(**next, operation)) {
@@ -330,9 +336,33 @@ fn count_operation(tally: &mut Tally, operation: &Operation, number: u64) {
     }
 }
 
+/// Cases that there have to be somewhere.
+const SOMEWHERE: [&str; 20] = [
+    "top 4,000 passes",
+    "top 4,001 refused with 2",
+    "factor 30,001 refused with 8",
+    "a working slice one entry short",
+    "a table one entry short",
+    "top 1 valued",
+    "fee 10,000 valued",
+    "penalty rate 10,000 valued",
+    "discount 1 valued",
+    "equal factors valued",
+    "factor 0 valued",
+    "factor 30,000 valued",
+    "weight 1 valued",
+    "weight 10,000 valued",
+    "64 returns valued",
+    "slices just long enough valued",
+    "a longer working slice valued",
+    "a longer table valued",
+    "the last table used again",
+    "the last table used again with an entry changed",
+];
+
 /// Every case that there has to be, and how often.
 fn wanted() -> Vec<(String, u64)> {
-    let mut wanted = Vec::new();
+    let mut wanted = vec![("operations".to_string(), LEAST_OPERATIONS)];
     for (name, order) in ORDERS {
         wanted.push((format!("{name} accepted"), LEAST_ACCEPTED));
         wanted.extend(order.iter().map(|n| (refusal(name, *n), LEAST_REFUSALS)));
@@ -344,29 +374,37 @@ fn wanted() -> Vec<(String, u64)> {
     for name in ["value", "value_table", "walk"] {
         wanted.push((format!("top 4,000: {}", refusal(name, 11)), 1));
     }
-    for case in [
-        "top 4,000 passes",
-        "a working slice one entry short",
-        "a table one entry short",
-        "top 1 valued",
-        "fee 10,000 valued",
-        "penalty rate 10,000 valued",
-        "discount 1 valued",
-        "equal factors valued",
-        "factor 0 valued",
-        "factor 30,000 valued",
-        "weight 1 valued",
-        "weight 10,000 valued",
-        "64 returns valued",
-        "slices just long enough valued",
-        "a longer working slice valued",
-        "a longer table valued",
-        "the last table used again",
-        "the last table used again with an entry changed",
-    ] {
-        wanted.push((case.to_string(), 1));
-    }
+    wanted.extend(SOMEWHERE.map(|case| (case.to_string(), 1)));
     wanted
+}
+
+/// How a line names its table, where it is the last one.
+fn count_table(tally: &mut Tally, line: &str) {
+    if line.split(' ').any(|word| word == "=") {
+        count(tally, "the last table used again".to_string());
+    } else if line.contains(" =") {
+        let case = "the last table used again with an entry changed";
+        count(tally, case.to_string());
+    }
+}
+
+/// Takes a line in; gives what is wrong with it.
+fn take_line(tally: &mut Tally, session: &mut Session, line: &str) -> Option<String> {
+    let read = session.operation(line);
+    let answer = session.answer(line, false);
+    let (Ok(operation), Ok(answer)) = (read, answer) else {
+        return Some("not understood".to_string());
+    };
+    let order = order_of(name_of(&operation));
+    let first = order.iter().find(|n| fails(**n, &operation));
+    let number = number_of(&answer);
+    if number != *first.unwrap_or(&0) {
+        return Some(format!("{number} is not the first check that fails"));
+    }
+    count(tally, "operations".to_string());
+    count_table(tally, line);
+    count_operation(tally, &operation, number);
+    None
 }
 
 /// What was found, in words, and what lacks.
@@ -374,47 +412,18 @@ pub fn cover(script: &str) -> (String, Vec<String>) {
     let mut session = Session::default();
     let mut tally = Tally::new();
     let mut lacking = Vec::new();
-    let mut operations = 0;
     for (index, line) in script.lines().enumerate() {
         if line.is_empty() || line.starts_with('#') {
             continue;
         }
-        let read = session.operation(line);
-        let answer = session.answer(line, false);
-        let (Ok(operation), Ok(answer)) = (read, answer) else {
-            lacking.push(format!("line {} is not understood", index + 1));
-            continue;
-        };
-        operations += 1;
-        let order = order_of(name_of(&operation));
-        let first = order.iter().find(|n| fails(**n, &operation));
-        let number = number_of(&answer);
-        if number != *first.unwrap_or(&0) {
-            lacking.push(format!(
-                "line {}: {number} is not the first check that fails",
-                index + 1
-            ));
-        }
-        if line.split(' ').any(|word| word == "=") {
-            count(&mut tally, "the last table used again".to_string());
-        } else if line.contains(" =") {
-            count(
-                &mut tally,
-                "the last table used again with an entry changed".to_string(),
-            );
-        }
-        count_operation(&mut tally, &operation, number);
+        let wrong = take_line(&mut tally, &mut session, line);
+        lacking.extend(wrong.map(|what| format!("line {}: {what}", index + 1)));
     }
-    if operations < LEAST_OPERATIONS {
-        lacking.push(format!(
-            "{operations} operations, at least {LEAST_OPERATIONS}"
-        ));
-    }
+    let found = |case: &str| tally.get(case).copied().unwrap_or(0);
     for (case, least) in wanted() {
-        let found = tally.get(&case).copied().unwrap_or(0);
-        if found < least {
-            lacking.push(format!("{case}: {found}, at least {least}"));
+        if found(&case) < least {
+            lacking.push(format!("{case}: {}, at least {least}", found(&case)));
         }
     }
-    (format!("{operations} operations"), lacking)
+    (format!("{} operations", found("operations")), lacking)
 }
