@@ -45,6 +45,10 @@
 //! Blank lines and lines that start with `#` get no answer. A line that is not
 //! understood gets the answer `error`, its reason on standard error, and the exit
 //! status is then 1.
+//!
+//! The test program (crates/gmwbtest) answers the same lines, without `full`. It takes
+//! entries one by one for 16-bit slices only, and no more than it has room for
+//! (cases.rs); it answers any other line by `error`.
 
 use crate::gmwb;
 use crate::text::number;
