@@ -3,6 +3,8 @@
 //! ```text
 //! second run                         answers a script of operations; see script.rs
 //! second run full                    the same, with the contents of the lent slices
+//! second script                      prints the script of the test program; see cases.rs
+//! second cover                       whether a script has every case; see cover.rs
 //! second program RECORDFILE LISTFILE prints what `gmwbval` prints for these two files
 //! second self-check                  checks the rules; see self_check.rs
 //! second pack FOLDER                 text to terms.bin and returns.bin; see text.rs
@@ -12,6 +14,8 @@
 //! Exit status: 0; 1 after an error, a failed check or a script line not understood;
 //! 2 when the command itself is not understood. A refusal is an answer, with status 0.
 
+mod cases;
+mod cover;
 mod gmwb;
 mod script;
 mod self_check;
@@ -21,8 +25,8 @@ use std::io::{self, Read, Write};
 use std::path::Path;
 use std::process::ExitCode;
 
-const USAGE: &str = "usage: second run [full] | program RECORDFILE LISTFILE | self-check \
-                     | pack FOLDER | show RECORDFILE LISTFILE";
+const USAGE: &str = "usage: second run [full] | script | cover | program RECORDFILE LISTFILE \
+                     | self-check | pack FOLDER | show RECORDFILE LISTFILE";
 
 /// "A missing file is empty." Any other failure to read is an error.
 fn bytes_of(path: &str) -> Result<Vec<u8>, String> {
@@ -62,6 +66,21 @@ fn run(full: bool) -> Result<bool, String> {
     script::run(io::stdin().lock(), io::stdout().lock(), full).map_err(|e| e.to_string())
 }
 
+fn cover() -> Result<bool, String> {
+    let mut script = String::new();
+    let read = io::stdin().read_to_string(&mut script);
+    read.map_err(|e| e.to_string())?;
+    let (found, lacking) = cover::cover(&script);
+    for what in &lacking {
+        eprintln!("lacking: {what}");
+    }
+    print(&format!(
+        "second: {found}, {} cases lacking\n",
+        lacking.len()
+    ))?;
+    Ok(lacking.is_empty())
+}
+
 fn self_check() -> Result<bool, String> {
     let (checks, failed) = self_check::run();
     print(&format!("second: {checks} checks, {failed} failed\n"))?;
@@ -76,6 +95,8 @@ fn main() -> ExitCode {
     let result = match words[..] {
         ["run"] => run(false),
         ["run", "full"] => run(true),
+        ["script"] => print(&cases::script()),
+        ["cover"] => cover(),
         ["program", record, list] => program(record, list),
         ["self-check"] => self_check(),
         ["pack", folder] => pack(folder),

@@ -21,6 +21,12 @@
 //!   a SEED of M or more counts as SEED mod M;
 //! - `LEN:SEED:LIMIT`: the same, each entry then taken mod LIMIT (LIMIT 1: all zeros).
 //!
+//! A TABLE may also be
+//! - `=`: the table as the last operation that had one left it, none before the first;
+//! - `=I:V`: the same with V in entry I, of those there are.
+//!
+//! A line that is not understood leaves no table.
+//!
 //! Answers:
 //!
 //! ```text
@@ -39,6 +45,10 @@
 //! Blank lines and lines that start with `#` get no answer. A line that is not
 //! understood gets the answer `error`, its reason on standard error, and the exit
 //! status is then 1.
+//!
+//! The test program (crates/gmwbtest) answers the same lines, without `full`. It takes
+//! entries one by one for 16-bit slices only, and no more than it has room for
+//! (cases.rs); it answers any other line by `error`.
 
 use crate::gmwb;
 use crate::text::number;
@@ -120,6 +130,100 @@ fn hex(bytes: &[u8]) -> String {
     bytes.iter().map(|b| format!("{b:02x}")).collect()
 }
 
+/// A table: a slice, or the last table, whole or with an entry changed.
+fn table_in(text: &str, last: &[u16]) -> Result<Vec<u16>, String> {
+    let Some(change) = text.strip_prefix('=') else {
+        return slice_in(text, MOD_16);
+    };
+    let mut table = last.to_vec();
+    if change.is_empty() {
+        return Ok(table);
+    }
+    let Some((index, value)) = change.split_once(':') else {
+        return Err(format!("'{text}' is not =I:V"));
+    };
+    let (index, value) = (number(index)?, number(value)?);
+    let entry = usize::try_from(index).ok().and_then(|i| table.get_mut(i));
+    let entry = entry.ok_or(format!("the last table has no entry {index}"))?;
+    *entry = u16::try_from(value).map_err(|_| format!("entry {value} is too large"))?;
+    Ok(table)
+}
+
+/// A line that is understood. The slices are lent to the call and hold what it leaves.
+#[derive(Clone)]
+pub enum Operation {
+    Check {
+        record: Vec<u8>,
+    },
+    Value {
+        record: Vec<u8>,
+        list: Vec<u8>,
+        behaviour: u64,
+        work: Vec<u32>,
+        table: Vec<u16>,
+    },
+    ValueTable {
+        record: Vec<u8>,
+        list: Vec<u8>,
+        work: Vec<u32>,
+        table: Vec<u16>,
+    },
+    Book {
+        record: Vec<u8>,
+        date: u64,
+        account: u64,
+        guarantee: u64,
+        amount: u64,
+        buffer: Vec<u8>,
+    },
+    Walk {
+        record: Vec<u8>,
+        list: Vec<u8>,
+        table: Vec<u16>,
+        numbers: Vec<u16>,
+        cash: Vec<u32>,
+    },
+}
+
+/// The operation in a line, behind one that left the table `last`.
+fn operation(line: &str, last: &[u16]) -> Result<Operation, String> {
+    let words: Vec<&str> = line.split(' ').collect();
+    Ok(match words[..] {
+        ["check", record] => Operation::Check {
+            record: bytes_in(record)?,
+        },
+        ["value", record, list, behaviour, work, table] => Operation::Value {
+            record: bytes_in(record)?,
+            list: bytes_in(list)?,
+            behaviour: number(behaviour)?,
+            work: slice_in(work, MOD_32)?,
+            table: table_in(table, last)?,
+        },
+        ["value_table", record, list, work, table] => Operation::ValueTable {
+            record: bytes_in(record)?,
+            list: bytes_in(list)?,
+            work: slice_in(work, MOD_32)?,
+            table: table_in(table, last)?,
+        },
+        ["book", record, date, account, guarantee, amount, buffer] => Operation::Book {
+            record: bytes_in(record)?,
+            date: number(date)?,
+            account: number(account)?,
+            guarantee: number(guarantee)?,
+            amount: number(amount)?,
+            buffer: slice_in(buffer, MOD_8)?,
+        },
+        ["walk", record, list, table, numbers, cash] => Operation::Walk {
+            record: bytes_in(record)?,
+            list: bytes_in(list)?,
+            table: table_in(table, last)?,
+            numbers: slice_in(numbers, MOD_16)?,
+            cash: slice_in(cash, MOD_32)?,
+        },
+        _ => return Err("no such operation, or a wrong count of fields".to_string()),
+    })
+}
+
 fn told(a: gmwb::Answer) -> String {
     format!("{} {}", a.number, a.place)
 }
@@ -134,72 +238,122 @@ fn told_value(v: gmwb::Valued, work: &[u32], table: &[u16], full: bool) -> Strin
     line
 }
 
-fn value(words: [&str; 5], full: bool) -> Result<String, String> {
-    let (record, list) = (bytes_in(words[0])?, bytes_in(words[1])?);
-    let behaviour = number(words[2])?;
-    let mut work = slice_in(words[3], MOD_32)?;
-    let mut table = slice_in(words[4], MOD_16)?;
-    let answer = gmwb::value(&record, &list, behaviour, &mut work, &mut table);
-    Ok(told_value(answer, &work, &table, full))
-}
-
-fn value_table(words: [&str; 4], full: bool) -> Result<String, String> {
-    let (record, list) = (bytes_in(words[0])?, bytes_in(words[1])?);
-    let mut work = slice_in(words[2], MOD_32)?;
-    let table: Vec<u16> = slice_in(words[3], MOD_16)?;
-    let answer = gmwb::value_table(&record, &list, &mut work, &table);
-    Ok(told_value(answer, &work, &table, full))
-}
-
-fn book(words: [&str; 6], full: bool) -> Result<String, String> {
-    let record = bytes_in(words[0])?;
-    let (date, account) = (number(words[1])?, number(words[2])?);
-    let (guarantee, amount) = (number(words[3])?, number(words[4])?);
-    let mut buffer: Vec<u8> = slice_in(words[5], MOD_8)?;
-    let answer = gmwb::book(&record, date, account, guarantee, amount, &mut buffer);
-    let mut line = format!("{} {}", told(answer), digest(&buffer));
+fn told_booking(a: gmwb::Answer, buffer: &[u8], full: bool) -> String {
+    let mut line = format!("{} {}", told(a), digest(buffer));
     if full {
-        line += &format!(" {}", hex(&buffer));
+        line += &format!(" {}", hex(buffer));
     }
-    Ok(line)
+    line
 }
 
-fn walk(words: [&str; 5], full: bool) -> Result<String, String> {
-    let (record, list) = (bytes_in(words[0])?, bytes_in(words[1])?);
-    let table: Vec<u16> = slice_in(words[2], MOD_16)?;
-    let numbers: Vec<u16> = slice_in(words[3], MOD_16)?;
-    let mut cash: Vec<u32> = slice_in(words[4], MOD_32)?;
-    let answer = gmwb::walk(&record, &list, &table, &numbers, &mut cash);
-    let mut line = format!("{} {} {}", told(answer), digest(&table), digest(&cash));
+fn told_walk(a: gmwb::Answer, table: &[u16], cash: &[u32], full: bool) -> String {
+    let mut line = format!("{} {} {}", told(a), digest(table), digest(cash));
     if full {
-        line += &format!(" {} {}", listed(&table), listed(&cash));
+        line += &format!(" {} {}", listed(table), listed(cash));
     }
-    Ok(line)
+    line
 }
 
-/// The answer line to one script line.
+/// Makes the call; gives its answer line.
+fn answered(operation: &mut Operation, full: bool) -> String {
+    match operation {
+        Operation::Check { record } => told(gmwb::check(record)),
+        Operation::Value {
+            record,
+            list,
+            behaviour,
+            work,
+            table,
+        } => {
+            let answer = gmwb::value(record, list, *behaviour, work, table);
+            told_value(answer, work, table, full)
+        }
+        Operation::ValueTable {
+            record,
+            list,
+            work,
+            table,
+        } => {
+            let answer = gmwb::value_table(record, list, work, table);
+            told_value(answer, work, table, full)
+        }
+        Operation::Book {
+            record,
+            date,
+            account,
+            guarantee,
+            amount,
+            buffer,
+        } => {
+            let answer = gmwb::book(record, *date, *account, *guarantee, *amount, buffer);
+            told_booking(answer, buffer, full)
+        }
+        Operation::Walk {
+            record,
+            list,
+            table,
+            numbers,
+            cash,
+        } => {
+            let answer = gmwb::walk(record, list, table, numbers, cash);
+            told_walk(answer, table, cash, full)
+        }
+    }
+}
+
+/// The table that an operation had, if it had one.
+fn table_of(operation: Operation) -> Option<Vec<u16>> {
+    match operation {
+        Operation::Value { table, .. }
+        | Operation::ValueTable { table, .. }
+        | Operation::Walk { table, .. } => Some(table),
+        Operation::Check { .. } | Operation::Book { .. } => None,
+    }
+}
+
+/// A script as far as it is answered: the table that its last operation with one left.
+#[derive(Default)]
+pub struct Session {
+    last: Vec<u16>,
+}
+
+impl Session {
+    /// The operation in the next line, as it stands before the call.
+    pub fn operation(&self, line: &str) -> Result<Operation, String> {
+        operation(line, &self.last)
+    }
+
+    /// The answer to the next line.
+    pub fn answer(&mut self, line: &str, full: bool) -> Result<String, String> {
+        let read = self.operation(line);
+        if read.is_err() {
+            self.last.clear();
+        }
+        let mut operation = read?;
+        let text = answered(&mut operation, full);
+        if let Some(table) = table_of(operation) {
+            self.last = table;
+        }
+        Ok(text)
+    }
+}
+
+/// The answer to a line that is a script by itself.
 pub fn answer(line: &str, full: bool) -> Result<String, String> {
-    let words: Vec<&str> = line.split(' ').collect();
-    match words[..] {
-        ["check", record] => Ok(told(gmwb::check(&bytes_in(record)?))),
-        ["value", a, b, c, d, e] => value([a, b, c, d, e], full),
-        ["value_table", a, b, c, d] => value_table([a, b, c, d], full),
-        ["book", a, b, c, d, e, f] => book([a, b, c, d, e, f], full),
-        ["walk", a, b, c, d, e] => walk([a, b, c, d, e], full),
-        _ => Err("no such operation, or a wrong count of fields".to_string()),
-    }
+    Session::default().answer(line, full)
 }
 
 /// Answers a script line by line, so that it can also be driven through a pipe.
 /// Gives true when every line was understood.
 pub fn run(input: impl BufRead, mut output: impl Write, full: bool) -> io::Result<bool> {
     let mut understood = true;
+    let mut session = Session::default();
     for (index, line) in input.split(b'\n').enumerate() {
         let line = String::from_utf8_lossy(&line?).into_owned();
         if line.is_empty() || line.starts_with('#') {
             continue;
         }
-        match answer(&line, full) {
+        match session.answer(&line, full) {
             Ok(text) => writeln!(output, "{text}")?,
             Err(reason) => {
                 understood = false;

@@ -1,0 +1,882 @@
+//! `second script`: the script of the test program, the same on every run.
+//!
+//! Its parts, each headed in the script by a line that starts with `#`: the cases of
+//! document 01, the ends of every range, every refusal alone and with the checks behind
+//! it failing too, every count of dates, slices of every length that matters, and
+//! random contracts, whole and damaged.
+//!
+//! The test program has room for records of 64 bytes, lists of 512, 64 return numbers,
+//! 64 bytes of a buffer, 65,536 numbers of a working slice or of cash, and 65,536
+//! amounts of a table. Nothing here asks for more.
+
+use std::fmt::Write;
+
+/// A contract record, each field in its own width, so that bad ones can be written.
+#[derive(Clone, Copy)]
+struct Terms {
+    premium: u16,
+    level: u16,
+    top: u16,
+    dates: u16,
+    fee: u16,
+    penalty: u16,
+    discount: u32,
+}
+
+const P: Terms = Terms {
+    premium: 10,
+    level: 5,
+    top: 20,
+    dates: 2,
+    fee: 0,
+    penalty: 1_000,
+    discount: 1_000_000,
+};
+
+const Q: Terms = Terms {
+    fee: 2_000,
+    penalty: 0,
+    ..P
+};
+
+/// A return: factor and weight.
+type Return = (u16, u16);
+
+const P_RETURNS: [Return; 2] = [(5_000, 5_000), (15_000, 5_000)];
+
+impl Terms {
+    fn bytes(self) -> Vec<u8> {
+        let fields = [
+            self.premium,
+            self.level,
+            self.top,
+            self.dates,
+            self.fee,
+            self.penalty,
+        ];
+        let mut bytes: Vec<u8> = fields.iter().flat_map(|x| x.to_le_bytes()).collect();
+        bytes.extend(self.discount.to_le_bytes());
+        bytes
+    }
+
+    fn layer(self) -> usize {
+        (usize::from(self.top) + 1) * (usize::from(self.premium) + 1)
+    }
+
+    fn work(self) -> usize {
+        2 * self.layer()
+    }
+
+    fn table(self) -> usize {
+        usize::from(self.dates).saturating_sub(1) * self.layer()
+    }
+
+    /// The end of the dynamic set of the state that has entry `entry` of a layer.
+    fn largest(self, entry: usize) -> usize {
+        let row = usize::from(self.premium) + 1;
+        let m = usize::from(self.level).min(entry % row);
+        (entry / row).max(m)
+    }
+}
+
+fn list_bytes(returns: &[Return]) -> Vec<u8> {
+    let fields = returns.iter().flat_map(|(f, w)| [*f, *w]);
+    fields.flat_map(u16::to_le_bytes).collect()
+}
+
+fn hex(bytes: &[u8]) -> String {
+    if bytes.is_empty() {
+        return "-".to_string();
+    }
+    bytes.iter().map(|b| format!("{b:02x}")).collect()
+}
+
+fn listed(entries: &[u16]) -> String {
+    if entries.is_empty() {
+        return "-".to_string();
+    }
+    let words: Vec<String> = entries.iter().map(u16::to_string).collect();
+    words.join(",")
+}
+
+/// A generator of its own, the same on every run.
+struct Draw(u64);
+
+impl Draw {
+    /// A number from 0 to `most`.
+    fn upto(&mut self, most: usize) -> usize {
+        self.0 = self.0.wrapping_mul(6_364_136_223_846_793_005);
+        self.0 = self.0.wrapping_add(1_442_695_040_888_963_407);
+        (self.0 >> 33) as usize % (most + 1)
+    }
+
+    fn one<T: Copy>(&mut self, of: &[T]) -> T {
+        of[self.upto(of.len() - 1)]
+    }
+
+    /// LEN:SEED, with some seed.
+    fn filled(&mut self, length: usize) -> String {
+        format!("{length}:{}", self.upto(99_999))
+    }
+
+    fn terms(&mut self, most_top: usize, most_dates: usize) -> Terms {
+        let top = 1 + self.upto(most_top - 1);
+        let premium = 1 + self.upto(top - 1);
+        let some = self.upto(9_999) as u16;
+        Terms {
+            premium: premium as u16,
+            level: 1 + self.upto(premium - 1) as u16,
+            top: top as u16,
+            dates: 1 + self.upto(most_dates - 1) as u16,
+            fee: self.one(&[0, 0, 1, 50, 150, 200, 350, some / 10, some, 10_000]),
+            penalty: self.one(&[0, 500, 1_000, some / 5, some, 10_000]),
+            discount: match self.upto(14) {
+                0 => 1,
+                1 => 1 + 100 * u32::from(some),
+                2..=7 => 1_000_000 - 10 * u32::from(some),
+                _ => 1_000_000,
+            },
+        }
+    }
+
+    /// `count` returns whose weights add to 10,000.
+    fn returns(&mut self, count: usize) -> Vec<Return> {
+        let mut left = 10_000;
+        let mut returns = Vec::new();
+        for k in 1..=count {
+            let behind = count - k;
+            let weight = match behind {
+                0 => left,
+                _ => 1 + self.upto((left - behind).min(2 * left / (behind + 1)) - 1),
+            };
+            left -= weight;
+            let around = 5_000 + self.upto(10_000);
+            let factor = self.one(&[around, around, around, self.0 as usize % 30_001, 0, 30_000]);
+            returns.push((factor as u16, weight as u16));
+        }
+        returns
+    }
+
+    /// A path: N return numbers, each of a list of `count`.
+    fn path(&mut self, dates: u16, count: usize) -> String {
+        let numbers: Vec<u16> = (0..dates).map(|_| self.upto(count - 1) as u16).collect();
+        if self.upto(3) == 0 {
+            return format!("{dates}:{}:{count}", self.upto(65_520));
+        }
+        listed(&numbers)
+    }
+}
+
+/// The script as it grows.
+struct Script {
+    text: String,
+    draw: Draw,
+}
+
+impl Script {
+    fn part(&mut self, name: &str) {
+        writeln!(self.text, "# {name}").unwrap();
+    }
+
+    fn check(&mut self, record: &[u8]) {
+        writeln!(self.text, "check {}", hex(record)).unwrap();
+    }
+
+    fn value(
+        &mut self,
+        terms: Terms,
+        returns: &[Return],
+        behaviour: u64,
+        work: usize,
+        table: usize,
+    ) {
+        let (record, list) = (hex(&terms.bytes()), hex(&list_bytes(returns)));
+        let (work, table) = (self.draw.filled(work), self.draw.filled(table));
+        writeln!(
+            self.text,
+            "value {record} {list} {behaviour} {work} {table}"
+        )
+        .unwrap();
+    }
+
+    fn value_table(&mut self, terms: Terms, returns: &[Return], work: usize, table: &str) {
+        let (record, list) = (hex(&terms.bytes()), hex(&list_bytes(returns)));
+        let work = self.draw.filled(work);
+        writeln!(self.text, "value_table {record} {list} {work} {table}").unwrap();
+    }
+
+    fn book(&mut self, terms: Terms, state: [usize; 4], buffer: usize) {
+        let (record, buffer) = (hex(&terms.bytes()), self.draw.filled(buffer));
+        let [date, account, guarantee, amount] = state;
+        writeln!(
+            self.text,
+            "book {record} {date} {account} {guarantee} {amount} {buffer}"
+        )
+        .unwrap();
+    }
+
+    fn walk(&mut self, terms: Terms, returns: &[Return], table: &str, path: &str, cash: usize) {
+        let (record, list) = (hex(&terms.bytes()), hex(&list_bytes(returns)));
+        let cash = self.draw.filled(cash);
+        writeln!(self.text, "walk {record} {list} {table} {path} {cash}").unwrap();
+    }
+
+    /// A valuation with slices just long enough, its table supplied back, and walks.
+    fn valued_and_walked(&mut self, terms: Terms, returns: &[Return], behaviour: u64) {
+        self.value(terms, returns, behaviour, terms.work(), terms.table());
+        self.value_table(terms, returns, terms.work(), "=");
+        let path = self.draw.path(terms.dates, returns.len());
+        self.walk(terms, returns, "=", &path, usize::from(terms.dates));
+    }
+}
+
+// ------------------------------------------------------- Cases of document 01
+
+fn unmarked(s: &mut Script) {
+    s.part("Document 01, unmarked: top 4,000 passes, 4,001 is 2.");
+    for top in [4_000, 4_001] {
+        s.check(&Terms { top, ..P }.bytes());
+        s.book(Terms { top, ..P }, [1, 4_000, 10, 4_000], 16);
+    }
+    s.part("Document 01, unmarked: factor 30,000 passes, 30,001 is 8.");
+    for factor in [30_000, 30_001] {
+        for place in 0..2 {
+            let mut returns = P_RETURNS;
+            returns[place].0 = factor;
+            for behaviour in 0..3 {
+                s.value(P, &returns, behaviour, P.work(), P.table());
+            }
+            s.value_table(P, &returns, P.work(), "231:0:1");
+            s.walk(P, &returns, "231:0:1", "1,0", 2);
+        }
+    }
+    s.part("Document 01, unmarked: a table one entry short is 11.");
+    for table in [231, 230] {
+        s.value(P, &P_RETURNS, 2, P.work(), table);
+        s.value_table(P, &P_RETURNS, P.work(), &format!("{table}:0:1"));
+        s.walk(P, &P_RETURNS, &format!("{table}:0:1"), "1,0", 2);
+    }
+}
+
+fn worked_by_hand(s: &mut Script) {
+    s.part("Contracts P and Q of document 01, also with N 1, N 3 and a discount of 950,000.");
+    for base in [P, Q] {
+        let discount = 950_000;
+        for terms in [
+            base,
+            Terms { dates: 1, ..base },
+            Terms { dates: 3, ..base },
+            Terms { discount, ..base },
+        ] {
+            for behaviour in 0..3 {
+                s.valued_and_walked(terms, &P_RETURNS, behaviour);
+            }
+        }
+    }
+    s.part("Walks of P along every path, by each of its tables.");
+    for behaviour in 0..3 {
+        s.value(P, &P_RETURNS, behaviour, P.work(), P.table());
+        for path in ["0,0", "0,1", "1,0", "1,1"] {
+            s.walk(P, &P_RETURNS, "=", path, 2);
+        }
+    }
+    s.part("Bookings of every amount at (15, 10) and (5, 10) of P, and of Q.");
+    for terms in [P, Q] {
+        for amount in 0..=16 {
+            s.book(terms, [1, 15, 10, amount], 16);
+        }
+        for amount in 0..=7 {
+            s.book(terms, [1, 5, 10, amount], 16);
+        }
+    }
+}
+
+// ------------------------------------------------------------ Ends of ranges
+
+fn ends_of_fields(s: &mut Script) {
+    s.part("Each field of the record at the ends of its range and beyond.");
+    let mut all = Vec::new();
+    all.extend([0, 1, 19, 20, 21, 65_535].map(|premium| Terms {
+        premium,
+        level: 1,
+        ..P
+    }));
+    all.extend([0, 1, 9, 10, 11, 65_535].map(|level| Terms { level, ..P }));
+    all.extend([0, 1, 9, 10, 11, 3_999, 4_000, 4_001, 65_535].map(|top| Terms { top, ..P }));
+    all.extend([0, 1, 2, 39, 40, 41, 65_535].map(|dates| Terms { dates, ..P }));
+    all.extend([0, 1, 9_999, 10_000, 10_001, 65_535].map(|fee| Terms { fee, ..P }));
+    all.extend([0, 1, 9_999, 10_000, 10_001, 65_535].map(|penalty| Terms { penalty, ..P }));
+    let discounts = [0, 1, 2, 999_999, 1_000_000, 1_000_001, 16_777_216, u32::MAX];
+    all.extend(discounts.map(|discount| Terms { discount, ..P }));
+    for terms in all {
+        s.check(&terms.bytes());
+        s.book(terms, [1, 15, 10, 6], 16);
+        let room = terms.work() <= 65_536 && terms.table() <= 65_536;
+        let (work, table) = if room {
+            (terms.work(), terms.table())
+        } else {
+            (P.work(), P.table())
+        };
+        for behaviour in 0..3 {
+            s.value(terms, &P_RETURNS, behaviour, work, table);
+        }
+        s.value_table(terms, &P_RETURNS, work, &format!("{table}:0:1"));
+        let path = s.draw.path(terms.dates.clamp(1, 40), 2);
+        s.walk(terms, &P_RETURNS, &format!("{table}:0:1"), &path, 40);
+    }
+}
+
+fn lengths_of_bytes(s: &mut Script) {
+    s.part("Records of 0 to 20 bytes, of 32 and of 64.");
+    for length in (0..=20).chain([32, 64]) {
+        let mut record = P.bytes();
+        record.resize(length, 0);
+        s.check(&record);
+        let (record, buffer) = (hex(&record), s.draw.filled(16));
+        writeln!(s.text, "book {record} 1 15 10 6 {buffer}").unwrap();
+    }
+    s.part("Lists of 0 to 9 bytes and of 252 to 261.");
+    for length in (0..=9).chain(252..=261) {
+        let count = usize::max(1, length / 4);
+        let mut list = list_bytes(&s.draw.returns(count));
+        list.resize(length, 1);
+        let (record, list) = (hex(&P.bytes()), hex(&list));
+        writeln!(s.text, "value {record} {list} 2 462:1 231:1").unwrap();
+        writeln!(s.text, "value_table {record} {list} 462:1 231:0:1").unwrap();
+        writeln!(s.text, "walk {record} {list} 231:0:1 0,0 2:1").unwrap();
+    }
+}
+
+fn ends_of_returns(s: &mut Script) {
+    s.part("Factors and weights at the ends of their ranges and beyond, at every place of a list.");
+    for factor in [0, 1, 29_999, 30_000, 30_001, 65_535] {
+        for place in 0..3 {
+            let mut returns = [(9_000, 2_000), (10_000, 6_000), (12_000, 2_000)];
+            returns[place].0 = factor;
+            let behaviour = s.draw.upto(2) as u64;
+            s.valued_and_walked(P, &returns, behaviour);
+        }
+    }
+    for weight in [0, 1, 9_999, 10_000, 10_001, 65_535] {
+        for place in 0..2 {
+            let mut returns = P_RETURNS;
+            returns[place].1 = weight;
+            returns[1 - place].1 = 10_000_u16.saturating_sub(weight).max(1);
+            let behaviour = s.draw.upto(2) as u64;
+            s.valued_and_walked(P, &returns, behaviour);
+        }
+    }
+    s.part("A single return of weight 10,000; equal factors; 64 returns, 63 of them of weight 1.");
+    let mut many = vec![(9_500, 1); 63];
+    many.push((10_500, 9_937));
+    for returns in [
+        vec![(10_000, 10_000)],
+        vec![(0, 10_000)],
+        vec![(30_000, 10_000)],
+        vec![(11_000, 5_000), (11_000, 5_000)],
+        vec![(7_000, 1), (7_000, 9_998), (7_000, 1)],
+        many,
+    ] {
+        for behaviour in 0..3 {
+            s.valued_and_walked(P, &returns, behaviour);
+        }
+    }
+}
+
+// ---------------------------------------------------------------- Refusals
+
+/// An operation whose parts can be spoilt one by one, check by check.
+struct Parts {
+    record: Vec<u8>,
+    terms: Terms,
+    list: Vec<u8>,
+    behaviour: u64,
+    work: usize,
+    table: Vec<u16>,
+    numbers: Vec<u16>,
+    cash: usize,
+    state: [u64; 4],
+    buffer: usize,
+}
+
+/// An operation that every check lets through: at least 2 dates and 2 returns.
+fn whole(draw: &mut Draw, most_top: usize, most_dates: usize) -> (Terms, Parts) {
+    let mut terms = draw.terms(most_top, most_dates - 1);
+    terms.dates += 1;
+    let count = 2 + draw.upto(2);
+    let returns = draw.returns(count);
+    let table = (0..terms.table()).map(|i| draw.upto(terms.largest(i % terms.layer())) as u16);
+    let table = table.collect();
+    let numbers = (0..terms.dates).map(|_| draw.upto(count - 1) as u16);
+    let numbers = numbers.collect();
+    let (account, guarantee) = (draw.upto(terms.top.into()), draw.upto(terms.premium.into()));
+    let entry = account * (usize::from(terms.premium) + 1) + guarantee;
+    let amount = draw.upto(terms.largest(entry));
+    let date = 1 + draw.upto(usize::from(terms.dates) - 2);
+    let parts = Parts {
+        record: terms.bytes(),
+        terms,
+        list: list_bytes(&returns),
+        behaviour: draw.upto(2) as u64,
+        work: terms.work() + draw.upto(2),
+        table,
+        numbers,
+        cash: usize::from(terms.dates) + draw.upto(2),
+        state: [date, account, guarantee, amount].map(|x| x as u64),
+        buffer: 16,
+    };
+    (terms, parts)
+}
+
+impl Parts {
+    fn set(&mut self, offset: usize, value: u16) {
+        self.record[offset..offset + 2].copy_from_slice(&value.to_le_bytes());
+    }
+
+    fn set_return(&mut self, offset: usize, value: u16) {
+        self.list[offset..offset + 2].copy_from_slice(&value.to_le_bytes());
+    }
+
+    fn spoil_record(&mut self, number: u64, draw: &mut Draw) {
+        match number {
+            2 => match draw.upto(2) {
+                0 => self.set(0, 0),
+                1 => self.set(0, self.terms.top + 1),
+                _ => self.set(4, draw.one(&[4_001, 4_002, 65_535])),
+            },
+            3 => self.set(2, draw.one(&[0, self.terms.premium + 1, 65_535])),
+            4 => self.set(6, draw.one(&[0, 41, 42, 65_535])),
+            5 => self.set(draw.one(&[8, 10]), draw.one(&[10_001, 20_000, 65_535])),
+            _ => {
+                let discount: u32 = draw.one(&[0, 1_000_001, 2_000_000, u32::MAX]);
+                self.record[12..16].copy_from_slice(&discount.to_le_bytes());
+            }
+        }
+    }
+
+    fn spoil_list(&mut self, number: u64, draw: &mut Draw) {
+        let place = 4 * draw.upto(self.list.len() / 4 - 1);
+        match number {
+            7 => match draw.upto(2) {
+                0 => self.list.truncate(self.list.len() - 1),
+                1 => self.list.push(0),
+                _ => self.list.resize(260, 1),
+            },
+            8 => match draw.upto(2) {
+                0 => self.set_return(place, draw.one(&[30_001, 40_000, 65_535])),
+                1 => self.set_return(place + 2, 0),
+                _ => self.set_return(place + 2, draw.one(&[10_001, 65_535])),
+            },
+            _ => {
+                let weight = u16::from_le_bytes([self.list[place + 2], self.list[place + 3]]);
+                let other = if weight > 1 { weight - 1 } else { weight + 1 };
+                self.set_return(place + 2, other);
+            }
+        }
+    }
+
+    fn spoil_lent(&mut self, operation: &str, draw: &mut Draw) {
+        match operation {
+            "book" => self.buffer = draw.one(&[0, 1, 15, 17, 64]),
+            "walk" if draw.upto(1) == 0 => self.cash = usize::from(self.terms.dates) - 1,
+            "walk" => self.table.truncate(self.terms.table() - 1),
+            _ if draw.upto(1) == 0 => self.work = self.terms.work() - 1,
+            _ => self.table.truncate(self.terms.table() - 1),
+        }
+    }
+
+    fn spoil_path(&mut self, draw: &mut Draw) {
+        let count = (self.list.len() / 4) as u16;
+        let last = self.numbers.len() - 1;
+        match draw.upto(3) {
+            0 => self.numbers.truncate(last),
+            1 => self.numbers.push(0),
+            2 => self.numbers[last] = count,
+            _ => self.numbers[last] = draw.one(&[count + 1, 64, 65_535]),
+        }
+    }
+
+    /// Spoils what check `number` looks at, and no more than that where it can be helped.
+    fn spoil(&mut self, operation: &str, number: u64, draw: &mut Draw) {
+        match number {
+            1 => self.record.resize(draw.one(&[0, 1, 12, 15, 17, 32]), 0),
+            2..=6 => self.spoil_record(number, draw),
+            7..=9 => self.spoil_list(number, draw),
+            10 => self.behaviour = draw.one(&[3, 4, 255, 256, 65_536, u64::MAX]),
+            11 => self.spoil_lent(operation, draw),
+            12 => match draw.upto(3) {
+                0 => self.state[0] = 0,
+                1 => self.state[0] = u64::from(self.terms.dates),
+                2 => self.state[1] = u64::from(self.terms.top) + 1,
+                _ => self.state[2] = draw.one(&[u64::from(self.terms.premium) + 1, u64::MAX]),
+            },
+            13 => self.spoil_path(draw),
+            _ if operation == "book" => {
+                let most = self.state[1].max(u64::from(self.terms.premium));
+                self.state[3] = draw.one(&[most + 1, 65_536, u64::MAX].map(|x| x.max(most)));
+            }
+            _ if operation == "walk" => self.table.fill(draw.one(&[6, 4_001, 65_535])),
+            _ => {
+                let last = self.table.len() - 1;
+                let entry = draw.upto(last);
+                let most = self.terms.largest(entry % self.terms.layer());
+                self.table[entry] = draw.one(&[most as u16 + 1, 65_535]);
+            }
+        }
+    }
+
+    fn line(&self, operation: &str, draw: &mut Draw) -> String {
+        let (record, list) = (hex(&self.record), hex(&self.list));
+        let (table, work) = (listed(&self.table), draw.filled(self.work));
+        match operation {
+            "check" => format!("check {record}"),
+            "value" => format!("value {record} {list} {} {work} {table}", self.behaviour),
+            "value_table" => format!("value_table {record} {list} {work} {table}"),
+            "book" => {
+                let [date, account, guarantee, amount] = self.state;
+                let buffer = draw.filled(self.buffer);
+                format!("book {record} {date} {account} {guarantee} {amount} {buffer}")
+            }
+            _ => {
+                let (path, cash) = (listed(&self.numbers), draw.filled(self.cash));
+                format!("walk {record} {list} {table} {path} {cash}")
+            }
+        }
+    }
+}
+
+/// The operations, each with the numbers of its checks in their order.
+pub const ORDERS: [(&str, &[u64]); 5] = [
+    ("check", &[1, 2, 3, 4, 5, 6]),
+    ("value", &[1, 2, 3, 4, 5, 6, 7, 8, 9, 10, 11]),
+    ("value_table", &[1, 2, 3, 4, 5, 6, 7, 8, 9, 11, 14]),
+    ("book", &[1, 2, 3, 4, 5, 6, 11, 12, 14]),
+    ("walk", &[1, 2, 3, 4, 5, 6, 7, 8, 9, 11, 13, 14]),
+];
+
+/// For each check of each operation: input that fails it alone, with the next check, and
+/// with all that follow. What an earlier check looks at is spoilt last, so that cutting a
+/// record or a list does not hide the rest.
+fn refusals(s: &mut Script) {
+    for (operation, order) in ORDERS {
+        for (place, number) in order.iter().enumerate() {
+            s.part(&format!(
+                "Refusal {number} of {operation}: alone, with the next, with all behind it."
+            ));
+            let behind = order.len() - place;
+            for count in [1, 2, behind].into_iter().cycle().take(15) {
+                let (_, mut parts) = whole(&mut s.draw, 5, 4);
+                let spoilt = &order[place..place + count.min(behind)];
+                for number in spoilt.iter().rev() {
+                    parts.spoil(operation, *number, &mut s.draw);
+                }
+                let line = parts.line(operation, &mut s.draw);
+                writeln!(s.text, "{line}").unwrap();
+            }
+        }
+    }
+}
+
+// ---------------------------------------------------- Dates, slices and sizes
+
+fn every_count_of_dates(s: &mut Script) {
+    s.part("N from 1 to 40, each behaviour, the table supplied back and walked.");
+    for dates in 1..=40 {
+        let terms = Terms {
+            dates,
+            ..s.draw.terms(12, 1)
+        };
+        let count = 1 + s.draw.upto(3);
+        let returns = s.draw.returns(count);
+        s.check(&terms.bytes());
+        for behaviour in 0..3 {
+            s.valued_and_walked(terms, &returns, behaviour);
+        }
+        let last = usize::from(dates).saturating_sub(1);
+        s.book(terms, [last, 1, 1, 1], 16);
+        s.book(terms, [last + 1, 1, 1, 1], 16);
+    }
+}
+
+fn smallest(s: &mut Script) {
+    s.part("Top 1.");
+    for dates in [1, 2, 3, 10, 40] {
+        let terms = Terms {
+            premium: 1,
+            level: 1,
+            top: 1,
+            dates,
+            ..P
+        };
+        for behaviour in 0..3 {
+            s.valued_and_walked(terms, &P_RETURNS, behaviour);
+        }
+        for (account, guarantee) in [(0, 0), (0, 1), (1, 0), (1, 1)] {
+            for amount in 0..=2 {
+                s.book(terms, [1, account, guarantee, amount], 16);
+            }
+        }
+    }
+}
+
+fn largest(s: &mut Script) {
+    s.part("Top 4,000, where the slices are too short.");
+    for premium in [1, 2, 100, 3_999, 4_000] {
+        let terms = Terms {
+            premium,
+            level: 1,
+            top: 4_000,
+            ..P
+        };
+        s.check(&terms.bytes());
+        for behaviour in 0..3 {
+            s.value(terms, &P_RETURNS, behaviour, 8_000, 4_000);
+        }
+        s.value_table(terms, &P_RETURNS, 16_003, "65536:0:1");
+        s.walk(terms, &P_RETURNS, "8001:0:1", "0,1", 2);
+        let guarantee = usize::from(premium);
+        for amount in [0, 1, 2, 3_999, 4_000, 4_001] {
+            s.book(terms, [1, 4_000, guarantee, amount], 16);
+        }
+    }
+    s.part("Top 4,000 with premium 1: N 1, the working slice just long enough and one short; N 2 with its table.");
+    let least = Terms {
+        premium: 1,
+        level: 1,
+        top: 4_000,
+        dates: 1,
+        ..P
+    };
+    s.value(least, &P_RETURNS, 0, 16_004, 0);
+    s.value(least, &P_RETURNS, 0, 16_003, 0);
+    let two = Terms { dates: 2, ..least };
+    for behaviour in 0..3 {
+        s.valued_and_walked(two, &P_RETURNS, behaviour);
+    }
+}
+
+fn every_count_of_returns(s: &mut Script) {
+    s.part("1 to 64 returns, each behaviour.");
+    for count in 1..=64 {
+        let returns = s.draw.returns(count);
+        let terms = Terms {
+            dates: 2,
+            ..s.draw.terms(9, 1)
+        };
+        for behaviour in 0..3 {
+            s.valued_and_walked(terms, &returns, behaviour);
+        }
+    }
+}
+
+/// The engine takes guarantees in blocks of 64.
+fn around_blocks(s: &mut Script) {
+    s.part("Premiums around 64 and 128, with tops at and above the premium.");
+    for premium in [62, 63, 64, 65, 66, 126, 127, 128, 129, 130] {
+        for above in [0, 1, 60] {
+            let terms = s.draw.terms(premium, 1);
+            let terms = Terms {
+                premium: premium as u16,
+                top: (premium + above) as u16,
+                dates: 2 + s.draw.upto(1) as u16,
+                ..terms
+            };
+            let count = 1 + s.draw.upto(5);
+            let returns = s.draw.returns(count);
+            for behaviour in 0..3 {
+                s.valued_and_walked(terms, &returns, behaviour);
+            }
+        }
+    }
+    s.part("N 40 with a table of 63,960 entries.");
+    let terms = Terms {
+        premium: 39,
+        top: 40,
+        dates: 40,
+        ..P
+    };
+    for behaviour in 0..3 {
+        s.valued_and_walked(terms, &P_RETURNS, behaviour);
+    }
+}
+
+fn lengths_of_slices(s: &mut Script) {
+    s.part("Lent slices just long enough, one short and longer.");
+    for _ in 0..12 {
+        let terms = s.draw.terms(12, 4);
+        let count = 1 + s.draw.upto(3);
+        let returns = s.draw.returns(count);
+        let (work, table) = (terms.work(), terms.table());
+        let behaviour = s.draw.upto(2) as u64;
+        for work in [work - 1, work, work + 1, work + 77] {
+            for table in [table.saturating_sub(1), table, table + 1, table + 99] {
+                s.value(terms, &returns, behaviour, work, table);
+            }
+            s.value_table(terms, &returns, work, "=");
+        }
+        let dates = usize::from(terms.dates);
+        for cash in [dates - 1, dates, dates + 1, dates + 20] {
+            let path = s.draw.path(terms.dates, count);
+            s.walk(terms, &returns, "=", &path, cash);
+        }
+    }
+}
+
+// ------------------------------------------------------------------- Random
+
+fn random_records(s: &mut Script) {
+    s.part("Random records: any bytes, then fields near their ends.");
+    for _ in 0..60 {
+        let record: Vec<u8> = (0..16).map(|_| s.draw.upto(255) as u8).collect();
+        s.check(&record);
+    }
+    for _ in 0..250 {
+        let near = |draw: &mut Draw, most: u16| match draw.upto(7) {
+            0 => 0,
+            1 => most,
+            2 => most.saturating_add(1),
+            _ => draw.upto(most.into()) as u16,
+        };
+        let top = near(&mut s.draw, 4_000);
+        let premium = near(&mut s.draw, top);
+        let terms = Terms {
+            premium,
+            level: near(&mut s.draw, premium),
+            top,
+            dates: near(&mut s.draw, 40),
+            fee: near(&mut s.draw, 10_000),
+            penalty: near(&mut s.draw, 10_000),
+            discount: s.draw.one(&[0, 1, 1_000_000, 1_000_001, 970_000, 970_000]),
+        };
+        s.check(&terms.bytes());
+    }
+}
+
+fn random_bookings(s: &mut Script) {
+    s.part("Random bookings, most of them admissible.");
+    for _ in 0..120 {
+        let mut terms = s.draw.terms(4_000, 40);
+        terms.dates = terms.dates.max(2);
+        for _ in 0..4 {
+            let (top, premium) = (usize::from(terms.top), usize::from(terms.premium));
+            let account = s.draw.upto(top);
+            let guarantee = s.draw.upto(premium);
+            let entry = account * (premium + 1) + guarantee;
+            let most = terms.largest(entry);
+            let m = usize::from(terms.level).min(guarantee);
+            let inside = s.draw.upto(most);
+            let amount = s.draw.one(&[inside, inside, m, m + 1, most, most + 1]);
+            let date = 1 + s.draw.upto(usize::from(terms.dates) - 2);
+            s.book(terms, [date, account, guarantee, amount], 16);
+        }
+    }
+}
+
+/// A table that is filled, supplied back whole and with one entry changed, and walked.
+fn random_contract(s: &mut Script, most_top: usize, most_dates: usize, most_returns: usize) {
+    let terms = s.draw.terms(most_top, most_dates);
+    let count = 1 + s.draw.upto(most_returns - 1);
+    let returns = s.draw.returns(count);
+    let (work, dates) = (terms.work(), usize::from(terms.dates));
+    s.check(&terms.bytes());
+    for behaviour in 0..3 {
+        s.valued_and_walked(terms, &returns, behaviour);
+        if terms.table() == 0 {
+            continue;
+        }
+        let entry = s.draw.upto(terms.table() - 1);
+        let most = terms.largest(entry % terms.layer());
+        let inside = s.draw.upto(most);
+        let amount = s.draw.one(&[inside, inside, most, most + 1, 65_535]);
+        s.value_table(terms, &returns, work, &format!("={entry}:{amount}"));
+        let path = s.draw.path(terms.dates, count);
+        let cash = dates + s.draw.upto(2);
+        s.walk(terms, &returns, "=", &path, cash);
+    }
+    let table = format!(
+        "{}:{}:{}",
+        terms.table(),
+        s.draw.upto(65_520),
+        1 + s.draw.upto(2)
+    );
+    s.value_table(terms, &returns, work, &table);
+    let path = s.draw.path(terms.dates, count);
+    s.walk(terms, &returns, &table, &path, dates);
+}
+
+fn random_tables(s: &mut Script) {
+    s.part("Random tables of small contracts, every entry admissible, and walks by them.");
+    for _ in 0..60 {
+        let (terms, parts) = whole(&mut s.draw, 5, 4);
+        let line = parts.line("value_table", &mut s.draw);
+        writeln!(s.text, "{line}").unwrap();
+        let list = hex(&parts.list);
+        for _ in 0..3 {
+            let path = s.draw.path(terms.dates, parts.list.len() / 4);
+            let (record, cash) = (hex(&parts.record), s.draw.filled(terms.dates.into()));
+            writeln!(s.text, "walk {record} {list} = {path} {cash}").unwrap();
+        }
+    }
+}
+
+fn random_walks(s: &mut Script) {
+    s.part("Random walks: whole, with a bad return number, with bad amounts from some date on.");
+    for _ in 0..60 {
+        let (terms, mut parts) = whole(&mut s.draw, 3, 10);
+        let mut lines = vec![parts.line("walk", &mut s.draw)];
+        let place = s.draw.upto(parts.numbers.len() - 1);
+        let count = (parts.list.len() / 4) as u16;
+        let number = std::mem::replace(&mut parts.numbers[place], count);
+        lines.push(parts.line("walk", &mut s.draw));
+        parts.numbers[place] = number;
+        let before = terms.layer() * s.draw.upto(usize::from(terms.dates) - 2);
+        parts.table[before..].fill(4);
+        lines.push(parts.line("walk", &mut s.draw));
+        lines.push(parts.line("value_table", &mut s.draw));
+        for line in lines {
+            writeln!(s.text, "{line}").unwrap();
+        }
+    }
+}
+
+fn random_contracts(s: &mut Script) {
+    s.part("Random contracts, small.");
+    for _ in 0..60 {
+        random_contract(s, 10, 6, 4);
+    }
+    s.part("Random contracts of up to 64 returns.");
+    for _ in 0..6 {
+        random_contract(s, 8, 4, 64);
+    }
+    s.part("Random contracts with tops up to 60.");
+    for _ in 0..12 {
+        random_contract(s, 60, 5, 6);
+    }
+}
+
+/// The whole script.
+pub fn script() -> String {
+    let mut s = Script {
+        text: String::new(),
+        draw: Draw(20_250_101),
+    };
+    s.part("The script of the test program, written by `second script`. second/script.rs has its language.");
+    unmarked(&mut s);
+    worked_by_hand(&mut s);
+    ends_of_fields(&mut s);
+    lengths_of_bytes(&mut s);
+    ends_of_returns(&mut s);
+    refusals(&mut s);
+    every_count_of_dates(&mut s);
+    smallest(&mut s);
+    largest(&mut s);
+    every_count_of_returns(&mut s);
+    around_blocks(&mut s);
+    lengths_of_slices(&mut s);
+    random_records(&mut s);
+    random_bookings(&mut s);
+    random_tables(&mut s);
+    random_walks(&mut s);
+    random_contracts(&mut s);
+    s.text
+}

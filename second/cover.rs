@@ -1,0 +1,429 @@
+//! `second cover`: whether a script, read from standard input, has every case that the
+//! test program is to go through.
+//!
+//! Each check is looked at here apart from the others, on input that earlier checks may
+//! refuse: bytes that are not there count as 0, a list is read as far as it has whole
+//! records, a walk is followed as far as it leads. So it can be told which checks an
+//! operation fails beside the one that refuses it. The first of them has to be the
+//! number that is answered.
+
+use crate::cases::ORDERS;
+use crate::script::{Operation, Session};
+use std::collections::BTreeMap;
+
+const LEAST_OPERATIONS: u64 = 2_000;
+const LEAST_REFUSALS: u64 = 10;
+const LEAST_ACCEPTED: u64 = 100;
+
+/// The fields of a record.
+struct Fields {
+    premium: u64,
+    level: u64,
+    top: u64,
+    dates: u64,
+    fee: u64,
+    penalty: u64,
+    discount: u64,
+}
+
+fn number_at(bytes: &[u8], offset: usize, width: usize) -> u64 {
+    let byte = |i: usize| u64::from(*bytes.get(offset + i).unwrap_or(&0));
+    (0..width).rev().fold(0, |n, i| n * 256 + byte(i))
+}
+
+impl Fields {
+    fn of(record: &[u8]) -> Fields {
+        Fields {
+            premium: number_at(record, 0, 2),
+            level: number_at(record, 2, 2),
+            top: number_at(record, 4, 2),
+            dates: number_at(record, 6, 2),
+            fee: number_at(record, 8, 2),
+            penalty: number_at(record, 10, 2),
+            discount: number_at(record, 12, 4),
+        }
+    }
+
+    fn layer(&self) -> u64 {
+        (self.top + 1) * (self.premium + 1)
+    }
+
+    fn table(&self) -> u64 {
+        self.dates.saturating_sub(1) * self.layer()
+    }
+
+    fn m(&self, guarantee: u64) -> u64 {
+        self.level.min(guarantee)
+    }
+
+    fn account_after(&self, balance: u64, factor: u64) -> u64 {
+        let kept = 10_000_u64.saturating_sub(self.fee);
+        (balance * factor * kept / 100_000_000).min(self.top)
+    }
+}
+
+/// Factor and weight of each whole record of a list.
+fn returns(list: &[u8]) -> Vec<(u64, u64)> {
+    let records = list.chunks_exact(4);
+    records
+        .map(|r| (number_at(r, 0, 2), number_at(r, 2, 2)))
+        .collect()
+}
+
+fn record_fails(number: u64, record: &[u8]) -> bool {
+    let c = Fields::of(record);
+    match number {
+        1 => record.len() != 16,
+        2 => c.top > 4_000 || c.premium == 0 || c.premium > c.top,
+        3 => c.level == 0 || c.level > c.premium,
+        4 => c.dates == 0 || c.dates > 40,
+        5 => c.fee > 10_000 || c.penalty > 10_000,
+        _ => c.discount == 0 || c.discount > 1_000_000,
+    }
+}
+
+fn list_fails(number: u64, list: &[u8]) -> bool {
+    let returns = returns(list);
+    match number {
+        7 => list.is_empty() || list.len() > 256 || list.len() % 4 != 0,
+        8 => returns
+            .iter()
+            .any(|(f, w)| *f > 30_000 || *w == 0 || *w > 10_000),
+        _ => returns.iter().map(|r| r.1).sum::<u64>() != 10_000,
+    }
+}
+
+/// Whether an entry of a supplied table, of those the contract needs, is not admissible.
+fn table_fails(c: &Fields, table: &[u16]) -> bool {
+    let bad = |(entry, amount): (u64, &u16)| {
+        let (w, a) = (
+            entry % c.layer() / (c.premium + 1),
+            entry % c.layer() % (c.premium + 1),
+        );
+        u64::from(*amount) > w.max(c.m(a))
+    };
+    (0..c.table()).zip(table).any(bad)
+}
+
+/// Whether a walk meets an amount that is not admissible.
+fn walk_fails(c: &Fields, list: &[u8], table: &[u16], numbers: &[u16]) -> bool {
+    let returns = returns(list);
+    let mut balance = c.premium;
+    let mut guarantee = c.premium;
+    for (date, number) in (1..c.dates).zip(numbers) {
+        let Some((factor, _)) = returns.get(usize::from(*number)) else {
+            return false;
+        };
+        let account = c.account_after(balance, *factor);
+        let entry = (date - 1) * c.layer() + account * (c.premium + 1) + guarantee;
+        let Some(amount) = table.get(entry as usize).map(|t| u64::from(*t)) else {
+            return false;
+        };
+        if amount > account.max(c.m(guarantee)) {
+            return true;
+        }
+        let mut after = guarantee.saturating_sub(amount);
+        if amount > c.m(guarantee) {
+            after = after.min(guarantee * (account - amount) / account);
+        }
+        balance = account.saturating_sub(amount);
+        guarantee = after;
+    }
+    false
+}
+
+fn name_of(operation: &Operation) -> &'static str {
+    match operation {
+        Operation::Check { .. } => "check",
+        Operation::Value { .. } => "value",
+        Operation::ValueTable { .. } => "value_table",
+        Operation::Book { .. } => "book",
+        Operation::Walk { .. } => "walk",
+    }
+}
+
+fn record_of(operation: &Operation) -> &[u8] {
+    match operation {
+        Operation::Check { record }
+        | Operation::Value { record, .. }
+        | Operation::ValueTable { record, .. }
+        | Operation::Book { record, .. }
+        | Operation::Walk { record, .. } => record,
+    }
+}
+
+fn list_of(operation: &Operation) -> &[u8] {
+    match operation {
+        Operation::Check { .. } | Operation::Book { .. } => &[],
+        Operation::Value { list, .. }
+        | Operation::ValueTable { list, .. }
+        | Operation::Walk { list, .. } => list,
+    }
+}
+
+/// Check 11: lent slices shorter than needed, or a booking buffer not of 16 bytes.
+fn lent_fails(operation: &Operation) -> bool {
+    let c = Fields::of(record_of(operation));
+    let short = |length: usize, needed: u64| (length as u64) < needed;
+    match operation {
+        Operation::Check { .. } => false,
+        Operation::Value { work, table, .. } | Operation::ValueTable { work, table, .. } => {
+            short(work.len(), 2 * c.layer()) || short(table.len(), c.table())
+        }
+        Operation::Book { buffer, .. } => buffer.len() != 16,
+        Operation::Walk { table, cash, .. } => {
+            short(table.len(), c.table()) || short(cash.len(), c.dates)
+        }
+    }
+}
+
+/// Checks 10 and 12 to 14.
+fn other_fails(number: u64, operation: &Operation) -> bool {
+    let c = Fields::of(record_of(operation));
+    match operation {
+        Operation::Check { .. } => false,
+        Operation::Value { behaviour, .. } => number == 10 && *behaviour > 2,
+        Operation::ValueTable { table, .. } => number == 14 && table_fails(&c, table),
+        Operation::Book {
+            date,
+            account,
+            guarantee,
+            amount,
+            ..
+        } => match number {
+            12 => *date == 0 || *date >= c.dates || *account > c.top || *guarantee > c.premium,
+            _ => number == 14 && *amount > (*account).max(c.m(*guarantee)),
+        },
+        Operation::Walk {
+            list,
+            table,
+            numbers,
+            ..
+        } => {
+            let count = list.len() / 4;
+            match number {
+                13 if numbers.len() as u64 != c.dates => true,
+                13 => numbers.iter().any(|n| usize::from(*n) >= count),
+                _ => number == 14 && walk_fails(&c, list, table, numbers),
+            }
+        }
+    }
+}
+
+fn fails(number: u64, operation: &Operation) -> bool {
+    match number {
+        1..=6 => record_fails(number, record_of(operation)),
+        7..=9 => list_fails(number, list_of(operation)),
+        11 => lent_fails(operation),
+        _ => other_fails(number, operation),
+    }
+}
+
+fn order_of(name: &str) -> &'static [u64] {
+    let known = ORDERS.iter().find(|(operation, _)| *operation == name);
+    known.map_or(&[], |(_, order)| order)
+}
+
+/// The number that an answer starts with.
+fn number_of(answer: &str) -> u64 {
+    let word = answer.split(' ').next();
+    word.and_then(|w| w.parse().ok()).unwrap_or(u64::MAX)
+}
+
+/// How often each case was met.
+type Tally = BTreeMap<String, u64>;
+
+fn count(tally: &mut Tally, case: String) {
+    *tally.entry(case).or_default() += 1;
+}
+
+fn refusal(name: &str, number: u64) -> String {
+    format!("{name} refused with {number}")
+}
+
+fn beside(name: &str, number: u64, next: u64) -> String {
+    format!("{name} refused with {number} where {next} fails too")
+}
+
+fn dates_case(dates: u64, behaviour: u64) -> String {
+    format!("N {dates} valued under behaviour {behaviour}")
+}
+
+/// What an accepted valuation has that the script is to have somewhere.
+fn count_valued(tally: &mut Tally, c: &Fields, operation: &Operation) {
+    let Operation::Value {
+        list,
+        behaviour,
+        work,
+        table,
+        ..
+    } = operation
+    else {
+        return;
+    };
+    let returns = returns(list);
+    let mut factors: Vec<u64> = returns.iter().map(|r| r.0).collect();
+    factors.sort_unstable();
+    let exact = [
+        work.len() as u64 - 2 * c.layer(),
+        table.len() as u64 - c.table(),
+    ];
+    for (case, holds) in [
+        ("top 1", c.top == 1),
+        ("fee 10,000", c.fee == 10_000),
+        ("penalty rate 10,000", c.penalty == 10_000),
+        ("discount 1", c.discount == 1),
+        ("equal factors", factors.windows(2).any(|w| w[0] == w[1])),
+        ("factor 0", factors.contains(&0)),
+        ("factor 30,000", factors.contains(&30_000)),
+        ("weight 1", returns.iter().any(|r| r.1 == 1)),
+        ("weight 10,000", returns.iter().any(|r| r.1 == 10_000)),
+        ("64 returns", returns.len() == 64),
+        ("slices just long enough", exact == [0, 0]),
+        ("a longer working slice", exact[0] > 0),
+        ("a longer table", exact[1] > 0),
+    ] {
+        if holds {
+            count(tally, format!("{case} valued"));
+        }
+    }
+    count(tally, dates_case(c.dates, *behaviour));
+}
+
+/// What a refusal by short slices has that the script is to have somewhere.
+fn count_short(tally: &mut Tally, c: &Fields, operation: &Operation) {
+    if c.top == 4_000 {
+        count(
+            tally,
+            format!("top 4,000: {}", refusal(name_of(operation), 11)),
+        );
+    }
+    if let Operation::Value { work, table, .. } = operation {
+        let (work, table) = (work.len() as u64, table.len() as u64);
+        if work + 1 == 2 * c.layer() && table >= c.table() {
+            count(tally, "a working slice one entry short".to_string());
+        }
+        if table + 1 == c.table() && work >= 2 * c.layer() {
+            count(tally, "a table one entry short".to_string());
+        }
+    }
+}
+
+fn count_operation(tally: &mut Tally, operation: &Operation, number: u64) {
+    let name = name_of(operation);
+    let c = Fields::of(record_of(operation));
+    if number == 0 {
+        count(tally, format!("{name} accepted"));
+        count_valued(tally, &c, operation);
+        if name == "check" && c.top == 4_000 {
+            count(tally, "top 4,000 passes".to_string());
+        }
+        return;
+    }
+    count(tally, refusal(name, number));
+    let returns = returns(list_of(operation));
+    match number {
+        2 if c.top == 4_001 => count(tally, "top 4,001 refused with 2".to_string()),
+        8 if returns.iter().any(|r| r.0 == 30_001) => {
+            count(tally, "factor 30,001 refused with 8".to_string())
+        }
+        11 => count_short(tally, &c, operation),
+        _ => {}
+    }
+    let mut behind = order_of(name).iter().skip_while(|n| **n != number).skip(1);
+    if let Some(next) = behind.next().filter(|next| fails(**next, operation)) {
+        count(tally, beside(name, number, *next));
+    }
+}
+
+/// Cases that there have to be somewhere.
+const SOMEWHERE: [&str; 20] = [
+    "top 4,000 passes",
+    "top 4,001 refused with 2",
+    "factor 30,001 refused with 8",
+    "a working slice one entry short",
+    "a table one entry short",
+    "top 1 valued",
+    "fee 10,000 valued",
+    "penalty rate 10,000 valued",
+    "discount 1 valued",
+    "equal factors valued",
+    "factor 0 valued",
+    "factor 30,000 valued",
+    "weight 1 valued",
+    "weight 10,000 valued",
+    "64 returns valued",
+    "slices just long enough valued",
+    "a longer working slice valued",
+    "a longer table valued",
+    "the last table used again",
+    "the last table used again with an entry changed",
+];
+
+/// Every case that there has to be, and how often.
+fn wanted() -> Vec<(String, u64)> {
+    let mut wanted = vec![("operations".to_string(), LEAST_OPERATIONS)];
+    for (name, order) in ORDERS {
+        wanted.push((format!("{name} accepted"), LEAST_ACCEPTED));
+        wanted.extend(order.iter().map(|n| (refusal(name, *n), LEAST_REFUSALS)));
+        wanted.extend(order.windows(2).map(|w| (beside(name, w[0], w[1]), 1)));
+    }
+    for dates in 1..=40 {
+        wanted.extend((0..3).map(|behaviour| (dates_case(dates, behaviour), 1)));
+    }
+    for name in ["value", "value_table", "walk"] {
+        wanted.push((format!("top 4,000: {}", refusal(name, 11)), 1));
+    }
+    wanted.extend(SOMEWHERE.map(|case| (case.to_string(), 1)));
+    wanted
+}
+
+/// How a line names its table, where it is the last one.
+fn count_table(tally: &mut Tally, line: &str) {
+    if line.split(' ').any(|word| word == "=") {
+        count(tally, "the last table used again".to_string());
+    } else if line.contains(" =") {
+        let case = "the last table used again with an entry changed";
+        count(tally, case.to_string());
+    }
+}
+
+/// Takes a line in; gives what is wrong with it.
+fn take_line(tally: &mut Tally, session: &mut Session, line: &str) -> Option<String> {
+    let read = session.operation(line);
+    let answer = session.answer(line, false);
+    let (Ok(operation), Ok(answer)) = (read, answer) else {
+        return Some("not understood".to_string());
+    };
+    let order = order_of(name_of(&operation));
+    let first = order.iter().find(|n| fails(**n, &operation));
+    let number = number_of(&answer);
+    if number != *first.unwrap_or(&0) {
+        return Some(format!("{number} is not the first check that fails"));
+    }
+    count(tally, "operations".to_string());
+    count_table(tally, line);
+    count_operation(tally, &operation, number);
+    None
+}
+
+/// What was found, in words, and what lacks.
+pub fn cover(script: &str) -> (String, Vec<String>) {
+    let mut session = Session::default();
+    let mut tally = Tally::new();
+    let mut lacking = Vec::new();
+    for (index, line) in script.lines().enumerate() {
+        if line.is_empty() || line.starts_with('#') {
+            continue;
+        }
+        let wrong = take_line(&mut tally, &mut session, line);
+        lacking.extend(wrong.map(|what| format!("line {}: {what}", index + 1)));
+    }
+    let found = |case: &str| tally.get(case).copied().unwrap_or(0);
+    for (case, least) in wanted() {
+        if found(&case) < least {
+            lacking.push(format!("{case}: {}, at least {least}", found(&case)));
+        }
+    }
+    (format!("{} operations", found("operations")), lacking)
+}
