@@ -9,60 +9,10 @@
 //! 64 bytes of a buffer, 65,536 numbers of a working slice or of cash, and 65,536
 //! amounts of a table. Nothing here asks for more.
 
+use crate::terms::{list, Return, Terms, P, P_RETURNS, Q};
 use std::fmt::Write;
 
-/// A contract record, each field in its own width, so that bad ones can be written.
-#[derive(Clone, Copy)]
-struct Terms {
-    premium: u16,
-    level: u16,
-    top: u16,
-    dates: u16,
-    fee: u16,
-    penalty: u16,
-    discount: u32,
-}
-
-const P: Terms = Terms {
-    premium: 10,
-    level: 5,
-    top: 20,
-    dates: 2,
-    fee: 0,
-    penalty: 1_000,
-    discount: 1_000_000,
-};
-
-const Q: Terms = Terms {
-    fee: 2_000,
-    penalty: 0,
-    ..P
-};
-
-/// A return: factor and weight.
-type Return = (u16, u16);
-
-const P_RETURNS: [Return; 2] = [(5_000, 5_000), (15_000, 5_000)];
-
 impl Terms {
-    fn bytes(self) -> Vec<u8> {
-        let fields = [
-            self.premium,
-            self.level,
-            self.top,
-            self.dates,
-            self.fee,
-            self.penalty,
-        ];
-        let mut bytes: Vec<u8> = fields.iter().flat_map(|x| x.to_le_bytes()).collect();
-        bytes.extend(self.discount.to_le_bytes());
-        bytes
-    }
-
-    fn layer(self) -> usize {
-        (usize::from(self.top) + 1) * (usize::from(self.premium) + 1)
-    }
-
     fn work(self) -> usize {
         2 * self.layer()
     }
@@ -77,11 +27,6 @@ impl Terms {
         let m = usize::from(self.level).min(entry % row);
         (entry / row).max(m)
     }
-}
-
-fn list_bytes(returns: &[Return]) -> Vec<u8> {
-    let fields = returns.iter().flat_map(|(f, w)| [*f, *w]);
-    fields.flat_map(u16::to_le_bytes).collect()
 }
 
 fn hex(bytes: &[u8]) -> String {
@@ -190,7 +135,7 @@ impl Script {
         work: usize,
         table: usize,
     ) {
-        let (record, list) = (hex(&terms.bytes()), hex(&list_bytes(returns)));
+        let (record, list) = (hex(&terms.record()), hex(&list(returns)));
         let (work, table) = (self.draw.filled(work), self.draw.filled(table));
         writeln!(
             self.text,
@@ -200,13 +145,13 @@ impl Script {
     }
 
     fn value_table(&mut self, terms: Terms, returns: &[Return], work: usize, table: &str) {
-        let (record, list) = (hex(&terms.bytes()), hex(&list_bytes(returns)));
+        let (record, list) = (hex(&terms.record()), hex(&list(returns)));
         let work = self.draw.filled(work);
         writeln!(self.text, "value_table {record} {list} {work} {table}").unwrap();
     }
 
     fn book(&mut self, terms: Terms, state: [usize; 4], buffer: usize) {
-        let (record, buffer) = (hex(&terms.bytes()), self.draw.filled(buffer));
+        let (record, buffer) = (hex(&terms.record()), self.draw.filled(buffer));
         let [date, account, guarantee, amount] = state;
         writeln!(
             self.text,
@@ -216,7 +161,7 @@ impl Script {
     }
 
     fn walk(&mut self, terms: Terms, returns: &[Return], table: &str, path: &str, cash: usize) {
-        let (record, list) = (hex(&terms.bytes()), hex(&list_bytes(returns)));
+        let (record, list) = (hex(&terms.record()), hex(&list(returns)));
         let cash = self.draw.filled(cash);
         writeln!(self.text, "walk {record} {list} {table} {path} {cash}").unwrap();
     }
@@ -235,7 +180,7 @@ impl Script {
 fn unmarked(s: &mut Script) {
     s.part("Document 01, unmarked: top 4,000 passes, 4,001 is 2.");
     for top in [4_000, 4_001] {
-        s.check(&Terms { top, ..P }.bytes());
+        s.check(&Terms { top, ..P }.record());
         s.book(Terms { top, ..P }, [1, 4_000, 10, 4_000], 16);
     }
     s.part("Document 01, unmarked: factor 30,000 passes, 30,001 is 8.");
@@ -309,7 +254,7 @@ fn ends_of_fields(s: &mut Script) {
     let discounts = [0, 1, 2, 999_999, 1_000_000, 1_000_001, 16_777_216, u32::MAX];
     all.extend(discounts.map(|discount| Terms { discount, ..P }));
     for terms in all {
-        s.check(&terms.bytes());
+        s.check(&terms.record());
         s.book(terms, [1, 15, 10, 6], 16);
         let room = terms.work() <= 65_536 && terms.table() <= 65_536;
         let (work, table) = if room {
@@ -329,7 +274,7 @@ fn ends_of_fields(s: &mut Script) {
 fn lengths_of_bytes(s: &mut Script) {
     s.part("Records of 0 to 20 bytes, of 32 and of 64.");
     for length in (0..=20).chain([32, 64]) {
-        let mut record = P.bytes();
+        let mut record = P.record();
         record.resize(length, 0);
         s.check(&record);
         let (record, buffer) = (hex(&record), s.draw.filled(16));
@@ -338,9 +283,9 @@ fn lengths_of_bytes(s: &mut Script) {
     s.part("Lists of 0 to 9 bytes and of 252 to 261.");
     for length in (0..=9).chain(252..=261) {
         let count = usize::max(1, length / 4);
-        let mut list = list_bytes(&s.draw.returns(count));
+        let mut list = list(&s.draw.returns(count));
         list.resize(length, 1);
-        let (record, list) = (hex(&P.bytes()), hex(&list));
+        let (record, list) = (hex(&P.record()), hex(&list));
         writeln!(s.text, "value {record} {list} 2 462:1 231:1").unwrap();
         writeln!(s.text, "value_table {record} {list} 462:1 231:0:1").unwrap();
         writeln!(s.text, "walk {record} {list} 231:0:1 0,0 2:1").unwrap();
@@ -414,9 +359,9 @@ fn whole(draw: &mut Draw, most_top: usize, most_dates: usize) -> (Terms, Parts) 
     let amount = draw.upto(terms.largest(entry));
     let date = 1 + draw.upto(usize::from(terms.dates) - 2);
     let parts = Parts {
-        record: terms.bytes(),
+        record: terms.record(),
         terms,
-        list: list_bytes(&returns),
+        list: list(&returns),
         behaviour: draw.upto(2) as u64,
         work: terms.work() + draw.upto(2),
         table,
@@ -588,7 +533,7 @@ fn every_count_of_dates(s: &mut Script) {
         };
         let count = 1 + s.draw.upto(3);
         let returns = s.draw.returns(count);
-        s.check(&terms.bytes());
+        s.check(&terms.record());
         for behaviour in 0..3 {
             s.valued_and_walked(terms, &returns, behaviour);
         }
@@ -628,7 +573,7 @@ fn largest(s: &mut Script) {
             top: 4_000,
             ..P
         };
-        s.check(&terms.bytes());
+        s.check(&terms.record());
         for behaviour in 0..3 {
             s.value(terms, &P_RETURNS, behaviour, 8_000, 4_000);
         }
@@ -748,7 +693,7 @@ fn random_records(s: &mut Script) {
             penalty: near(&mut s.draw, 10_000),
             discount: s.draw.one(&[0, 1, 1_000_000, 1_000_001, 970_000, 970_000]),
         };
-        s.check(&terms.bytes());
+        s.check(&terms.record());
     }
 }
 
@@ -778,7 +723,7 @@ fn random_contract(s: &mut Script, most_top: usize, most_dates: usize, most_retu
     let count = 1 + s.draw.upto(most_returns - 1);
     let returns = s.draw.returns(count);
     let (work, dates) = (terms.work(), usize::from(terms.dates));
-    s.check(&terms.bytes());
+    s.check(&terms.record());
     for behaviour in 0..3 {
         s.valued_and_walked(terms, &returns, behaviour);
         if terms.table() == 0 {

@@ -19,6 +19,7 @@ mod cover;
 mod gmwb;
 mod script;
 mod self_check;
+mod terms;
 mod text;
 
 use std::io::{self, Read, Write};

@@ -5,6 +5,7 @@
 //! The operations are only called from outside here, as an engine's caller would.
 
 use crate::script::{answer, digest, fill, MOD_16, MOD_32, MOD_8};
+use crate::terms::{list, Terms, P, P_RETURNS, Q};
 use crate::{gmwb, text};
 use std::fmt::Debug;
 
@@ -65,51 +66,7 @@ pub fn run() -> (u64, u64) {
 
 // ------------------------------------------------------- Contracts and calls
 
-#[derive(Clone, Copy, Debug)]
-struct Terms {
-    premium: u16,
-    level: u16,
-    top: u16,
-    dates: u16,
-    fee: u16,
-    penalty: u16,
-    discount: u32,
-}
-
-const P: Terms = Terms {
-    premium: 10,
-    level: 5,
-    top: 20,
-    dates: 2,
-    fee: 0,
-    penalty: 1_000,
-    discount: 1_000_000,
-};
-
-const Q: Terms = Terms {
-    fee: 2_000,
-    penalty: 0,
-    ..P
-};
-
-const P_RETURNS: [(u16, u16); 2] = [(5_000, 5_000), (15_000, 5_000)];
-
 impl Terms {
-    fn record(&self) -> Vec<u8> {
-        let mut bytes = Vec::new();
-        for field in [self.premium, self.level, self.top, self.dates] {
-            bytes.extend(field.to_le_bytes());
-        }
-        bytes.extend(self.fee.to_le_bytes());
-        bytes.extend(self.penalty.to_le_bytes());
-        bytes.extend(self.discount.to_le_bytes());
-        bytes
-    }
-
-    fn layer(&self) -> usize {
-        (usize::from(self.top) + 1) * (usize::from(self.premium) + 1)
-    }
-
     fn entry(&self, w: u64, a: u64) -> usize {
         w as usize * (usize::from(self.premium) + 1) + a as usize
     }
@@ -139,15 +96,6 @@ impl Terms {
         let product = balance * u64::from(factor) * (10_000 - u64::from(self.fee));
         (product / 100_000_000).min(u64::from(self.top))
     }
-}
-
-fn list(returns: &[(u16, u16)]) -> Vec<u8> {
-    let mut bytes = Vec::new();
-    for (factor, weight) in returns {
-        bytes.extend(factor.to_le_bytes());
-        bytes.extend(weight.to_le_bytes());
-    }
-    bytes
 }
 
 fn filled_8(length: usize) -> Vec<u8> {
