@@ -1,96 +1,121 @@
 -- A block of states, amount after amount. Assumes nothing.
 use mathlib.Core.Bool.{cond}
 use mathlib.Core.List.{List}
-use mathlib.Core.Logic.{inl}
-use mathlib.Core.Path.{_≡_, refl, ap, ap₂, sym, _∙_, subst}
-use Prim.Native.Nat.{ℕ, _+_, _-_, _*_, _≤_, _<_, min}
-use native.Mathlib.Nat.{zero-add}
+use mathlib.Core.Logic.{_⊎_, inl, inr}
+use mathlib.Core.Path.{_≡_, refl, ap, ap₂, sym, _∙_, subst, subst₂, subst₃}
+use Prim.Native.Nat.{ℕ, _+_, _-_, _*_, _≤_, _<_}
+use native.Mathlib.Nat.{le-refl, zero-add}
 use native.Mathlib.Decide.{decLe}
 use native.Mathlib.Omega.{arith}
 use lib.Dec.{ltb}
-use lib.ListN.{length, getD}
-use Rattle.decision.specs.Choice.{Leading, leading-one, leading-join, leading-as}
-use Rattle.slices.specs.Stored.{stored, length-stored, stored-in, stored-out, stored-first}
-use Rattle.slices.specs.Rows.{cells, within-rows, rows-step}
-use Rattle.choose.specs.State.{freeWorth, Block, Led}
+use lib.ListN.{length, getD, set}
+use lib.Seq.{set-getD}
+use borrow.Author.Tests.{lt-ltb, le-ltb}
+use Rattle.decision.specs.Choice.{Leading, leading-one, leading-first, leading-join, leading-as}
+use Rattle.slices.specs.Stored.{stored, length-stored, stored-next, stored-in, stored-out, stored-first}
+use Rattle.choose.specs.State.{Leads, Offered}
 
--- an entry of a row, i further
-index-next : (base r r' f low i s : ℕ) → r ≡ r' → s ≤ f + low → base + (r + (f + low - s)) + i ≡ base + (r' + (f + (low + i) - s))
-index-next base r r' f low i s e h = omega arith
+-- ---- offers to one state after the other
+pub offered-none : (values amounts : List ℕ) (low : ℕ) (value amount : ℕ → ℕ) → Offered values amounts values amounts low 0 value amount
+unfolding stored
+offered-none values amounts low value amount = record { values-are = refl; amounts-are = refl }
 
-module _ {work : List ℕ} {base stride w from n : ℕ} (b : Block work base stride w from n) where
-  pub block-place : (x y : ℕ) → x ≤ w → y < stride → base + (x * stride + y) < length work
-  block-place x y h l = let p = within-rows stride (w + 1) x y (omega arith) l in omega (arith, b .rows)
+module _ {values amounts values' amounts' : List ℕ} {low i : ℕ} {value amount : ℕ → ℕ} (x : Offered values amounts values' amounts' low i value amount) where
+  held : getD values' (low + i) 0 ≡ getD values (low + i) 0
+  held = ap (λ (xs : List ℕ). getD xs (low + i) 0) (x .values-are) ∙ stored-out values low _ i (low + i) (inr (le-refl _))
 
-  pub start-place : base + (w * stride + from) + n ≤ length work
-  start-place = let r = rows-step stride w in omega (arith, b .rows, b .columns)
+  kept : getD amounts' (low + i) 0 ≡ getD amounts (low + i) 0
+  kept = ap (λ (xs : List ℕ). getD xs (low + i) 0) (x .amounts-are) ∙ stored-out amounts low _ i (low + i) (inr (le-refl _))
 
-  -- what is offered stands in a row, and fits 32 bits with its cash
-  pub offer-place : (x s low : ℕ) → x ≤ w → s ≤ from + low → low < n → base + (x * stride + (from + low - s)) + (n - low) ≤ length work
-  offer-place x s low h k l =
-      let p = block-place x (from + (n - 1) - s) h (omega (arith, b .columns)) in
-      omega arith
+  pub offered-next : (u c : ℕ) → u ≡ cond (ltb (getD values' (low + i) 0) (value i)) (value i) (getD values' (low + i) 0)
+      → c ≡ cond (ltb (getD values' (low + i) 0) (value i)) (amount i) (getD amounts' (low + i) 0)
+      → Offered values amounts (set values' (low + i) u) (set amounts' (low + i) c) low (i + 1) value amount
+  offered-next u c p q =
+      let v = p ∙ ap (λ (h : ℕ). cond (ltb h (value i)) (value i) h) held in
+      let a = q ∙ ap₂ (λ (h z : ℕ). cond (ltb h (value i)) (amount i) z) held kept in
+      record {
+        values-are = (λ k. set (x .values-are k) (low + i) (v k)) ∙ stored-next _ _ _ _;
+        amounts-are = (λ k. set (x .amounts-are k) (low + i) (a k)) ∙ stored-next _ _ _ _;
+      }
 
-  pub offer-small : (x s low i : ℕ) → x ≤ w → 1 ≤ s → s ≤ 4000 → s ≤ from + low → i < n - low → 10000 * s + getD work (base + (x * stride + (from + low - s)) + i) 0 < 4294967296
-  offer-small x s low i h one most k l =
-      let e = ap (λ (z : ℕ). getD work z 0) (index-next base (x * stride) (x * stride) from low i s refl k) in
-      let m = b .small x (from + (low + i) - s) h (omega (arith, b .columns)) in
-      omega arith
+  -- where a test stands before the store
+  pub offered-gain : (u c : ℕ) → u ≡ value i → c ≡ amount i → getD values' (low + i) 0 < value i
+      → Offered values amounts (set values' (low + i) u) (set amounts' (low + i) c) low (i + 1) value amount
+  offered-gain u c p q h = offered-next u c (rw (lt-ltb _ _ h) p) (rw (lt-ltb _ _ h) q)
 
--- amount 0
-pub led-none : {work : List ℕ} (values values' amounts amounts' : List ℕ) (base stride w from n : ℕ) → 64 ≤ length values → 64 ≤ length amounts → n ≤ 64
-    → values' ≡ stored values 0 (λ j. getD work (base + (w * stride + from) + j) 0) n → amounts' ≡ stored amounts 0 (λ j. 0) n
-    → Led work values' amounts' base stride w from n 0
-unfolding freeWorth
-led-none {work} values values' amounts amounts' base stride w from n lv la fits ev ea = record {
+  pub offered-skip : value i ≤ getD values' (low + i) 0 → Offered values amounts values' amounts' low (i + 1) value amount
+  offered-skip h =
+      subst₂ (λ (v a : List ℕ). Offered values amounts v a low (i + 1) value amount) (set-getD values' (low + i) 0) (set-getD amounts' (low + i) 0)
+      (offered-next (getD values' (low + i) 0) (getD amounts' (low + i) 0) (rw (le-ltb _ _ h) refl) (rw (le-ltb _ _ h) refl))
+
+-- ---- the best so far
+pub leading-at : {f : ℕ → ℕ} {lo hi t v : ℕ} → lo ≡ t → hi ≡ t → f t ≡ v → Leading f lo hi t v
+leading-at {f} {lo} {hi} {t} {v} p q r = subst₃ (λ (x y z : ℕ). Leading f x y t z) (sym p) (sym q) r (leading-one f t)
+
+-- one amount each
+pub leads-start : {f : ℕ → ℕ → ℕ} (values values' amounts amounts' : List ℕ) (n : ℕ) (value : ℕ → ℕ) → 64 ≤ length values → 64 ≤ length amounts → n ≤ 64
+    → values' ≡ stored values 0 value n → amounts' ≡ stored amounts 0 (λ j. 0) n → ((j : ℕ) → j < n → f j 0 ≡ value j)
+    → Leads f values' amounts' n (λ j. 0)
+leads-start {f} values values' amounts amounts' n value lv la fits ev ea same = record {
   values-long = let l = ap length ev ∙ length-stored values 0 _ n in omega arith;
   amounts-long = let l = ap length ea ∙ length-stored amounts 0 _ n in omega arith;
   each = λ j l.
-      let z : 0 ≡ min 0 (from + j) = omega arith in
-      let i : base + (w * stride + from) + j ≡ base + (w * stride + (from + j)) = omega arith in
-      let value = ap (λ (xs : List ℕ). getD xs j 0) ev ∙ stored-first values _ n j (omega arith) l ∙ ap (λ (y : ℕ). getD work y 0) i in
-      let amount = ap (λ (xs : List ℕ). getD xs j 0) ea ∙ stored-first amounts _ n j (omega arith) l in
-      let first = zero-add _ ∙ ap₂ (λ (x y : ℕ). getD work (base + (x * stride + y)) 0) (let q : w - 0 ≡ w = omega arith in q) (let q : from + j - 0 ≡ from + j = omega arith in q) in
-      leading-as z (sym amount) (first ∙ sym value) (leading-one (freeWorth (cells work base stride) w (from + j)) 0);
+      let v = ap (λ (xs : List ℕ). getD xs j 0) ev ∙ stored-first values _ n j (omega arith) l in
+      let a = ap (λ (xs : List ℕ). getD xs j 0) ea ∙ stored-first amounts _ n j (omega arith) l in
+      leading-as refl (sym a) (same j l ∙ sym v) (leading-one (f j) 0);
 }
 
-module _ {work values amounts : List ℕ} {base stride w from n t : ℕ} (x : Led work values amounts base stride w from n t) where
-  -- no guarantee of the block is as large as the next amount
-  pub led-skip : n ≤ t + 1 - from → Led work values amounts base stride w from n (t + 1)
-  led-skip h = record {
+module _ {f : ℕ → ℕ → ℕ} {values amounts : List ℕ} {n : ℕ} {upto : ℕ → ℕ} (x : Leads f values amounts n upto) where
+  -- the same amounts by another name
+  pub leads-as : (next : ℕ → ℕ) → ((j : ℕ) → j < n → upto j ≡ next j) → Leads f values amounts n next
+  leads-as next same = record {
     values-long = x .values-long;
     amounts-long = x .amounts-long;
-    each = λ j l. leading-as (let e : min t (from + j) ≡ min (t + 1) (from + j) = omega arith in e) refl refl (x .each j l);
+    each = λ j l. leading-as (same j l) refl refl (x .each j l);
   }
 
-  module _ (fits : n ≤ 64) (values' amounts' : List ℕ) (low r : ℕ) (low-is : low ≡ t + 1 - from) (some : low ≤ n) (r-is : r ≡ (w - (t + 1)) * stride)
-      (ev : values' ≡ stored values low (λ i. cond (ltb (getD values (low + i) 0) (10000 * (t + 1) + getD work (base + (r + (from + low - (t + 1))) + i) 0)) (10000 * (t + 1) + getD work (base + (r + (from + low - (t + 1))) + i) 0) (getD values (low + i) 0)) (n - low))
-      (ea : amounts' ≡ stored amounts low (λ i. cond (ltb (getD values (low + i) 0) (10000 * (t + 1) + getD work (base + (r + (from + low - (t + 1))) + i) 0)) (t + 1) (getD amounts (low + i) 0)) (n - low))
+  -- an amount more of some states, of which none gains
+  pub leads-passed : (next : ℕ → ℕ) → ((j : ℕ) → j < n → (upto j ≡ next j) ⊎ ((upto j + 1 ≡ next j) × (f j (upto j + 1) ≤ getD values j 0)))
+      → Leads f values amounts n next
+  leads-passed next more = record {
+    values-long = x .values-long;
+    amounts-long = x .amounts-long;
+    each = λ j l. go j l (more j l);
+  }
     where
-      inside : (i : ℕ) → low + i < n → Leading (freeWorth (cells work base stride) w (from + (low + i))) 0 (min (t + 1) (from + (low + i))) (getD amounts' (low + i) 0) (getD values' (low + i) 0)
-      unfolding freeWorth
-      inside i l =
-          let f = freeWorth (cells work base stride) w (from + (low + i)) in
-          let u = 10000 * (t + 1) + getD work (base + (r + (from + low - (t + 1))) + i) 0 in
-          let u-is : f (t + 1) ≡ u = sym (ap (λ (z : ℕ). 10000 * (t + 1) + getD work z 0) (index-next base r ((w - (t + 1)) * stride) from low i (t + 1) r-is (omega arith))) in
-          let one = subst (Leading f (t + 1) (t + 1) (t + 1)) u-is (leading-one f (t + 1)) in
-          let before = leading-as (let e : min t (from + (low + i)) ≡ t = omega arith in e) refl refl (x .each (low + i) l) in
-          let value = ap (λ (xs : List ℕ). getD xs (low + i) 0) ev ∙ stored-in values low _ (n - low) i (omega (arith, x .values-long)) (omega arith) in
-          let amount = ap (λ (xs : List ℕ). getD xs (low + i) 0) ea ∙ stored-in amounts low _ (n - low) i (omega (arith, x .amounts-long)) (omega arith) in
-          leading-as (let e : t + 1 ≡ min (t + 1) (from + (low + i)) = omega arith in e) (sym amount) (sym value) (leading-join before one)
+      go : (j : ℕ) → j < n → (upto j ≡ next j) ⊎ ((upto j + 1 ≡ next j) × (f j (upto j + 1) ≤ getD values j 0))
+          → Leading (f j) 0 (next j) (getD amounts j 0) (getD values j 0)
+      go j l (inl e) = leading-as e refl refl (x .each j l)
+      go j l (inr (e, h)) = leading-as e refl refl (leading-first (x .each j l) (leading-one (f j) (upto j + 1)) h)
 
-      at : (j : ℕ) → j < n → Dec (low ≤ j) → Leading (freeWorth (cells work base stride) w (from + j)) 0 (min (t + 1) (from + j)) (getD amounts' j 0) (getD values' j 0)
-      at j l (yes k) =
+  -- the best of the amounts that come next, of `count` states
+  module _ {values' amounts' : List ℕ} {low count : ℕ} {value amount : ℕ → ℕ} (o : Offered values amounts values' amounts' low count value amount)
+      (fits : low + count ≤ n) (short : n ≤ 64) (next : ℕ → ℕ)
+      (inside : (i : ℕ) → i < count → Leading (f (low + i)) (upto (low + i) + 1) (next (low + i)) (amount i) (value i))
+      (outside : (j : ℕ) → j < n → (j < low) ⊎ (low + count ≤ j) → upto j ≡ next j)
+    where
+      within : (i : ℕ) → i < count → Leading (f (low + i)) 0 (next (low + i)) (getD amounts' (low + i) 0) (getD values' (low + i) 0)
+      within i l =
+          let v = ap (λ (xs : List ℕ). getD xs (low + i) 0) (o .values-are) ∙ stored-in values low _ count i (omega (arith, x .values-long)) l in
+          let a = ap (λ (xs : List ℕ). getD xs (low + i) 0) (o .amounts-are) ∙ stored-in amounts low _ count i (omega (arith, x .amounts-long)) l in
+          leading-as refl (sym a) (sym v) (leading-join (x .each (low + i) (omega arith)) (inside i l))
+
+      apart : (j : ℕ) → j < n → (j < low) ⊎ (low + count ≤ j) → Leading (f j) 0 (next j) (getD amounts' j 0) (getD values' j 0)
+      apart j l h =
+          let v = ap (λ (xs : List ℕ). getD xs j 0) (o .values-are) ∙ stored-out values low _ count j h in
+          let a = ap (λ (xs : List ℕ). getD xs j 0) (o .amounts-are) ∙ stored-out amounts low _ count j h in
+          leading-as (outside j l h) (sym a) (sym v) (x .each j l)
+
+      at : (j : ℕ) → j < n → Dec (low ≤ j) → Dec (low + count ≤ j) → Leading (f j) 0 (next j) (getD amounts' j 0) (getD values' j 0)
+      at j l (no h) d = apart j l (inl (omega arith))
+      at j l (yes h) (yes d) = apart j l (inr d)
+      at j l (yes h) (no d) =
           let s : low + (j - low) ≡ j = omega arith in
-          subst (λ (z : ℕ). Leading (freeWorth (cells work base stride) w (from + z)) 0 (min (t + 1) (from + z)) (getD amounts' z 0) (getD values' z 0)) s (inside (j - low) (omega arith))
-      at j l (no k) =
-          let value = ap (λ (xs : List ℕ). getD xs j 0) ev ∙ stored-out values low _ (n - low) j (inl (omega arith)) in
-          let amount = ap (λ (xs : List ℕ). getD xs j 0) ea ∙ stored-out amounts low _ (n - low) j (inl (omega arith)) in
-          leading-as (let e : min t (from + j) ≡ min (t + 1) (from + j) = omega arith in e) (sym amount) (sym value) (x .each j l)
+          subst (λ (z : ℕ). Leading (f z) 0 (next z) (getD amounts' z 0) (getD values' z 0)) s (within (j - low) (omega arith))
 
-      pub led-offer : Led work values' amounts' base stride w from n (t + 1)
-      led-offer = record {
-        values-long = let l = ap length ev ∙ length-stored values low _ (n - low) in omega (arith, x .values-long);
-        amounts-long = let l = ap length ea ∙ length-stored amounts low _ (n - low) in omega (arith, x .amounts-long);
-        each = λ j l. at j l (decLe low j);
+      pub leads-offered : Leads f values' amounts' n next
+      leads-offered = record {
+        values-long = let l = ap length (o .values-are) ∙ length-stored values low _ count in omega (arith, x .values-long);
+        amounts-long = let l = ap length (o .amounts-are) ∙ length-stored amounts low _ count in omega (arith, x .amounts-long);
+        each = λ j l. at j l (decLe low j) (decLe (low + count) j);
       }

@@ -1,7 +1,7 @@
 -- What an amount is worth, case by case, and the best amount of each behaviour. Assumes nothing.
 use mathlib.Core.Bool.{Bool, true, false, cond, not}
 use mathlib.Core.Logic.{_⊎_, inl, inr}
-use mathlib.Core.Path.{_≡_, refl, ap, ap₂, sym, _∙_, subst, subst₂}
+use mathlib.Core.Path.{_≡_, refl, ap, ap₂, sym, _∙_, subst, subst₂, subst₃}
 use Prim.Native.Nat.{ℕ, _+_, _-_, _*_, _/_, _≤_, _<_, min, max}
 use native.Mathlib.Nat.{le-refl, le-trans, le-of-eq, min-eq-left, min-eq-right, mul-le-mul-left, mul-le-mul-right, div-le-of-le-mul, le-div-iff-mul-le, sub-add-eq, max-eq-left, max-eq-right, le-of-lt, mul-zero, zero-div, min-zero}
 use native.Mathlib.Decide.{decLe}
@@ -12,15 +12,15 @@ use Rattle.decision.specs.Choice.{Best, best-is, best-unique, Leading, leading-
 use Rattle.rules.specs.Date.{Behaviour, static, mixed, dynamic, freeAmount, largestAmount, admits, surrenders, penalty, cash, balanceAfter, guaranteeAfter}
 use Rattle.laws.specs.Date.{guarantee-free, admits-free, admits-within, mixed-is, is-dynamic, admits-surrender}
 use Rattle.further.specs.Further.{further, furtherValue, furtherAmount, further-leads}
-use Rattle.choose.specs.State.{worthOver, bestValue, bestAmount, freeWorth, aboveWorth}
+use Rattle.choose.specs.State.{worthOver, bestValue, bestAmount}
 
 -- ---- up to m
 pub cash-free : (rate m t : ℕ) → t ≤ m → cash rate m t ≡ 10000 * t
 unfolding cash penalty
 cash-free rate m t h = let z : t - m ≡ 0 = omega arith in rw z (omega arith)
 
-pub free-is : (e : ℕ → ℕ → ℕ) (rate m w a t : ℕ) → t ≤ m → worthOver e rate m w a t ≡ freeWorth e w a t
-unfolding worthOver freeWorth balanceAfter
+pub free-is : (e : ℕ → ℕ → ℕ) (rate m w a t : ℕ) → t ≤ m → worthOver e rate m w a t ≡ 10000 * t + e (w - t) (a - t)
+unfolding worthOver balanceAfter
 free-is e rate m w a t h = ap₂ (λ (x g : ℕ). x + e (w - t) g) (cash-free rate m t h) (guarantee-free m w a t h)
 
 -- ---- above m
@@ -39,10 +39,10 @@ share-smaller w a t pos h l =
     scaled : (t x y w a : ℕ) → w ≡ t + x → a ≡ t + y → x ≤ y → a * x ≤ w * y
     scaled t x y w a p q k = let m = mul-le-mul-left t k in rw (p, q) (omega arith)
 
-pub above-is : (e : ℕ → ℕ → ℕ) (rate m w a t : ℕ) → m < t → t ≤ w → w ≤ a → worthOver e rate m w a t ≡ aboveWorth e rate m w a t
-unfolding worthOver aboveWorth balanceAfter cash penalty
+pub above-is : (e : ℕ → ℕ → ℕ) (rate m w a t : ℕ) → m < t → t ≤ w → w ≤ a → worthOver e rate m w a t ≡ cash rate m t + e (w - t) (a * (w - t) / w)
+unfolding worthOver balanceAfter
 above-is e rate m w a t h l k =
-    ap (λ (g : ℕ). 10000 * t - rate * (t - m) + e (w - t) g)
+    ap (λ (g : ℕ). cash rate m t + e (w - t) g)
     (guarantee-above m w a t h ∙ min-eq-right (share-smaller w a t (omega arith) l k))
 
 -- where it is no less, the difference is
@@ -155,6 +155,18 @@ mixed-high f m w h = go (ltb (f m) (f w)) (ltb→lt (f m) (f w)) (nltb→le (f m
         none t l (inl z) = omega arith
         none t l (inr (k, z)) = omega arith
 
+-- .. from what is held under static
+pub mixed-kept : {f : ℕ → ℕ} {m w c v : ℕ} → Best (admits static m w) f (largestAmount m w) c v → w ≤ m → Best (admits mixed m w) f (largestAmount m w) c v
+mixed-kept {f} {m} {w} x h =
+    let u = best-unique x (static-best f m w) in
+    subst₂ (Best (admits mixed m w) f (largestAmount m w)) (sym (u .0)) (sym (u .1)) (mixed-low f m w h)
+
+pub mixed-offered : {f : ℕ → ℕ} {m w c v : ℕ} (u : ℕ) → Best (admits static m w) f (largestAmount m w) c v → m < w → f w ≡ u
+    → Best (admits mixed m w) f (largestAmount m w) (cond (ltb v u) w c) (cond (ltb v u) u v)
+mixed-offered {f} {m} {w} u x h e =
+    let s = best-unique x (static-best f m w) in
+    subst₃ (λ (y z o : ℕ). Best (admits mixed m w) f (largestAmount m w) (cond (ltb z o) w y) (cond (ltb z o) o z)) (sym (s .0)) (sym (s .1)) e (mixed-high f m w h)
+
 -- dynamic: the best of the whole range
 pub dynamic-best : {f : ℕ → ℕ} {hi c v : ℕ} (m w : ℕ) → hi ≡ max w m → Leading f 0 hi c v → Best (admits dynamic m w) f (largestAmount m w) c v
 unfolding largestAmount
@@ -166,14 +178,8 @@ dynamic-best {f} {hi} {c} {v} m w z x = record {
   smallest = λ t l p. x .smallest t (omega arith) l;
 }
 
--- ---- the three parts of the dynamic range
+-- ---- above m where account and guarantee fall alike
 module _ (e : ℕ → ℕ → ℕ) (rate m w a : ℕ) where
-  pub free-leads : {c v : ℕ} → Leading (freeWorth e w a) 0 m c v → Leading (worthOver e rate m w a) 0 m c v
-  free-leads x = leading-eq (λ t l h. sym (free-is e rate m w a t h)) x
-
-  pub above-leads : {c v : ℕ} → w ≤ a → Leading (aboveWorth e rate m w a) (m + 1) w c v → Leading (worthOver e rate m w a) (m + 1) w c v
-  above-leads k x = leading-eq (λ t l h. sym (above-is e rate m w a t (omega arith) h k)) x
-
   pub further-best : rate ≤ 10000 → m < w → a ≤ w
       → Leading (worthOver e rate m w a) (m + 1) w
       (m + 1 + furtherAmount e (10000 - rate) (w - m - 1) (a - (m + 1)))
@@ -184,42 +190,9 @@ module _ (e : ℕ → ℕ → ℕ) (rate m w a : ℕ) where
       (leading-shift (m + 1) (10000 * m + (10000 - rate)) (λ s i. further-is e rate m w a s h (omega arith) k) (further-leads e (10000 - rate) (w - m - 1) (a - (m + 1))))
 
 -- the whole account, above m
-pub surrender-is : (e : ℕ → ℕ → ℕ) (rate m w a : ℕ) → m < w → worthOver e rate m w a w ≡ 10000 * w - rate * (w - m) + e 0 0
-unfolding worthOver balanceAfter cash penalty
+pub surrender-is : (e : ℕ → ℕ → ℕ) (rate m w a : ℕ) → m < w → worthOver e rate m w a w ≡ cash rate m w + e 0 0
+unfolding worthOver balanceAfter
 surrender-is e rate m w a h =
     let z : w - w ≡ 0 = omega arith in
     let none : a * (w - w) / w ≡ 0 = ap (λ (x : ℕ). a * x / w) z ∙ ap (λ (x : ℕ). x / w) (mul-zero a) ∙ zero-div w in
-    ap₂ (λ (x g : ℕ). 10000 * w - rate * (w - m) + e x g) z (guarantee-above m w a w h ∙ ap (min (a - w)) none ∙ min-zero (a - w))
-
--- ---- what the choices of each behaviour show, where m is what may be withdrawn without penalty
-module _ (e : ℕ → ℕ → ℕ) (rate level w a m : ℕ) (m-is : m ≡ freeAmount level a) where
-  Found : Behaviour → ℕ → ℕ → Type 0
-  Found b c v = (v ≡ bestValue b e rate level w a) × (c ≡ bestAmount b e rate level w a)
-
-  found : (b : Behaviour) (c v : ℕ) → Best (admits b m w) (worthOver e rate m w a) (largestAmount m w) c v → Found b c v
-  unfolding Found
-  found b c v x = state-found b e rate level w a c v (subst (λ (n : ℕ). Best (admits b n w) (worthOver e rate n w a) (largestAmount n w) c v) m-is x)
-
-  pub dynamic-found : {c v : ℕ} → Leading (worthOver e rate m w a) 0 (max w m) c v
-      → (v ≡ bestValue dynamic e rate level w a) × (c ≡ bestAmount dynamic e rate level w a)
-  unfolding Found
-  dynamic-found x = found dynamic _ _ (dynamic-best m w refl x)
-
-  free-value : (v : ℕ) → v ≡ freeWorth e w a m → worthOver e rate m w a m ≡ v
-  free-value v p = free-is e rate m w a m (le-refl m) ∙ sym p
-
-  pub static-found : (v : ℕ) → v ≡ freeWorth e w a m → (v ≡ bestValue static e rate level w a) × (m ≡ bestAmount static e rate level w a)
-  unfolding Found
-  static-found v p = found static m v (subst (Best (admits static m w) (worthOver e rate m w a) (largestAmount m w) m) (free-value v p) (static-best (worthOver e rate m w a) m w))
-
-  pub low-found : (v : ℕ) → v ≡ freeWorth e w a m → w ≤ m → (v ≡ bestValue mixed e rate level w a) × (m ≡ bestAmount mixed e rate level w a)
-  unfolding Found
-  low-found v p h = found mixed m v (subst (Best (admits mixed m w) (worthOver e rate m w a) (largestAmount m w) m) (free-value v p) (mixed-low (worthOver e rate m w a) m w h))
-
-  pub high-found : (v u : ℕ) → v ≡ freeWorth e w a m → u ≡ 10000 * w - rate * (w - m) + e 0 0 → m < w
-      → (cond (ltb v u) u v ≡ bestValue mixed e rate level w a) × (cond (ltb v u) w m ≡ bestAmount mixed e rate level w a)
-  unfolding Found
-  high-found v u p q h =
-      let x = mixed-high (worthOver e rate m w a) m w h in
-      let s = surrender-is e rate m w a h ∙ sym q in
-      found mixed _ _ (subst₂ (λ (y z : ℕ). Best (admits mixed m w) (worthOver e rate m w a) (largestAmount m w) (cond (ltb y z) w m) (cond (ltb y z) z y)) (free-value v p) s x)
+    ap₂ (λ (x g : ℕ). cash rate m w + e x g) z (guarantee-above m w a w h ∙ ap (min (a - w)) none ∙ min-zero (a - w))

@@ -1,86 +1,41 @@
-// The value and the recorded amount of every state of a date, from the layer of discounted sums.
-ghost use mathlib.Core.Bool.{cond};
+// The value and the recorded amount of the states of a date, from the layer of discounted sums: a block of states at a time,
+// up to 64 guarantees of one account in order, with the best value and amount of each in arrays, so that the loops along the
+// guarantee can be widened.
+ghost use mathlib.Core.Bool.{true, cond};
 ghost use mathlib.Core.Path.{_≡_};
-ghost use Prim.Native.Nat.{ℕ, _+_, _-_, _*_, _/_, _≤_, _<_, max};
-ghost use lib.Dec.{ltb, leb};
+ghost use Prim.Native.Nat.{ℕ, _+_, _-_, _*_, _/_, _≤_, _<_, min, max};
+ghost use lib.Dec.{ltb};
 ghost use lib.ListN.{length, getD};
-ghost use Rattle.decision.specs.Choice.{Leading};
 ghost use Rattle.slices.specs.Stored.{stored};
 ghost use Rattle.slices.specs.Rows.{cells};
-ghost use Rattle.rules.specs.Contract.{topMost, rateMost};
-ghost use Rattle.choose.specs.State.{freeWorth, aboveWorth, worthOver, bestValue, bestAmount, State, Furthered, Block, Led};
-ghost use Rattle.rules.specs.Date.{dynamic, freeAmount};
+ghost use Rattle.rules.specs.Contract.{topMost};
+ghost use Rattle.choose.specs.State.{Furthered, Block, Leads, Offered, Settled, Chosen, Rising, Bounded, worthAt, triedFree, triedUpto, triedBelow, triedRun, mixedBelow};
+ghost use Rattle.rules.specs.Date.{static, mixed, freeAmount};
 ghost use Rattle.rules.specs.Operations.{behaviourOf};
 
-// An amount and what it is worth.
-pub struct Choice {
-    pub value: usize,
-    pub amount: usize,
-}
-
-fn wide(x: u32) -> usize
-    ensures { λ r. ⌜ (r ≡ x) × (r < 4294967296) ⌝ }
-{
-    x as usize
-}
-
-// The first, unless the second is worth more.
-fn first_of(x: Choice, y: Choice) -> Choice
-    ensures { λ r. ⌜ (r .value ≡ cond (ltb (x .value) (y .value)) (y .value) (x .value)) × (r .amount ≡ cond (ltb (x .value) (y .value)) (y .amount) (x .amount)) ⌝ }
-{
-    if x.value < y.value { y } else { x }
-}
-
-// What amount t is worth, at most m of which is withdrawn.
-fn worth_free(
-    work: &[u32],
-    base: usize,
-    stride: usize,
-    w: usize,
-    a: usize,
-    m: usize,
-    t: usize,
-) -> usize
-    requires { ⌜ State (now work) base stride w a m × (t ≤ m) ⌝ }
-    ensures { λ r. ⌜ r ≡ freeWorth (cells (now (work .entry)) base stride) w a t ⌝ }
-{
-    let at = base + (date::less(w, t) * stride + (a - t));
-    10000 * t + wide(work[at])
-}
-
-// The best of the amounts 0 to m.
-fn best_free(work: &[u32], base: usize, stride: usize, w: usize, a: usize, m: usize) -> Choice
-    requires { ⌜ State (now work) base stride w a m ⌝ }
-    ensures { λ r. ⌜ Leading (freeWorth (cells (now (work .entry)) base stride) w a) 0 m (r .amount) (r .value) ⌝ }
-{
-    let mut best = Choice {
-        value: worth_free(work, base, stride, w, a, m, 0),
-        amount: 0,
-    };
-    for t in 0..m {
-        let amount = t + 1;
-        let value = worth_free(work, base, stride, w, a, m, amount);
-        best = first_of(best, Choice { value, amount });
-    }
-    best
-}
-
-// A block of states of one account, up to 64 guarantees in order: the best value and amount of each, in arrays, so that
-// the loops over them can be widened.
 fn pick(held: u32, other: u32, old: u32, new: u32) -> u32
     ensures { λ r. ⌜ r ≡ cond (ltb held other) new old ⌝ }
 {
     if held < other { new } else { old }
 }
 
-// Amount 0.
-fn start_block(values: &mut [u32; 64], amounts: &mut [u32; 64], work: &[u32], at: usize, n: usize)
-    requires { ⌜ (n ≤ 64) × (at + n ≤ length (now work)) ⌝ }
-    ensures { λ _. ⌜ (now (values .exit) ≡ stored (now (values .entry)) 0 (λ (j : ℕ). getD (now (work .entry)) (at + j) 0) n) × (now (amounts .exit) ≡ stored (now (amounts .entry)) 0 (λ (j : ℕ). 0) n) ⌝ }
+// Amount t, to n states from state `low` on that have none yet.
+fn start(
+    values: &mut [u32; 64],
+    amounts: &mut [u32; 64],
+    work: &[u32],
+    low: usize,
+    at: usize,
+    n: usize,
+    cash: u32,
+    t: u32,
+)
+    requires { ⌜ (low + n ≤ 64) × (at + n ≤ length (now work)) × ((i : ℕ) → i < n → cash + getD (now work) (at + i) 0 < 4294967296) ⌝ }
+    ensures { λ _. ⌜ (now (values .exit) ≡ stored (now (values .entry)) low (λ (i : ℕ). cash + getD (now (work .entry)) (at + i) 0) n) × (now (amounts .exit) ≡ stored (now (amounts .entry)) low (λ (i : ℕ). t) n) ⌝ }
 {
-    for j in 0..n {
-        values[j] = work[at + j];
-        amounts[j] = 0;
+    for i in 0..n {
+        values[low + i] = cash + work[at + i];
+        amounts[low + i] = t;
     }
 }
 
@@ -96,7 +51,7 @@ fn offer(
     t: u32,
 )
     requires { ⌜ (low + n ≤ 64) × (at + n ≤ length (now work)) × ((i : ℕ) → i < n → cash + getD (now work) (at + i) 0 < 4294967296) ⌝ }
-    ensures { λ _. ⌜ (now (values .exit) ≡ stored (now (values .entry)) low (λ (i : ℕ). cond (ltb (getD (now (values .entry)) (low + i) 0) (cash + getD (now (work .entry)) (at + i) 0)) (cash + getD (now (work .entry)) (at + i) 0) (getD (now (values .entry)) (low + i) 0)) n) × (now (amounts .exit) ≡ stored (now (amounts .entry)) low (λ (i : ℕ). cond (ltb (getD (now (values .entry)) (low + i) 0) (cash + getD (now (work .entry)) (at + i) 0)) t (getD (now (amounts .entry)) (low + i) 0)) n) ⌝ }
+    ensures { λ _. ⌜ Offered (now (values .entry)) (now (amounts .entry)) (now (values .exit)) (now (amounts .exit)) low n (λ (i : ℕ). cash + getD (now (work .entry)) (at + i) 0) (λ (i : ℕ). t) ⌝ }
 {
     for i in 0..n {
         let held = values[low + i];
@@ -106,7 +61,33 @@ fn offer(
     }
 }
 
-// Amount t + 1, to the states whose guarantee it does not pass.
+// The better of the amounts t and t + 1: one load and one store of a state for two amounts.
+fn offer_two(
+    values: &mut [u32; 64],
+    amounts: &mut [u32; 64],
+    work: &[u32],
+    low: usize,
+    at: usize,
+    next: usize,
+    n: usize,
+    cash: u32,
+    t: u32,
+)
+    requires { ⌜ (low + n ≤ 64) × (at + n ≤ length (now work)) × (next + n ≤ length (now work)) × ((i : ℕ) → i < n → cash + getD (now work) (at + i) 0 < 4294967296) × ((i : ℕ) → i < n → cash + 10000 + getD (now work) (next + i) 0 < 4294967296) × (t ≤ topMost) ⌝ }
+    ensures { λ _. ⌜ Offered (now (values .entry)) (now (amounts .entry)) (now (values .exit)) (now (amounts .exit)) low n (λ (i : ℕ). cond (ltb (cash + getD (now (work .entry)) (at + i) 0) (cash + 10000 + getD (now (work .entry)) (next + i) 0)) (cash + 10000 + getD (now (work .entry)) (next + i) 0) (cash + getD (now (work .entry)) (at + i) 0)) (λ (i : ℕ). cond (ltb (cash + getD (now (work .entry)) (at + i) 0) (cash + 10000 + getD (now (work .entry)) (next + i) 0)) (t + 1) t) ⌝ }
+{
+    for i in 0..n {
+        let held = values[low + i];
+        let one = cash + work[at + i];
+        let two = cash + 10000 + work[next + i];
+        let other = pick(one, two, one, two);
+        let amount = pick(one, two, t, t + 1);
+        values[low + i] = pick(held, other, held, other);
+        amounts[low + i] = pick(held, other, amounts[low + i], amount);
+    }
+}
+
+// Amount t + 1, to the states below state `end` whose guarantee it does not pass.
 fn offer_free(
     values: &mut [u32; 64],
     amounts: &mut [u32; 64],
@@ -116,23 +97,30 @@ fn offer_free(
     w: usize,
     from: usize,
     n: usize,
+    level: usize,
+    rate: usize,
+    end: usize,
     t: usize,
 )
-    requires { ⌜ Block (now work) base stride w from n × Led (now work) (now values) (now amounts) base stride w from n t × (t < topMost) ⌝ }
-    ensures { λ _. ⌜ Led (now (work .entry)) (now (values .exit)) (now (amounts .exit)) base stride w from n (t + 1) ⌝ }
+    requires { ⌜ Block (now work) base stride w from n level rate × Leads (worthAt (cells (now work) base stride) rate level w from) (now values) (now amounts) n (triedFree from t) × (t < level) × (end ≤ n) ⌝ }
+    ensures { λ _. ⌜ Leads (worthAt (cells (now (work .entry)) base stride) rate level w from) (now (values .exit)) (now (amounts .exit)) n (triedUpto from t end) ⌝ }
 {
-    let amount = t + 1;
-    let low = date::less(amount, from);
-    if n <= low {
-        return;
-    }
-    let at = base + (date::less(w, amount) * stride + (from + low - amount));
-    let cash = (10000 * amount) as u32;
-    offer(values, amounts, work, low, at, n - low, cash, amount as u32);
+    let low = date::smaller(end, date::less(t + 1, from));
+    let at = base + (date::less(w, t + 1) * stride + date::less(from + low, t + 1));
+    offer(
+        values,
+        amounts,
+        work,
+        low,
+        at,
+        end - low,
+        (10000 * (t + 1)) as u32,
+        (t + 1) as u32,
+    );
 }
 
-// The best of the amounts 0 to m of each state of a block.
-pub fn free_block(
+// Amounts t + 1 and t + 2, both to the states whose guarantee they do not pass.
+fn offer_pair(
     values: &mut [u32; 64],
     amounts: &mut [u32; 64],
     work: &[u32],
@@ -142,196 +130,612 @@ pub fn free_block(
     from: usize,
     n: usize,
     level: usize,
+    rate: usize,
+    t: usize,
 )
-    requires { ⌜ Block (now work) base stride w from n × (level ≤ topMost) × (64 ≤ length (now values)) × (64 ≤ length (now amounts)) ⌝ }
-    ensures { λ _. ⌜ Led (now (work .entry)) (now (values .exit)) (now (amounts .exit)) base stride w from n level ⌝ }
+    requires { ⌜ Block (now work) base stride w from n level rate × Leads (worthAt (cells (now work) base stride) rate level w from) (now values) (now amounts) n (triedFree from t) × (t + 1 < level) ⌝ }
+    ensures { λ _. ⌜ Leads (worthAt (cells (now (work .entry)) base stride) rate level w from) (now (values .exit)) (now (amounts .exit)) n (triedFree from (t + 2)) ⌝ }
 {
-    start_block(values, amounts, work, base + (w * stride + from), n);
-    for t in 0..level {
-        offer_free(values, amounts, work, base, stride, w, from, n, t);
+    let both = date::smaller(n, date::less(t + 2, from));
+    offer_free(
+        values,
+        amounts,
+        work,
+        base,
+        stride,
+        w,
+        from,
+        n,
+        level,
+        rate,
+        both,
+        t,
+    );
+    let one = base + (date::less(w, t + 1) * stride + date::less(from + both, t + 1));
+    let two = base + (date::less(w, t + 2) * stride + date::less(from + both, t + 2));
+    let cash = (10000 * (t + 1)) as u32;
+    offer_two(
+        values,
+        amounts,
+        work,
+        both,
+        one,
+        two,
+        n - both,
+        cash,
+        (t + 1) as u32,
+    );
+}
+
+// The best of the amounts 0 to m.
+fn free_block(
+    values: &mut [u32; 64],
+    amounts: &mut [u32; 64],
+    work: &[u32],
+    base: usize,
+    stride: usize,
+    w: usize,
+    from: usize,
+    n: usize,
+    level: usize,
+    rate: usize,
+)
+    requires { ⌜ Block (now work) base stride w from n level rate × (64 ≤ length (now values)) × (64 ≤ length (now amounts)) ⌝ }
+    ensures { λ _. ⌜ Leads (worthAt (cells (now (work .entry)) base stride) rate level w from) (now (values .exit)) (now (amounts .exit)) n (λ (j : ℕ). freeAmount level (from + j)) ⌝ }
+{
+    start(
+        values,
+        amounts,
+        work,
+        0,
+        base + (w * stride + from),
+        n,
+        0,
+        0,
+    );
+    let mut t: usize = 0;
+    while t + 1 < level {
+        offer_pair(
+            values,
+            amounts,
+            work,
+            base,
+            stride,
+            w,
+            from,
+            n,
+            level,
+            rate,
+            t,
+        );
+        t += 2;
     }
-}
-
-// What amount w - x is worth above m, where the guarantee left is g.
-fn worth_above(
-    work: &[u32],
-    base: usize,
-    stride: usize,
-    w: usize,
-    a: usize,
-    m: usize,
-    rate: usize,
-    x: usize,
-    g: usize,
-) -> usize
-    requires { ⌜ State (now work) base stride w a m × (rate ≤ rateMost) × (m + x < w) × (g ≡ a * x / w) ⌝ }
-    ensures { λ r. ⌜ r ≡ aboveWorth (cells (now (work .entry)) base stride) rate m w a (w - x) ⌝ }
-{
-    let t = w - x;
-    let at = base + (x * stride + g);
-    10000 * t - rate * (t - m) + wide(work[at])
-}
-
-// The best of the amounts m + 1 to w, from w down. A * x / w is the high half of x * step: step is A * 2^32 / w rounded
-// up, and x times the rounding stays below the 2^32 / w that a remainder leaves.
-fn best_above(
-    work: &[u32],
-    base: usize,
-    stride: usize,
-    w: usize,
-    a: usize,
-    m: usize,
-    rate: usize,
-) -> Choice
-    requires { ⌜ State (now work) base stride w a m × (rate ≤ rateMost) × (m < w) ⌝ }
-    ensures { λ r. ⌜ Leading (aboveWorth (cells (now (work .entry)) base stride) rate m w a) (m + 1) w (r .amount) (r .value) ⌝ }
-{
-    let step = (a * 4294967296 + w - 1) / w;
-    let mut quotient: usize = 0;
-    let mut best = Choice {
-        value: worth_above(work, base, stride, w, a, m, rate, 0, 0),
-        amount: w,
-    };
-    let steps = w - m - 1;
-    for x in 0..steps {
-        quotient += step;
-        let g = quotient / 4294967296;
-        let value = worth_above(work, base, stride, w, a, m, rate, x + 1, g);
-        best = first_of(
-            Choice {
-                value,
-                amount: w - (x + 1),
-            },
-            best,
+    if t < level {
+        offer_free(
+            values,
+            amounts,
+            work,
+            base,
+            stride,
+            w,
+            from,
+            n,
+            level,
+            rate,
+            n,
+            t,
         );
     }
-    best
 }
 
-fn wide_amount(x: u16) -> usize
-    ensures { λ r. ⌜ (r ≡ x) × (r < 65536) ⌝ }
-{
-    x as usize
-}
-
-// The best of the amounts above m, where account and guarantee fall alike: read off the rows below.
-fn further_at(
+// The best of withdrawing further, read off the rows below.
+fn offer_further(
+    values: &mut [u32; 64],
+    amounts: &mut [u32; 64],
     work: &[u32],
     table: &[u16],
-    stride: usize,
-    w: usize,
-    a: usize,
-    m: usize,
-    rate: usize,
-) -> Choice
-    requires { ⌜ (m < w) × (w ≤ topMost) × (a < stride) × (rate ≤ rateMost) × (w * stride ≤ length (now work)) × (w * stride ≤ length (now table)) ⌝ }
-    ensures { λ r. ⌜ (r .value ≡ 10000 * m + (10000 - rate) + cells (now (work .entry)) 0 stride (w - m - 1) (a - (m + 1))) × (r .amount ≡ m + 1 + cells (now (table .entry)) 0 stride (w - m - 1) (a - (m + 1))) ⌝ }
+    low: usize,
+    at: usize,
+    n: usize,
+    cash: u32,
+    t: u32,
+)
+    requires { ⌜ (low + n ≤ 64) × (at + n ≤ length (now work)) × (at + n ≤ length (now table)) × ((i : ℕ) → i < n → cash + getD (now work) (at + i) 0 < 4294967296) × (t ≤ 4001) ⌝ }
+    ensures { λ _. ⌜ Offered (now (values .entry)) (now (amounts .entry)) (now (values .exit)) (now (amounts .exit)) low n (λ (i : ℕ). cash + getD (now (work .entry)) (at + i) 0) (λ (i : ℕ). t + getD (now (table .entry)) (at + i) 0) ⌝ }
 {
-    let at = (w - m - 1) * stride + date::less(a, m + 1);
-    let value = 10000 * m + (10000 - rate) + wide(work[at]);
-    let amount = m + 1 + wide_amount(table[at]);
-    Choice { value, amount }
-}
-
-// The best of the amounts 0 to the larger of w and m, where that of 0 to m is known.
-fn with_above(
-    free: Choice,
-    work: &[u32],
-    table: &[u16],
-    base: usize,
-    stride: usize,
-    w: usize,
-    a: usize,
-    m: usize,
-    rate: usize,
-) -> Choice
-    requires { ⌜ State (now work) base stride w a m × (rate ≤ rateMost) × (w * stride ≤ length (now table)) × Furthered (now work) (now table) base stride w (10000 - rate) × Leading (freeWorth (cells (now work) base stride) w a) 0 m (free .amount) (free .value) ⌝ }
-    ensures { λ r. ⌜ Leading (worthOver (cells (now (work .entry)) base stride) rate m w a) 0 (max w m) (r .amount) (r .value) ⌝ }
-{
-    if w <= m {
-        return free;
+    for i in 0..n {
+        let held = values[low + i];
+        let other = cash + work[at + i];
+        let amount = t + table[at + i] as u32;
+        values[low + i] = pick(held, other, held, other);
+        amounts[low + i] = pick(held, other, amounts[low + i], amount);
     }
-    if w < a {
-        let above = best_above(work, base, stride, w, a, m, rate);
-        return first_of(free, above);
-    }
-    let further = further_at(work, table, stride, w, a, m, rate);
-    first_of(free, further)
 }
 
-fn decide_dynamic(
+// Up to the level m is the guarantee itself, and none is left.
+fn further_few(
+    values: &mut [u32; 64],
+    amounts: &mut [u32; 64],
     work: &[u32],
     table: &[u16],
     base: usize,
     stride: usize,
     w: usize,
-    a: usize,
-    m: usize,
-    rate: usize,
-) -> Choice
-    requires { ⌜ State (now work) base stride w a m × (rate ≤ rateMost) × (w * stride ≤ length (now table)) × Furthered (now work) (now table) base stride w (10000 - rate) ⌝ }
-    ensures { λ r. ⌜ Leading (worthOver (cells (now (work .entry)) base stride) rate m w a) 0 (max w m) (r .amount) (r .value) ⌝ }
-{
-    let free = best_free(work, base, stride, w, a, m);
-    with_above(free, work, table, base, stride, w, a, m, rate)
-}
-
-// The dynamic behaviour, where the best of the amounts 0 to m is known.
-pub fn decide_with(
-    free: Choice,
-    work: &[u32],
-    table: &[u16],
-    base: usize,
-    stride: usize,
-    w: usize,
-    a: usize,
+    from: usize,
+    n: usize,
     level: usize,
     rate: usize,
-) -> Choice
-    requires { ⌜ State (now work) base stride w a (freeAmount level a) × (rate ≤ rateMost) × (w * stride ≤ length (now table)) × Furthered (now work) (now table) base stride w (10000 - rate) × Leading (freeWorth (cells (now work) base stride) w a) 0 (freeAmount level a) (free .amount) (free .value) ⌝ }
-    ensures { λ r. ⌜ (r .value ≡ bestValue dynamic (cells (now (work .entry)) base stride) rate level w a) × (r .amount ≡ bestAmount dynamic (cells (now (work .entry)) base stride) rate level w a) ⌝ }
+)
+    requires { ⌜ Block (now work) base stride w from n level rate × (w * stride ≤ length (now table)) × Furthered (now work) (now table) base stride w (10000 - rate) × Leads (worthAt (cells (now work) base stride) rate level w from) (now values) (now amounts) n (λ (j : ℕ). freeAmount level (from + j)) ⌝ }
+    ensures { λ _. ⌜ Leads (worthAt (cells (now (work .entry)) base stride) rate level w from) (now (values .exit)) (now (amounts .exit)) n (triedBelow level w from (min n (min (level + 1) w - from))) ⌝ }
 {
-    let m = date::free_amount(level, a);
-    with_above(free, work, table, base, stride, w, a, m, rate)
+    let few = date::smaller(n, date::less(date::smaller(level + 1, w), from));
+    for j in 0..few {
+        let a = from + j;
+        let at = (w - a - 1) * stride;
+        let cash = (10000 * a + (10000 - rate)) as u32;
+        offer_further(values, amounts, work, table, j, at, 1, cash, (a + 1) as u32);
+    }
 }
 
-// What the whole account is worth where it is above m.
-fn surrender(work: &[u32], base: usize, stride: usize, w: usize, m: usize, rate: usize) -> Choice
-    requires { ⌜ (m < w) × (w ≤ topMost) × (rate ≤ rateMost) × (base < length (now work)) ⌝ }
-    ensures { λ r. ⌜ (r .value ≡ 10000 * w - rate * (w - m) + cells (now (work .entry)) base stride 0 0) × (r .amount ≡ w) ⌝ }
+// The best of the amounts above m where the account is not below the guarantee: account and guarantee fall alike.
+fn further_block(
+    values: &mut [u32; 64],
+    amounts: &mut [u32; 64],
+    work: &[u32],
+    table: &[u16],
+    base: usize,
+    stride: usize,
+    w: usize,
+    from: usize,
+    n: usize,
+    level: usize,
+    rate: usize,
+)
+    requires { ⌜ Block (now work) base stride w from n level rate × (w * stride ≤ length (now table)) × Furthered (now work) (now table) base stride w (10000 - rate) × Leads (worthAt (cells (now work) base stride) rate level w from) (now values) (now amounts) n (λ (j : ℕ). freeAmount level (from + j)) ⌝ }
+    ensures { λ _. ⌜ Leads (worthAt (cells (now (work .entry)) base stride) rate level w from) (now (values .exit)) (now (amounts .exit)) n (triedBelow level w from (min n (w + 1 - from))) ⌝ }
 {
-    let value = 10000 * w - rate * (w - m) + wide(work[base]);
-    Choice { value, amount: w }
+    further_few(
+        values,
+        amounts,
+        work,
+        table,
+        base,
+        stride,
+        w,
+        from,
+        n,
+        level,
+        rate,
+    );
+    let low = date::less(level + 1, from);
+    let end = date::smaller(n, date::less(w + 1, from));
+    if low < end {
+        let at = (w - level - 1) * stride + (from + low - (level + 1));
+        let cash = (10000 * level + (10000 - rate)) as u32;
+        offer_further(
+            values,
+            amounts,
+            work,
+            table,
+            low,
+            at,
+            end - low,
+            cash,
+            (level + 1) as u32,
+        );
+    }
 }
 
-// The recorded amount and the value of a state under behaviour 0 static, 1 mixed, 2 dynamic.
-pub fn decide(
+fn least(values: &[u32; 64], low: usize, n: usize) -> u32
+    requires { ⌜ low + n ≤ 64 ⌝ }
+    ensures { λ r. ⌜ ((i : ℕ) → i < n → r ≤ getD (now (values .entry)) (low + i) 0) ⌝ }
+{
+    let mut r: u32 = 4294967295;
+    for i in 0..n {
+        let value = values[low + i];
+        r = pick(value, r, r, value);
+    }
+    r
+}
+
+// Amount t where the guarantee falls in proportion: the entry of guarantee a is the high part of a × step. A branch here: the
+// loop looks up single entries, so it is not widened, and an amount seldom gains.
+fn offer_share(
+    values: &mut [u32; 64],
+    amounts: &mut [u32; 64],
+    work: &[u32],
+    low: usize,
+    n: usize,
+    at: usize,
+    first: usize,
+    step: usize,
+    cash: u32,
+    t: u32,
+)
+    requires { ⌜ (low + n ≤ 64) × ((first + n) * step < 18446744073709551616) × ((i : ℕ) → i < n → at + (first + i) * step / 1099511627776 < length (now work)) × ((i : ℕ) → i < n → cash + getD (now work) (at + (first + i) * step / 1099511627776) 0 < 4294967296) ⌝ }
+    ensures { λ _. ⌜ Offered (now (values .entry)) (now (amounts .entry)) (now (values .exit)) (now (amounts .exit)) low n (λ (i : ℕ). cash + getD (now (work .entry)) (at + (first + i) * step / 1099511627776) 0) (λ (i : ℕ). t) ⌝ }
+{
+    let mut quotient = first * step;
+    for i in 0..n {
+        let other = cash + work[at + quotient / 1099511627776];
+        if values[low + i] < other {
+            values[low + i] = other;
+            amounts[low + i] = t;
+        }
+        quotient += step;
+    }
+}
+
+// Amount t + 1, to a run of 16 states. Where the rows rise with the guarantee and the run's last state cannot gain, no state
+// of it can: then the amount is passed over.
+fn share_amount(
+    values: &mut [u32; 64],
+    amounts: &mut [u32; 64],
+    work: &[u32],
+    base: usize,
+    stride: usize,
+    w: usize,
+    from: usize,
+    n: usize,
+    level: usize,
+    rate: usize,
+    low: usize,
+    inverse: usize,
+    bound: u32,
+    rising: bool,
+    t: usize,
+)
+    requires { ⌜ Block (now work) base stride w from n level rate × Leads (worthAt (cells (now work) base stride) rate level w from) (now values) (now amounts) n (triedRun level w from low (min n (low + 16)) t) × Bounded (worthAt (cells (now work) base stride) rate level w from) level low (min n (low + 16)) bound × (rising ≡ true → Rising (cells (now work) base stride) stride (w + 1)) × (w < from + low) × (low < n) × (level ≤ t) × (t < w) × (inverse ≡ (1099511627776 + w - 1) / w) ⌝ }
+    ensures { λ _. ⌜ Leads (worthAt (cells (now (work .entry)) base stride) rate level w from) (now (values .exit)) (now (amounts .exit)) n (triedRun level w from low (min n (low + 16)) (t + 1)) ⌝ }
+{
+    let count = date::smaller(n, low + 16) - low;
+    let x = w - (t + 1);
+    let at = base + x * stride;
+    let step = x * inverse;
+    let cash = date::cash(rate, level, t + 1) as u32;
+    if rising {
+        let last = (from + low + count - 1) * step / 1099511627776;
+        if cash + work[at + last] <= bound {
+            return;
+        }
+    }
+    offer_share(
+        values,
+        amounts,
+        work,
+        low,
+        count,
+        at,
+        from + low,
+        step,
+        cash,
+        (t + 1) as u32,
+    );
+}
+
+// The best of the amounts above m of 16 states. A × x / w is the high part of A × x × inverse: inverse is 2^40 / w rounded
+// up, and A × x times the rounding stays below the 2^40 / w that a remainder leaves. Gives the state after them.
+fn share_run(
+    values: &mut [u32; 64],
+    amounts: &mut [u32; 64],
+    work: &[u32],
+    base: usize,
+    stride: usize,
+    w: usize,
+    from: usize,
+    n: usize,
+    level: usize,
+    rate: usize,
+    low: usize,
+    rising: bool,
+) -> usize
+    requires { ⌜ Block (now work) base stride w from n level rate × Leads (worthAt (cells (now work) base stride) rate level w from) (now values) (now amounts) n (triedBelow level w from low) × (rising ≡ true → Rising (cells (now work) base stride) stride (w + 1)) × (w < from + low) × (low < n) × (level < w) ⌝ }
+    ensures { λ r. ⌜ (r ≡ min n (low + 16)) × Leads (worthAt (cells (now (work .entry)) base stride) rate level w from) (now (values .exit)) (now (amounts .exit)) n (triedBelow level w from (min n (low + 16))) ⌝ }
+{
+    let end = date::smaller(n, low + 16);
+    let inverse = (1099511627776 + w - 1) / w;
+    let bound = least(values, low, end - low);
+    for t in level..w {
+        share_amount(
+            values,
+            amounts,
+            work,
+            base,
+            stride,
+            w,
+            from,
+            n,
+            level,
+            rate,
+            low,
+            inverse,
+            bound,
+            rising,
+            t,
+        );
+    }
+    end
+}
+
+// The best of the amounts above m where the account is below the guarantee.
+fn share_block(
+    values: &mut [u32; 64],
+    amounts: &mut [u32; 64],
+    work: &[u32],
+    base: usize,
+    stride: usize,
+    w: usize,
+    from: usize,
+    n: usize,
+    level: usize,
+    rate: usize,
+    rising: bool,
+)
+    requires { ⌜ Block (now work) base stride w from n level rate × Leads (worthAt (cells (now work) base stride) rate level w from) (now values) (now amounts) n (triedBelow level w from (min n (w + 1 - from))) × (rising ≡ true → Rising (cells (now work) base stride) stride (w + 1)) ⌝ }
+    ensures { λ _. ⌜ Leads (worthAt (cells (now (work .entry)) base stride) rate level w from) (now (values .exit)) (now (amounts .exit)) n (λ (j : ℕ). max w (freeAmount level (from + j))) ⌝ }
+{
+    if level < w {
+        let mut low = date::smaller(n, date::less(w + 1, from));
+        while low < n {
+            low = share_run(
+                values,
+                amounts,
+                work,
+                base,
+                stride,
+                w,
+                from,
+                n,
+                level,
+                rate,
+                low,
+                rising,
+            );
+        }
+    }
+}
+
+// Every amount: 0 to the larger of w and m.
+fn dynamic_block(
+    values: &mut [u32; 64],
+    amounts: &mut [u32; 64],
+    work: &[u32],
+    table: &[u16],
+    base: usize,
+    stride: usize,
+    w: usize,
+    from: usize,
+    n: usize,
+    level: usize,
+    rate: usize,
+    rising: bool,
+)
+    requires { ⌜ Block (now work) base stride w from n level rate × (w * stride ≤ length (now table)) × Furthered (now work) (now table) base stride w (10000 - rate) × (rising ≡ true → Rising (cells (now work) base stride) stride (w + 1)) × (64 ≤ length (now values)) × (64 ≤ length (now amounts)) ⌝ }
+    ensures { λ _. ⌜ Leads (worthAt (cells (now (work .entry)) base stride) rate level w from) (now (values .exit)) (now (amounts .exit)) n (λ (j : ℕ). max w (freeAmount level (from + j))) ⌝ }
+{
+    free_block(values, amounts, work, base, stride, w, from, n, level, rate);
+    further_block(
+        values,
+        amounts,
+        work,
+        table,
+        base,
+        stride,
+        w,
+        from,
+        n,
+        level,
+        rate,
+    );
+    share_block(
+        values,
+        amounts,
+        work,
+        base,
+        stride,
+        w,
+        from,
+        n,
+        level,
+        rate,
+        rising,
+    );
+}
+
+// Below the level m is the guarantee itself, and none is left.
+fn static_few(
+    values: &mut [u32; 64],
+    amounts: &mut [u32; 64],
+    work: &[u32],
+    base: usize,
+    stride: usize,
+    w: usize,
+    from: usize,
+    n: usize,
+    level: usize,
+    rate: usize,
+)
+    requires { ⌜ Block (now work) base stride w from n level rate × (64 ≤ length (now values)) × (64 ≤ length (now amounts)) ⌝ }
+    ensures { λ _. ⌜ Settled (λ (j : ℕ). static) (cells (now (work .entry)) base stride) rate level w from (now (values .exit)) (now (amounts .exit)) (min n (level - from)) ⌝ }
+{
+    let few = date::smaller(n, date::less(level, from));
+    for j in 0..few {
+        let a = from + j;
+        let at = base + date::less(w, a) * stride;
+        start(
+            values,
+            amounts,
+            work,
+            j,
+            at,
+            1,
+            (10000 * a) as u32,
+            a as u32,
+        );
+    }
+}
+
+// Every state withdraws m.
+fn static_block(
+    values: &mut [u32; 64],
+    amounts: &mut [u32; 64],
+    work: &[u32],
+    base: usize,
+    stride: usize,
+    w: usize,
+    from: usize,
+    n: usize,
+    level: usize,
+    rate: usize,
+)
+    requires { ⌜ Block (now work) base stride w from n level rate × (64 ≤ length (now values)) × (64 ≤ length (now amounts)) ⌝ }
+    ensures { λ _. ⌜ Settled (λ (j : ℕ). static) (cells (now (work .entry)) base stride) rate level w from (now (values .exit)) (now (amounts .exit)) (n) ⌝ }
+{
+    static_few(values, amounts, work, base, stride, w, from, n, level, rate);
+    let few = date::smaller(n, date::less(level, from));
+    let at = base + (date::less(w, level) * stride + date::less(from + few, level));
+    start(
+        values,
+        amounts,
+        work,
+        few,
+        at,
+        n - few,
+        (10000 * level) as u32,
+        level as u32,
+    );
+}
+
+// Amount t, worth the same to n states from state `low` on.
+fn offer_same(
+    values: &mut [u32; 64],
+    amounts: &mut [u32; 64],
+    low: usize,
+    n: usize,
+    other: u32,
+    t: u32,
+)
+    requires { ⌜ (low + n ≤ 64) ⌝ }
+    ensures { λ _. ⌜ Offered (now (values .entry)) (now (amounts .entry)) (now (values .exit)) (now (amounts .exit)) low n (λ (i : ℕ). other) (λ (i : ℕ). t) ⌝ }
+{
+    for i in 0..n {
+        let held = values[low + i];
+        values[low + i] = pick(held, other, held, other);
+        amounts[low + i] = pick(held, other, amounts[low + i], t);
+    }
+}
+
+// The whole account, to the states whose guarantee is below it and the level.
+fn surrender_few(
+    values: &mut [u32; 64],
+    amounts: &mut [u32; 64],
+    work: &[u32],
+    base: usize,
+    stride: usize,
+    w: usize,
+    from: usize,
+    n: usize,
+    level: usize,
+    rate: usize,
+)
+    requires { ⌜ Block (now work) base stride w from n level rate × Settled (λ (j : ℕ). static) (cells (now work) base stride) rate level w from (now values) (now amounts) (n) ⌝ }
+    ensures { λ _. ⌜ Settled (mixedBelow (min n (min level w - from))) (cells (now (work .entry)) base stride) rate level w from (now (values .exit)) (now (amounts .exit)) (n) ⌝ }
+{
+    let few = date::smaller(n, date::less(date::smaller(level, w), from));
+    for j in 0..few {
+        let other = date::cash(rate, from + j, w) as u32 + work[base];
+        offer_same(values, amounts, j, 1, other, w as u32);
+    }
+}
+
+// The whole account, where it is above m.
+fn surrender_block(
+    values: &mut [u32; 64],
+    amounts: &mut [u32; 64],
+    work: &[u32],
+    base: usize,
+    stride: usize,
+    w: usize,
+    from: usize,
+    n: usize,
+    level: usize,
+    rate: usize,
+)
+    requires { ⌜ Block (now work) base stride w from n level rate × Settled (λ (j : ℕ). static) (cells (now work) base stride) rate level w from (now values) (now amounts) (n) ⌝ }
+    ensures { λ _. ⌜ Settled (λ (j : ℕ). mixed) (cells (now (work .entry)) base stride) rate level w from (now (values .exit)) (now (amounts .exit)) (n) ⌝ }
+{
+    surrender_few(values, amounts, work, base, stride, w, from, n, level, rate);
+    if level < w {
+        let few = date::smaller(n, date::less(level, from));
+        let other = date::cash(rate, level, w) as u32 + work[base];
+        offer_same(values, amounts, few, n - few, other, w as u32);
+    }
+}
+
+// The values and the recorded amounts of a block under behaviour 0 static, 1 mixed, 2 dynamic.
+pub fn decide_block(
     behaviour: usize,
+    values: &mut [u32; 64],
+    amounts: &mut [u32; 64],
     work: &[u32],
     table: &[u16],
     base: usize,
     stride: usize,
     w: usize,
-    a: usize,
+    from: usize,
+    n: usize,
     level: usize,
     rate: usize,
-) -> Choice
-    requires { ⌜ (behaviour ≤ 2) × State (now work) base stride w a (freeAmount level a) × (rate ≤ rateMost) × (w * stride ≤ length (now table)) × (behaviour ≡ 2 → Furthered (now work) (now table) base stride w (10000 - rate)) ⌝ }
-    ensures { λ r. ⌜ (r .value ≡ bestValue (behaviourOf behaviour) (cells (now (work .entry)) base stride) rate level w a) × (r .amount ≡ bestAmount (behaviourOf behaviour) (cells (now (work .entry)) base stride) rate level w a) ⌝ }
+    rising: bool,
+)
+    requires { ⌜ (behaviour ≤ 2) × Block (now work) base stride w from n level rate × (w * stride ≤ length (now table)) × (behaviour ≡ 2 → Furthered (now work) (now table) base stride w (10000 - rate)) × (rising ≡ true → Rising (cells (now work) base stride) stride (w + 1)) × (64 ≤ length (now values)) × (64 ≤ length (now amounts)) ⌝ }
+    ensures { λ _. ⌜ Chosen (behaviourOf behaviour) (cells (now (work .entry)) base stride) rate level w from n (now (values .exit)) (now (amounts .exit)) ⌝ }
 {
-    let m = date::free_amount(level, a);
     if behaviour == 2 {
-        return decide_dynamic(work, table, base, stride, w, a, m, rate);
+        dynamic_block(
+            values,
+            amounts,
+            work,
+            table,
+            base,
+            stride,
+            w,
+            from,
+            n,
+            level,
+            rate,
+            rising,
+        );
+        return;
     }
-    let free = Choice {
-        value: worth_free(work, base, stride, w, a, m, m),
-        amount: m,
-    };
-    if behaviour == 0 {
-        return free;
+    static_block(values, amounts, work, base, stride, w, from, n, level, rate);
+    if behaviour == 1 {
+        surrender_block(values, amounts, work, base, stride, w, from, n, level, rate);
     }
-    if w <= m {
-        return free;
+}
+
+// How often a row falls, counted so that the loop can be widened.
+fn falls(work: &[u32], at: usize, n: usize) -> u32
+    requires { ⌜ (n ≤ topMost) × ((i : ℕ) → i < n → at + i + 1 < length (now work)) ⌝ }
+    ensures { λ r. ⌜ (r ≤ n) × (r ≡ 0 → (i : ℕ) → i < n → getD (now (work .entry)) (at + i) 0 ≤ getD (now (work .entry)) (at + i + 1) 0) ⌝ }
+{
+    let mut r: u32 = 0;
+    for i in 0..n {
+        r += pick(work[at + i + 1], work[at + i], 0, 1);
     }
-    first_of(free, surrender(work, base, stride, w, m, rate))
+    r
+}
+
+// Whether each of n rows rises with the guarantee. The rules do not say so: it is looked up.
+pub fn rises(work: &[u32], base: usize, stride: usize, n: usize) -> bool
+    requires { ⌜ (n ≤ 4001) × (stride ≤ 4001) × (base + n * stride ≤ length (now work)) ⌝ }
+    ensures { λ r. ⌜ (r ≡ true → Rising (cells (now (work .entry)) base stride) stride n) ⌝ }
+{
+    let steps = date::less(stride, 1);
+    let mut r: usize = 0;
+    for x in 0..n {
+        r += falls(work, base + x * stride, steps) as usize;
+    }
+    r == 0
 }

@@ -1,49 +1,67 @@
 -- `choose::free_block` meets its contract. Assumes nothing.
-use Prim.Native.Nat.{_-_, _≤_}
-use mathlib.Core.Path.{_≡_, subst}
+use Prim.Native.Nat.{ℕ, _+_, _-_, _*_, _≤_, min}
+use borrow.Author.Tests.{lt-ltb}
+use lib.ListN.{getD}
+use mathlib.Core.Path.{_≡_, refl, ap, sym, _∙_, subst}
+use native.Mathlib.Nat.{le-refl}
 use native.Mathlib.Omega.{arith}
-use Rattle.choose.specs.State.{Led}
-use Rattle.choose.proofs.Blocks.{start-place, led-none}
+use Rattle.choose.proofs.Blocks.{leads-start, leads-as}
+use Rattle.choose.proofs.Entries.{block-room}
+use Rattle.choose.proofs.Free.{free-room, free-small, start-at, start-worth}
+use Rattle.choose.specs.State.{Leads, worthAt, triedFree}
+use Rattle.rules.specs.Date.{freeAmount}
+use Rattle.slices.specs.Rows.{cells}
 use Rattle.choose.proofs.free_block.Statement.{statement}
 use Rattle.choose.proofs.free_block.Tie as tie
 
 abbrev Inv-loop : tie.InvT-loop
-Inv-loop values₀ amounts₀ work base stride w from n level t₀ values amounts t = (t ≤ level) × Led work values amounts base stride w from n t
+Inv-loop values₀ amounts₀ work base stride w from n level rate t₀ values amounts t = (t ≤ level) × Leads (worthAt (cells work base stride) rate level w from) values amounts n (triedFree from t)
 
 abbrev μ-loop : tie.MeasureT-loop
-μ-loop values₀ amounts₀ work base stride w from n level t₀ values amounts t = level - t
+μ-loop values₀ amounts₀ work base stride w from n level rate t₀ values amounts t = level - t
 
-mul-start-block : tie.Need-mul-start-block Inv-loop μ-loop
-mul-start-block c = let p = start-place (c .before .before .before .pre .0) in omega arith
+mul-start : tie.Need-mul-start Inv-loop μ-loop
+mul-start c = let p = block-room (c .before .before .before .pre .0) (c .before .before .before .args .w) (c .before .before .before .args .from) (c .before .before .before .args .n) (omega arith) (c .before .before .before .pre .0 .columns) in omega arith
 
-add-start-block : tie.Need-add-start-block Inv-loop μ-loop
-add-start-block c = let p = start-place (c .before .before .before .pre .0) in omega arith
+add-start : tie.Need-add-start Inv-loop μ-loop
+add-start c = let p = block-room (c .before .before .before .pre .0) (c .before .before .before .args .w) (c .before .before .before .args .from) (c .before .before .before .args .n) (omega arith) (c .before .before .before .pre .0 .columns) in omega arith
 
-add-start-block-2 : tie.Need-add-start-block-2 Inv-loop μ-loop
-add-start-block-2 c = let p = start-place (c .before .before .before .pre .0) in omega arith
+add-start-2 : tie.Need-add-start-2 Inv-loop μ-loop
+add-start-2 c = let p = block-room (c .before .before .before .pre .0) (c .before .before .before .args .w) (c .before .before .before .args .from) (c .before .before .before .args .n) (omega arith) (c .before .before .before .pre .0 .columns) in omega arith
 
-start-block-requires : tie.Need-start-block-requires Inv-loop μ-loop
-start-block-requires c κs = (c .before .before .before .pre .0 .short, start-place (c .before .before .before .pre .0))
+start-requires : tie.Need-start-requires Inv-loop μ-loop
+start-requires c κs = (omega (arith, c .before .before .before .pre .0 .short), block-room (c .before .before .before .pre .0) (c .before .before .before .args .w) (c .before .before .before .args .from) (c .before .before .before .args .n) (omega arith) (c .before .before .before .pre .0 .columns), λ i l. free-small (c .before .before .before .pre .0) 0 0 (c .before .before .before .args .n) _ (start-at (c .before .before .before .pre .0)) (omega arith) (omega arith) (λ k. omega arith) i l)
 
 loop-holds : tie.Need-loop-holds Inv-loop μ-loop
 loop-holds c =
-    let y = c .before .before .before .before .args in
-    (omega arith, led-none (y .values .now) _ (y .amounts .now) _ (y .base) (y .stride) (y .w) (y .from) (y .n) (c .before .before .before .before .pre .2) (c .before .before .before .before .pre .3) (c .before .before .before .before .pre .0 .short) (c .start-block .ensures .0) (c .start-block .ensures .1))
+    let first = leads-start (c .before .before .before .before .args .values .now) _ (c .before .before .before .before .args .amounts .now) _ (c .before .before .before .before .args .n) _ (c .before .before .before .before .pre .1) (c .before .before .before .before .pre .2) (c .before .before .before .before .pre .0 .short) (c .start .ensures .0) (c .start .ensures .1) (start-worth (c .before .before .before .before .pre .0)) in
+    (omega arith, leads-as first _ (λ j l. let z : 0 ≡ min 0 (c .before .before .before .before .args .from + j) = omega arith in z))
 
-offer-free-requires : tie.Need-offer-free-requires Inv-loop μ-loop
-offer-free-requires c κs = (c .before .before .before .before .before .before .before .before .pre .0, c .before .before .before .loop .inv .1, let l = c .before .before .before .before .before .before .before .before .pre .1 in omega arith)
+add-loop : tie.Need-add-loop Inv-loop μ-loop
+add-loop c = omega (arith, c .before .before .before .before .before .pre .0 .level-is)
+
+offer-pair-requires : tie.Need-offer-pair-requires Inv-loop μ-loop
+offer-pair-requires c κs = (c .before .before .before .before .before .before .before .before .pre .0, c .before .before .before .loop .inv .1, c .before .before .loop-test .taken)
 
 add-t : tie.Need-add-t Inv-loop μ-loop
-add-t c = let l = c .before .before .before .before .before .before .before .before .before .pre .1 in omega arith
+add-t c = omega (arith, c .before .before .before .before .before .before .before .before .before .pre .0 .level-is)
 
 loop-less : tie.Need-loop-less Inv-loop μ-loop
 loop-less c = omega arith
 
 loop-again : tie.Need-loop-again Inv-loop μ-loop
-loop-again c = (omega arith, c .offer-free .ensures)
+loop-again c = (omega arith, c .offer-pair .ensures)
+
+offer-free-requires : tie.Need-offer-free-requires Inv-loop μ-loop
+offer-free-requires c κs = (c .before .before .before .before .before .before .before .before .before .pre .0, c .before .before .before .before .loop .inv .1, c .before .before .if1 .taken, le-refl _)
 
 returns : tie.Need-returns Inv-loop μ-loop
-returns c = let y = c .before .before .before .before .before .before .args in let e : c .before .loop .t ≡ y .level = omega arith in subst (Led (y .work .now) (c .before .loop .values) (c .before .loop .amounts) (y .base) (y .stride) (y .w) (y .from) (y .n)) e (c .before .loop .inv .1)
+unfolding freeAmount
+returns c = let e : c .before .before .before .before .before .loop .t + 1 ≡ c .before .before .before .before .before .before .before .before .before .before .args .level = omega arith in leads-as (c .offer-free .ensures) _ (λ j l. rw (lt-ltb j (c .before .before .before .before .before .before .before .before .before .before .args .n) l) (ap (λ (z : ℕ). min z (c .before .before .before .before .before .before .before .before .before .before .args .from + j)) e))
+
+returns-2 : tie.Need-returns-2 Inv-loop μ-loop
+unfolding freeAmount
+returns-2 c = let e : c .before .before .loop .t ≡ c .before .before .before .before .before .before .before .args .level = omega arith in leads-as (c .before .before .loop .inv .1) _ (λ j l. ap (λ (z : ℕ). min z (c .before .before .before .before .before .before .before .args .from + j)) e)
 
 pub free-block-spec : {M : Type 1} → statement M
 free-block-spec =
@@ -51,13 +69,16 @@ free-block-spec =
     (tie.spec
     Inv-loop
     μ-loop
-    mul-start-block
-    add-start-block
-    add-start-block-2
-    start-block-requires
+    mul-start
+    add-start
+    add-start-2
+    start-requires
     loop-holds
-    offer-free-requires
+    add-loop
+    offer-pair-requires
     add-t
     loop-less
     loop-again
-    returns)
+    offer-free-requires
+    returns
+    returns-2)

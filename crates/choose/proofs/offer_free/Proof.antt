@@ -1,80 +1,96 @@
 -- `choose::offer_free` meets its contract. Assumes nothing.
-use Prim.Native.Nat.{ℕ, _+_, _*_, _-_}
+use Prim.Native.Nat.{ℕ, _+_, _-_, _*_, min}
 use borrow.Author.Needs.{needs}
-use mathlib.Core.Path.{ap}
+use mathlib.Core.Path.{_≡_, ap, ap₂, _∙_}
 use native.Mathlib.Omega.{arith}
-use Rattle.choose.proofs.Blocks.{block-place, offer-place, offer-small, led-skip, led-offer}
+use Rattle.choose.proofs.Entries.{block-room}
+use Rattle.choose.proofs.Free.{free-room, free-small, free-one, reached}
 use Rattle.choose.proofs.offer_free.Statement.{statement}
 use Rattle.choose.proofs.offer_free.Tie as tie
 
-add-amount : tie.Need-add-amount
-add-amount c = search needs
+add-less : tie.Need-add-less
+add-less c = omega (arith, c .before .pre .0 .level-is, c .before .pre .0 .columns, c .before .pre .0 .width, c .before .pre .0 .short)
 
 less-requires : tie.Need-less-requires
 less-requires c κs = search needs
 
-returns : tie.Need-returns
-returns c = let e = c .before .less .ensures in led-skip (c .before .before .before .pre .1) (omega arith)
+smaller-requires : tie.Need-smaller-requires
+smaller-requires c κs = search needs
+
+add-less-2 : tie.Need-add-less-2
+add-less-2 c = omega (arith, c .before .before .before .pre .0 .level-is, c .before .before .before .pre .0 .columns, c .before .before .before .pre .0 .width, c .before .before .before .pre .0 .short)
 
 less-requires-2 : tie.Need-less-requires-2
 less-requires-2 c κs = search needs
 
 mul-at : tie.Need-mul-at
-mul-at c = let y = c .before .before .before .before .args in let k = c .before .before .before .before .pre .0 in let e = c .before .before .less .ensures in let f = c .less2 .ensures in let p = block-place k (c .less2 .result) (y .from + c .before .before .less .result - (y .t + 1)) (omega arith) (omega (arith, k .columns)) in omega arith
+mul-at c = let e = c .less2 .ensures in let p = block-room (c .before .before .before .before .pre .0) (c .less2 .result) 0 0 (omega arith) (omega arith) in omega arith
+
+add-less-3 : tie.Need-add-less-3
+add-less-3 c = omega (arith, c .before .before .before .before .pre .0 .level-is, c .before .before .before .before .pre .0 .columns, c .before .before .before .before .pre .0 .width, c .before .before .before .before .pre .0 .short)
+
+add-less-4 : tie.Need-add-less-4
+add-less-4 c = omega (arith, c .before .before .before .before .pre .0 .level-is, c .before .before .before .before .pre .0 .columns, c .before .before .before .before .pre .0 .width, c .before .before .before .before .pre .0 .short)
+
+less-requires-3 : tie.Need-less-requires-3
+less-requires-3 c κs = search needs
 
 add-at : tie.Need-add-at
-add-at c = search needs
-
-sub-at : tie.Need-sub-at
-sub-at c = search needs
+add-at c = let e = c .before .less2 .ensures in let f = c .before .before .smaller .ensures in let g = c .less3 .ensures in let p = block-room (c .before .before .before .before .before .pre .0) (c .before .less2 .result) (c .less3 .result) 0 (omega arith) (omega (arith, c .before .before .before .before .before .pre .0 .columns)) in omega arith
 
 add-at-2 : tie.Need-add-at-2
-add-at-2 c = let y = c .before .before .before .before .args in let k = c .before .before .before .before .pre .0 in let e = c .before .before .less .ensures in let f = c .less2 .ensures in let p = block-place k (c .less2 .result) (y .from + c .before .before .less .result - (y .t + 1)) (omega arith) (omega (arith, k .columns)) in omega arith
-
-add-at-3 : tie.Need-add-at-3
-add-at-3 c = let y = c .before .before .before .before .args in let k = c .before .before .before .before .pre .0 in let e = c .before .before .less .ensures in let f = c .less2 .ensures in let p = block-place k (c .less2 .result) (y .from + c .before .before .less .result - (y .t + 1)) (omega arith) (omega (arith, k .columns)) in omega arith
-
-mul-cash : tie.Need-mul-cash
-mul-cash c = search needs
-
-cast-cash : tie.Need-cast-cash
-cast-cash c = search needs
+add-at-2 c = let e = c .before .less2 .ensures in let f = c .before .before .smaller .ensures in let g = c .less3 .ensures in let p = block-room (c .before .before .before .before .before .pre .0) (c .before .less2 .result) (c .less3 .result) 0 (omega arith) (omega (arith, c .before .before .before .before .before .pre .0 .columns)) in omega arith
 
 sub-offer : tie.Need-sub-offer
-sub-offer c = search needs
+sub-offer c = let f = c .before .before .before .before .smaller .ensures in omega arith
+
+add-offer : tie.Need-add-offer
+add-offer c = omega (arith, c .before .before .before .before .before .before .before .pre .0 .level-is, c .before .before .before .before .before .before .before .pre .0 .columns, c .before .before .before .before .before .before .before .pre .0 .width, c .before .before .before .before .before .before .before .pre .0 .short)
+
+mul-offer : tie.Need-mul-offer
+mul-offer c = omega (arith, c .before .before .before .before .before .before .before .pre .0 .level-is, c .before .before .before .before .before .before .before .pre .0 .columns, c .before .before .before .before .before .before .before .pre .0 .width, c .before .before .before .before .before .before .before .pre .0 .short)
 
 cast-offer : tie.Need-cast-offer
-cast-offer c = search needs
+cast-offer c = omega (arith, c .before .before .before .before .before .before .before .pre .0 .level-is, c .before .before .before .before .before .before .before .pre .0 .columns, c .before .before .before .before .before .before .before .pre .0 .width, c .before .before .before .before .before .before .before .pre .0 .short)
+
+add-offer-2 : tie.Need-add-offer-2
+add-offer-2 c = omega (arith, c .before .before .before .before .before .before .before .pre .0 .level-is, c .before .before .before .before .before .before .before .pre .0 .columns, c .before .before .before .before .before .before .before .pre .0 .width, c .before .before .before .before .before .before .before .pre .0 .short)
+
+cast-offer-2 : tie.Need-cast-offer-2
+cast-offer-2 c = omega (arith, c .before .before .before .before .before .before .before .pre .0 .level-is, c .before .before .before .before .before .before .before .pre .0 .columns, c .before .before .before .before .before .before .before .pre .0 .width, c .before .before .before .before .before .before .before .pre .0 .short)
 
 offer-requires : tie.Need-offer-requires
 offer-requires c κs =
-    let y = c .before .before .before .before .before .before .args in
-    let k = c .before .before .before .before .before .before .pre .0 in
-    let e = c .before .before .before .before .less .ensures in
-    let f = c .before .before .less2 .ensures in
-    (omega (arith, k .short), offer-place k (c .before .before .less2 .result) (y .t + 1) (c .before .before .before .before .less .result) (omega arith) (omega arith) (omega arith), λ i l. offer-small k (c .before .before .less2 .result) (y .t + 1) (c .before .before .before .before .less .result) i (omega arith) (omega arith) (omega arith) (omega arith) l)
+    let f = c .before .before .before .before .smaller .ensures ∙ ap (min (c .before .before .before .before .before .before .before .args .end)) (c .before .before .before .before .before .less .ensures) in
+    let at = ap₂ (λ (x y : ℕ). c .before .before .before .before .before .before .before .args .base + (x * c .before .before .before .before .before .before .before .args .stride + y)) (c .before .before .before .less2 .ensures) (c .before .before .less3 .ensures) in
+    (omega (arith, c .before .before .before .before .before .before .before .pre .0 .short), free-room (c .before .before .before .before .before .before .before .pre .0) (c .before .before .before .before .before .before .before .args .t + 1) (c .before .before .before .before .smaller .result) (c .before .before .before .before .before .before .before .args .end - c .before .before .before .before .smaller .result) _ at (omega arith), free-small (c .before .before .before .before .before .before .before .pre .0) (c .before .before .before .before .before .before .before .args .t + 1) (c .before .before .before .before .smaller .result) (c .before .before .before .before .before .before .before .args .end - c .before .before .before .before .smaller .result) _ at (omega arith) (omega arith) (λ l. reached (c .before .before .before .before .before .before .before .pre .0) (c .before .before .before .before .before .before .before .args .t + 1) (c .before .before .before .before .smaller .result) (c .before .before .before .before .before .before .before .args .end) 0 f l))
 
-returns-2 : tie.Need-returns-2
-returns-2 c =
-    let y = c .before .before .before .before .before .before .before .args in
-    led-offer (c .before .before .before .before .before .before .before .pre .1) (c .before .before .before .before .before .before .before .pre .0 .short) _ _ (c .before .before .before .before .before .less .result) (c .before .before .before .less2 .result * y .stride) (c .before .before .before .before .before .less .ensures) (omega arith) (ap (λ (z : ℕ). z * y .stride) (c .before .before .before .less2 .ensures)) (c .offer .ensures .0) (c .offer .ensures .1)
+returns : tie.Need-returns
+returns c =
+    let f = c .before .before .before .before .before .smaller .ensures ∙ ap (min (c .before .before .before .before .before .before .before .before .args .end)) (c .before .before .before .before .before .before .less .ensures) in
+    let at = ap₂ (λ (x y : ℕ). c .before .before .before .before .before .before .before .before .args .base + (x * c .before .before .before .before .before .before .before .before .args .stride + y)) (c .before .before .before .before .less2 .ensures) (c .before .before .before .less3 .ensures) in
+    free-one (c .before .before .before .before .before .before .before .before .pre .0) (c .before .before .before .before .before .before .before .before .args .t) (c .before .before .before .before .before .smaller .result) (c .before .before .before .before .before .before .before .before .args .end) _ at (c .before .before .before .before .before .before .before .before .pre .1) (c .offer .ensures) f (c .before .before .before .before .before .before .before .before .pre .3) (c .before .before .before .before .before .before .before .before .pre .2)
 
 pub offer-free-spec : {M : Type 1} → statement M
 offer-free-spec =
     tie.close
     (tie.spec
-    add-amount
+    add-less
     less-requires
-    returns
+    smaller-requires
+    add-less-2
     less-requires-2
     mul-at
+    add-less-3
+    add-less-4
+    less-requires-3
     add-at
-    sub-at
     add-at-2
-    add-at-3
-    mul-cash
-    cast-cash
     sub-offer
+    add-offer
+    mul-offer
     cast-offer
+    add-offer-2
+    cast-offer-2
     offer-requires
-    returns-2)
+    returns)

@@ -1,0 +1,64 @@
+-- What a block of states reads, and what it is worth. Assumes nothing.
+use mathlib.Core.List.{List}
+use mathlib.Core.Path.{_≡_, refl, ap, sym, _∙_, subst}
+use Prim.Native.Nat.{ℕ, _+_, _-_, _*_, _/_, _≤_, _<_, min}
+use native.Mathlib.Nat.{le-trans, le-of-eq, le-of-lt, sub-le, zero-add, min-eq-left}
+use native.Mathlib.Omega.{arith}
+use lib.ListN.{length, getD}
+use Rattle.decision.specs.Choice.{Leading, leading-as}
+use Rattle.slices.specs.Rows.{cells, rows-le, rows-step}
+use Rattle.rules.specs.Date.{freeAmount, cash, balanceAfter, guaranteeAfter}
+use Rattle.laws.specs.Date.{guarantee-le}
+use Rattle.laws.specs.Bounds.{cash-le}
+use Rattle.choose.specs.State.{worthOver, worthAt, Block, Furthered}
+use Rattle.choose.proofs.Worth.{free-is, above-is, further-best}
+
+module _ {work : List ℕ} {base stride w from n level rate : ℕ} (b : Block work base stride w from n level rate) where
+  -- c entries of a row
+  pub block-room : (x y c : ℕ) → x ≤ w → y + c ≤ stride → base + (x * stride + y) + c ≤ length work
+  block-room x y c h k = let p = rows-le stride (x + 1) (w + 1) (omega arith) in let s = rows-step stride x in omega (arith, b .rows)
+
+  -- what an amount is worth fits 32 bits
+  pub worth-small : (j t : ℕ) → j < n → t ≤ 4000 → worthAt (cells work base stride) rate level w from j t ≤ 4040000000
+  unfolding worthOver balanceAfter
+  worth-small j t h l =
+      let m = freeAmount level (from + j) in
+      let c = cash-le rate m t in
+      let g = le-trans (guarantee-le m w (from + j) t) (sub-le (from + j) t) in
+      let s = b .small (w - t) (guaranteeAfter m w (from + j) t) (sub-le w t) (omega (arith, b .columns)) in
+      omega arith
+
+  -- ---- amount t up to m
+  pub free-worth : (t low i at : ℕ) → at ≡ base + ((w - t) * stride + (from + low - t)) → t ≤ level → t ≤ from + low
+      → worthAt (cells work base stride) rate level w from (low + i) t ≡ 10000 * t + getD work (at + i) 0
+  unfolding freeAmount
+  free-worth t low i at p h k =
+      let q : base + ((w - t) * stride + (from + (low + i) - t)) ≡ at + i = omega arith in
+      free-is (cells work base stride) rate (min level (from + (low + i))) w (from + (low + i)) t (omega arith)
+      ∙ ap (λ (z : ℕ). 10000 * t + getD work z 0) q
+
+  -- ---- amount t above m where the account is below the guarantee
+  pub level-is : (j : ℕ) → level < w → w < from + j → freeAmount level (from + j) ≡ level
+  unfolding freeAmount
+  level-is j h l = min-eq-left (omega arith)
+
+  pub share-worth : (t j : ℕ) → level < t → t ≤ w → w < from + j
+      → worthAt (cells work base stride) rate level w from j t ≡ cash rate level t + cells work base stride (w - t) ((from + j) * (w - t) / w)
+  share-worth t j h k l =
+      let m = level-is j (omega arith) l in
+      above-is (cells work base stride) rate (freeAmount level (from + j)) w (from + j) t (omega arith) k (le-of-lt l)
+      ∙ ap (λ (z : ℕ). cash rate z t + cells work base stride (w - t) ((from + j) * (w - t) / w)) m
+
+  -- ---- .. and where it is not below
+  pub further-worth : {table : List ℕ} → Furthered work table base stride w (10000 - rate)
+      → (j m index : ℕ) → j < n → freeAmount level (from + j) ≡ m → m < w → from + j ≤ w → index ≡ (w - m - 1) * stride + (from + j - (m + 1))
+      → Leading (worthAt (cells work base stride) rate level w from j) (m + 1) w (m + 1 + getD table index 0) (10000 * m + (10000 - rate) + getD work index 0)
+  further-worth {table} x j m index h p l k q =
+      let a = from + j in
+      let row : w - m - 1 < w = omega arith in
+      let column : a - (m + 1) < stride = omega (arith, b .columns) in
+      let at : index ≡ 0 + ((w - m - 1) * stride + (a - (m + 1))) = q ∙ sym (zero-add _) in
+      let value = ap (λ (z : ℕ). 10000 * m + (10000 - rate) + getD work z 0) at ∙ ap (λ (z : ℕ). 10000 * m + (10000 - rate) + z) (x .values (w - m - 1) (a - (m + 1)) row column) in
+      let amount = ap (λ (z : ℕ). m + 1 + getD table z 0) at ∙ ap (λ (z : ℕ). m + 1 + z) (x .amounts (w - m - 1) (a - (m + 1)) row column) in
+      subst (λ (f : ℕ). Leading (worthOver (cells work base stride) rate f w a) (m + 1) w (m + 1 + getD table index 0) (10000 * m + (10000 - rate) + getD work index 0)) (sym p)
+      (leading-as refl (sym amount) (sym value) (further-best (cells work base stride) rate m w a (b .rate-is) l k))
