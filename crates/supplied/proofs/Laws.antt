@@ -16,7 +16,7 @@ use Rattle.slices.specs.Parts.{part-at}
 use Rattle.slices.specs.Stored.{stored, length-stored, stored-out}
 use Rattle.slices.specs.Rows.{cells, flat, cells-kept, within-rows, rows-le, rows-step, rows-before, row-next, layer-stored}
 use Rattle.rules.specs.Contract.{Terms, termsOf, Returns, returnsOf}
-use Rattle.rules.specs.Date.{dynamic, freeAmount, admits, cash, balanceAfter, guaranteeAfter, maturityValue, margin}
+use Rattle.rules.specs.Date.{dynamic, freeAmount, admits, balanceAfter, guaranteeAfter, maturityValue, margin}
 use Rattle.rules.specs.Product.{suppliedValue, suppliedLayer}
 use Rattle.rules.specs.Refusals.{Verdict, accepted, refused, verdict, numberOf, placeOf, onSuccess, recordChecks, listChecks}
 use Rattle.rules.specs.FixedTerm.{freeIn, admissibleIn, cashIn, afterIn, reachBy, expectOver, startOf, processOf, layerSize, layoutOf, fixedTerm}
@@ -26,7 +26,7 @@ use Rattle.laws.specs.Date.{dynamic-is, guarantee-le}
 use Rattle.laws.specs.Accepted.{Valid, andThen, parts-accepted, parts-refused}
 use Rattle.laws.specs.Bounds.{cash-le, table-value-le, value-room}
 use Rattle.expect.specs.Expected.{expected, reachedSum, Listing, expected-le, expected-same}
-use Rattle.choose.specs.State.{worthOver, State}
+use Rattle.choose.specs.State.{worthOver, worth-same, State}
 use Rattle.dates.specs.Back.{at}
 use Rattle.valuing.specs.declared.Answer as declared
 use Rattle.valuing.specs.Answered.{answerOf, refusal, Settled}
@@ -110,12 +110,6 @@ module _ {work layer : List ℕ} {base stride n level rate : ℕ} (d : Following
   follow-step =
       row-next work stride w (followed (cells work base stride) (cells layer 0 stride) rate level) _ (λ a l.
       ap (λ (e : ℕ → ℕ → ℕ). followed e (cells layer 0 stride) rate level w a) kept)
-
--- only the sum of the state after counts
-worth-same : (e e' : ℕ → ℕ → ℕ) (rate m w a t : ℕ) → ((x y : ℕ) → x ≤ w → y ≤ a → e x y ≡ e' x y) → worthOver e rate m w a t ≡ worthOver e' rate m w a t
-unfolding worthOver balanceAfter
-worth-same e e' rate m w a t h =
-    ap (λ (x : ℕ). cash rate m t + x) (h (w - t) (guaranteeAfter m w a t) (sub-le w t) (le-trans (guarantee-le m w a t) (sub-le a t)))
 
 -- ---- one date
 module _ {c : Terms} {count : ℕ} {work layer list : List ℕ} (d : OneDate c count work layer list) where
