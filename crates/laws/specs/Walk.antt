@@ -1,13 +1,14 @@
 -- A walk, date by date, and what it conserves. Assumes nothing.
 use mathlib.Core.List.{List, _++_}
+use mathlib.Core.Bool.{true, false, not, _||_}
 use mathlib.Core.Path.{_≡_, ap, _∙_}
 use Prim.Native.Nat.{ℕ, zero, suc, _+_, _-_, _≤_, _<_}
-use native.Mathlib.Nat.{min-le-right}
+use native.Mathlib.Nat.{zero-add, min-le-right}
 use native.Mathlib.Omega.{arith}
-use lib.Dec.{eqb, eqb→eq}
+use lib.Dec.{T, leb, ltb, eqb, eqb→eq, nltb→le}
 use lib.ListN.{getD, length, take}
 use lib.Seq.{take-suc, length-take-le}
-use Rattle.decision.specs.Index.{sum}
+use Rattle.decision.specs.Index.{sum, first}
 use Rattle.decision.specs.Process.{met, startMet}
 use Rattle.decision.specs.Layers.{lookup}
 use Rattle.decision.specs.Optimal.{Steps, startMet-steps}
@@ -15,9 +16,9 @@ use Rattle.rules.specs.Contract.{Terms, Returns, termsOf, returnsOf}
 use Rattle.rules.specs.Date.{freeAmount}
 use Rattle.rules.specs.Product.{Product, walkState, walkAmount}
 use Rattle.rules.specs.FixedTerm.{State, freeIn, afterIn, reachBy, startOf, processOf, fixedTerm}
-use Rattle.rules.specs.Refusals.{accepted, recordChecks, listChecks}
-use Rattle.rules.specs.Operations.{productOf, pathChecks, walkChecks, walkVerdict}
-use Rattle.laws.specs.Accepted.{AllPass, all-pass, pass-right, not-not}
+use Rattle.rules.specs.Refusals.{checkEach, accepted, refused, verdict, short, recordChecks, listChecks}
+use Rattle.rules.specs.Operations.{productOf, tableSize, badDate, pathChecks, walkChecks, walkVerdict}
+use Rattle.laws.specs.Accepted.{AllPass, all-pass, pass-right, nor-left, nor-right, not-not}
 use Rattle.laws.specs.Date.{guarantee-free}
 
 module _ {S H : Type 0} (X : Product S H) (table path : List ℕ) where
@@ -34,6 +35,42 @@ module _ {S H : Type 0} (X : Product S H) (table path : List ℕ) where
   walk-next i l m =
       ap (startMet (X .process) (lookup (X .layout) table)) (take-suc path i 0 m)
       ∙ startMet-steps (X .process) (lookup (X .layout) table) i (getD path i 0) (take i path) l (rw (length-take-le i path (omega arith)) (omega arith))
+
+-- ---- the checks beyond the record and the list, one by one: the count before the numbers, the numbers before the amounts
+module _ (c : Terms) (rs : Returns) (table path cashes : List ℕ) where
+  pub slices-refused : (short (tableSize c) table || short (c .dates) cashes) ≡ true → verdict (pathChecks c rs table path cashes) ≡ refused 11 0
+  unfolding pathChecks verdict
+  slices-refused e = rw e
+
+  module _ (e : (short (tableSize c) table || short (c .dates) cashes) ≡ false) where
+    pub count-refused : eqb (length path) (c .dates) ≡ false → verdict (pathChecks c rs table path cashes) ≡ refused 13 (c .dates)
+    unfolding pathChecks verdict
+    count-refused f = simp (e, f)
+
+    module _ (f : eqb (length path) (c .dates) ≡ true) where
+      pub number-refused : ltb (first (λ j. leb (rs .count) (getD path j 0)) (c .dates)) (c .dates) ≡ true
+          → verdict (pathChecks c rs table path cashes) ≡ refused 13 (first (λ j. leb (rs .count) (getD path j 0)) (c .dates))
+      unfolding pathChecks verdict checkEach
+      number-refused g = simp (e, f, g, zero-add)
+
+      module _ (g : ltb (first (λ j. leb (rs .count) (getD path j 0)) (c .dates)) (c .dates) ≡ false) where
+        pub date-refused : ltb (first (badDate c rs table path) (c .dates - 1)) (c .dates - 1) ≡ true
+            → verdict (pathChecks c rs table path cashes) ≡ refused 14 (1 + first (badDate c rs table path) (c .dates - 1))
+        unfolding pathChecks verdict checkEach
+        date-refused h = simp (e, f, g, h)
+
+        pub path-accepted : ltb (first (badDate c rs table path) (c .dates - 1)) (c .dates - 1) ≡ false
+            → verdict (pathChecks c rs table path cashes) ≡ accepted
+        unfolding pathChecks verdict checkEach
+        path-accepted h = simp (e, f, g, h)
+
+  pub path-room : (short (tableSize c) table || short (c .dates) cashes) ≡ false → (tableSize c ≤ length table) × (c .dates ≤ length cashes)
+  unfolding short
+  path-room f =
+      let x = ltb (length table) (tableSize c) in
+      let y = ltb (length cashes) (c .dates) in
+      let t : T (not (x || y)) = rw f tt in
+      (nltb→le (length table) (tableSize c) (nor-left x y t), nltb→le (length cashes) (c .dates) (nor-right x y t))
 
 -- "While no amount on a walk passes m, amounts withdrawn so far plus the guarantee equal the premium": on date n + 1, after
 -- the amounts of dates 1 to n

@@ -1,12 +1,12 @@
 -- What is met on a walk, date by date. Assumes nothing.
-use mathlib.Core.Bool.{Bool, true, false, not, _||_}
+use mathlib.Core.Bool.{not}
 use mathlib.Core.List.{List, [], _∷_, _++_}
 use mathlib.Core.Path.{_≡_, ap, ap₂, sym, _∙_, subst}
 use Prim.Native.Nat.{ℕ, suc, _+_, _-_, _*_, _≤_, _<_, max}
-use native.Mathlib.Nat.{le-trans, sub-le, zero-add}
+use native.Mathlib.Nat.{le-trans, sub-le}
 use native.Mathlib.Numerals.{add-one}
 use native.Mathlib.Omega.{arith}
-use lib.Dec.{T, leb, ltb, eqb, nltb→le}
+use lib.Dec.{leb}
 use lib.Seq.{drop-cons, append-snoc, set-append-seam}
 use borrow.Author.Tests.{leb-false}
 use lib.ListN.{length, getD, set, drop}
@@ -20,9 +20,9 @@ use Rattle.rules.specs.Contract.{Terms, termsOf, Returns, returnsOf}
 use Rattle.rules.specs.Date.{dynamic, freeAmount, admits, cash, balanceAfter, guaranteeAfter, nextAccount}
 use Rattle.rules.specs.Product.{walkState, walkAmount, walkCash}
 use Rattle.rules.specs.FixedTerm.{State, startOf, reachBy, afterIn, cashIn, freeIn, admissibleIn, processOf, layerSize, layoutOf, fixedTerm}
-use Rattle.rules.specs.Refusals.{Verdict, accepted, refused, verdict, checkEach, numberOf, placeOf, onSuccess, short, recordChecks, listChecks}
+use Rattle.rules.specs.Refusals.{Verdict, accepted, refused, verdict, numberOf, placeOf, onSuccess, recordChecks, listChecks}
 use Rattle.rules.specs.Operations.{productOf, tableSize, badDate, pathChecks, walkChecks, walkVerdict, walkCashes}
-use Rattle.laws.specs.Accepted.{Valid, nor-left, nor-right, not-not, andThen, parts-accepted, parts-refused}
+use Rattle.laws.specs.Accepted.{Valid, not-not, andThen, parts-accepted, parts-refused}
 use Rattle.contract.specs.declared.Outcome.{Outcome}
 use Rattle.contract.specs.Reading.{outcomeAt, outcomeOf}
 use Rattle.expect.specs.Expected.{Listing}
@@ -153,45 +153,6 @@ module _ (bytes list table path cashes : List ℕ) (r : Outcome) where
   whole-refused n p e f =
       let all = parts-refused (recordChecks bytes) (listChecks list) (pathChecks (termsOf bytes) (returnsOf list) table path cashes) e in
       record { outcome-is = rw all f; cash-is = rw all }
-
--- ---- the verdict, check by check
-module _ (c : Terms) (rs : Returns) (table path cashes : List ℕ) where
-  missing : ℕ → Bool
-  missing j = leb (rs .count) (getD path j 0)
-
-  pub slices-refused : (short (tableSize c) table || short (c .dates) cashes) ≡ true → verdict (pathChecks c rs table path cashes) ≡ refused 11 0
-  unfolding pathChecks verdict
-  slices-refused e = rw e
-
-  module _ (e : (short (tableSize c) table || short (c .dates) cashes) ≡ false) where
-    pub count-refused : eqb (length path) (c .dates) ≡ false → verdict (pathChecks c rs table path cashes) ≡ refused 13 (c .dates)
-    unfolding pathChecks verdict
-    count-refused f = simp (e, f)
-
-    module _ (f : eqb (length path) (c .dates) ≡ true) where
-      pub number-refused : ltb (first (λ j. leb (rs .count) (getD path j 0)) (c .dates)) (c .dates) ≡ true
-          → verdict (pathChecks c rs table path cashes) ≡ refused 13 (first (λ j. leb (rs .count) (getD path j 0)) (c .dates))
-      unfolding pathChecks verdict checkEach
-      number-refused g = simp (e, f, g, zero-add)
-
-      module _ (g : ltb (first (λ j. leb (rs .count) (getD path j 0)) (c .dates)) (c .dates) ≡ false) where
-        pub date-refused : ltb (first (badDate c rs table path) (c .dates - 1)) (c .dates - 1) ≡ true
-            → verdict (pathChecks c rs table path cashes) ≡ refused 14 (1 + first (badDate c rs table path) (c .dates - 1))
-        unfolding pathChecks verdict checkEach
-        date-refused h = simp (e, f, g, h)
-
-        pub path-accepted : ltb (first (badDate c rs table path) (c .dates - 1)) (c .dates - 1) ≡ false
-            → verdict (pathChecks c rs table path cashes) ≡ accepted
-        unfolding pathChecks verdict checkEach
-        path-accepted h = simp (e, f, g, h)
-
-  pub path-room : (short (tableSize c) table || short (c .dates) cashes) ≡ false → (tableSize c ≤ length table) × (c .dates ≤ length cashes)
-  unfolding short
-  path-room f =
-      let x = ltb (length table) (tableSize c) in
-      let y = ltb (length cashes) (c .dates) in
-      let t : T (not (x || y)) = rw f tt in
-      (nltb→le (length table) (tableSize c) (nor-left x y t), nltb→le (length cashes) (c .dates) (nor-right x y t))
 
 -- every number on the path is that of a return
 pub walking : {c : Terms} {count : ℕ} {list table : List ℕ} (path : List ℕ) → Valid c → Listing list count → tableSize c ≤ length table → length path ≡ c .dates

@@ -11,7 +11,8 @@ use Rattle.contract.specs.Reading.{termsIn, outcomeAt}
 use Rattle.decision.specs.Index.{first}
 use Rattle.rules.specs.Contract.{returnsOf}
 use Rattle.rules.specs.Operations.{badDate}
-use Rattle.walk.proofs.Laws.{walked-refused, walked-accepted, slices-refused, count-refused, number-refused, date-refused, path-accepted, path-room, walking}
+use Rattle.laws.specs.Walk.{slices-refused, count-refused, number-refused, date-refused, path-accepted, path-room}
+use Rattle.walk.proofs.Laws.{walked-refused, walked-accepted, walking}
 use Rattle.walk.proofs.walked.Statement.{statement}
 use Rattle.walk.proofs.walked.Tie as tie
 
