@@ -12,14 +12,15 @@ use Rattle.further.specs.Further.{furtherValue, furtherAmount, Room, Bel
 
 module _ {work table : List ℕ} {base stride b k : ℕ} (r : Room work table base stride (b + 1)) (x : Below work table base stride b k) where
   -- the places of a row, of the row below it and of the second layer
-  pub record Places (a : ℕ) : Type 0 where
-    pub stay : base + (b * stride + a) < length work
-    pub write : b * stride + a < length work
-    pub entry : b * stride + a < length table
-    pub below : b * stride - stride + (a - 1) < b * stride
-    pub start : stride ≤ b * stride
+  record Places (long entries a : ℕ) : Type 0 where
+    stay : base + (b * stride + a) < long
+    write : b * stride + a < long
+    entry : b * stride + a < entries
+    below : b * stride - stride + (a - 1) < b * stride
+    start : stride ≤ b * stride
+    apart : b * stride + stride ≤ base
 
-  pub places : (a : ℕ) → a < stride → Places a
+  places : (a : ℕ) → a < stride → Places (length work) (length table) a
   places a l =
       let s = rows-step stride b in
       let p = rows-before stride b (x .some) in
@@ -29,7 +30,17 @@ module _ {work table : List ℕ} {base stride b k : ℕ} (r : Room work table ba
         entry = omega (arith, r .entries);
         below = omega arith;
         start = omega arith;
+        apart = omega (arith, r .apart);
       }
+
+  -- .. while the row is stored
+  pub row-places : {work' table' : List ℕ} {a : ℕ} (f g : ℕ → ℕ) (n : ℕ) → work' ≡ stored work (b * stride) f n → table' ≡ stored table (b * stride) g n → a < stride
+      → (base + (b * stride + a) < length work') × (b * stride + a < length work') × (b * stride + a < length table') × (b * stride - stride + (a - 1) < b * stride) × (stride ≤ b * stride) × (b * stride + stride ≤ base)
+  row-places {a = a} f g n e d l =
+      let long = ap length e ∙ length-stored work (b * stride) f n in
+      let entries = ap length d ∙ length-stored table (b * stride) g n in
+      let p = places a l in
+      (omega (arith, p .stay), omega (arith, p .write), omega (arith, p .entry), p .below, p .start, p .apart)
 
   pub read-stay : (f : ℕ → ℕ) (n a : ℕ) → n ≤ stride → getD (stored work (b * stride) f n) (base + (b * stride + a)) 0 ≡ cells work base stride b a
   read-stay f n a l = let s = rows-step stride b in stored-out work (b * stride) f n (base + (b * stride + a)) (inr (omega (arith, r .apart)))

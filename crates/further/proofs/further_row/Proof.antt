@@ -10,7 +10,7 @@ use native.Mathlib.Omega.{arith}
 use Rattle.further.specs.Further.{furtherValue, furtherAmount, value-step, amount-step}
 use Rattle.slices.specs.Rows.{cells, rows-step, rows-before}
 use Rattle.slices.specs.Stored.{stored, stored-next, length-stored}
-use Rattle.further.proofs.Laws.{places, read-stay, read-below, read-amount, below-small, below-few}
+use Rattle.further.proofs.Laws.{row-places, read-stay, read-below, read-amount, below-small, below-few}
 use Rattle.further.proofs.further_row.Statement.{statement}
 use Rattle.further.proofs.further_row.Tie as tie
 
@@ -35,90 +35,55 @@ less-requires c κs = search needs
 
 add-j : tie.Need-add-j Inv-loop μ-loop
 add-j c =
-    let args = c .before .before .before .before .before .args in
     let pre = c .before .before .before .before .before .pre in
     let loop = c .before .before .loop in
-    let lw : length (loop .work) ≡ length (args .work .now) = ap length (loop .inv .1) ∙ length-stored _ _ _ _ in
-    let lt : length (loop .table) ≡ length (args .table .now) = ap length (loop .inv .2) ∙ length-stored _ _ _ _ in
-    let p = places (pre .0) (pre .1) (loop .a) (c .before .loop-test .taken) in
-    let apart = pre .0 .apart in
-    let step = rows-step (args .stride) (args .b) in
+    let p = row-places (pre .0) (pre .1) _ _ _ (loop .inv .1) (loop .inv .2) (c .before .loop-test .taken) in
     omega (arith, c .less .ensures)
 
 add-better : tie.Need-add-better Inv-loop μ-loop
 add-better c =
-    let args = c .before .before .before .before .before .args in
     let pre = c .before .before .before .before .before .pre in
     let loop = c .before .before .loop in
-    let lw : length (loop .work) ≡ length (args .work .now) = ap length (loop .inv .1) ∙ length-stored _ _ _ _ in
-    let lt : length (loop .table) ≡ length (args .table .now) = ap length (loop .inv .2) ∙ length-stored _ _ _ _ in
-    let p = places (pre .0) (pre .1) (loop .a) (c .before .loop-test .taken) in
-    let apart = pre .0 .apart in
-    let step = rows-step (args .stride) (args .b) in
+    let p = row-places (pre .0) (pre .1) _ _ _ (loop .inv .1) (loop .inv .2) (c .before .loop-test .taken) in
     omega (arith, c .less .ensures)
 
 add-better-2 : tie.Need-add-better-2 Inv-loop μ-loop
 add-better-2 c =
-    let args = c .before .before .before .before .before .args in
     let pre = c .before .before .before .before .before .pre in
     let loop = c .before .before .loop in
-    let lw : length (loop .work) ≡ length (args .work .now) = ap length (loop .inv .1) ∙ length-stored _ _ _ _ in
-    let lt : length (loop .table) ≡ length (args .table .now) = ap length (loop .inv .2) ∙ length-stored _ _ _ _ in
-    let p = places (pre .0) (pre .1) (loop .a) (c .before .loop-test .taken) in
-    let apart = pre .0 .apart in
-    let step = rows-step (args .stride) (args .b) in
+    let p = row-places (pre .0) (pre .1) _ _ _ (loop .inv .1) (loop .inv .2) (c .before .loop-test .taken) in
     omega (arith, c .less .ensures)
 
 mul-better : tie.Need-mul-better Inv-loop μ-loop
 mul-better c =
-    let args = c .before .before .before .before .before .args in
     let pre = c .before .before .before .before .before .pre in
     let loop = c .before .before .loop in
-    let lw : length (loop .work) ≡ length (args .work .now) = ap length (loop .inv .1) ∙ length-stored _ _ _ _ in
-    let lt : length (loop .table) ≡ length (args .table .now) = ap length (loop .inv .2) ∙ length-stored _ _ _ _ in
-    let p = places (pre .0) (pre .1) (loop .a) (c .before .loop-test .taken) in
-    let apart = pre .0 .apart in
-    let step = rows-step (args .stride) (args .b) in
+    let p = row-places (pre .0) (pre .1) _ _ _ (loop .inv .1) (loop .inv .2) (c .before .loop-test .taken) in
     omega (arith, c .less .ensures)
 
 slice-read-better : tie.Need-slice-read-better Inv-loop μ-loop
 slice-read-better c =
-    let args = c .before .before .before .before .before .before .args in
     let pre = c .before .before .before .before .before .before .pre in
     let loop = c .before .before .before .loop in
     let loop-test = c .before .before .loop-test in
-    let lw : length (loop .work) ≡ length (args .work .now) = ap length (loop .inv .1) ∙ length-stored _ _ _ _ in
-    let lt : length (loop .table) ≡ length (args .table .now) = ap length (loop .inv .2) ∙ length-stored _ _ _ _ in
-    let p = places (pre .0) (pre .1) (loop .a) (loop-test .taken) in
-    let apart = pre .0 .apart in
-    let step = rows-step (args .stride) (args .b) in
+    let p = row-places (pre .0) (pre .1) _ _ _ (loop .inv .1) (loop .inv .2) (loop-test .taken) in
     omega (arith, c .before .less .ensures)
 
 mul-better-2 : tie.Need-mul-better-2 Inv-loop μ-loop
 mul-better-2 c =
-    let args = c .before .before .before .before .before .before .args in
     let pre = c .before .before .before .before .before .before .pre in
     let loop = c .before .before .before .loop in
     let loop-test = c .before .before .loop-test in
-    let lw : length (loop .work) ≡ length (args .work .now) = ap length (loop .inv .1) ∙ length-stored _ _ _ _ in
-    let lt : length (loop .table) ≡ length (args .table .now) = ap length (loop .inv .2) ∙ length-stored _ _ _ _ in
-    let p = places (pre .0) (pre .1) (loop .a) (loop-test .taken) in
-    let apart = pre .0 .apart in
-    let step = rows-step (args .stride) (args .b) in
+    let p = row-places (pre .0) (pre .1) _ _ _ (loop .inv .1) (loop .inv .2) (loop-test .taken) in
     omega (arith, c .before .less .ensures)
 
 slice-read-better-2 : tie.Need-slice-read-better-2 Inv-loop μ-loop
 slice-read-better-2 c =
-    let args = c .before .before .before .before .before .before .before .args in
     let pre = c .before .before .before .before .before .before .before .pre in
     let loop = c .before .before .before .before .loop in
     let loop-test = c .before .before .before .loop-test in
     let less = c .before .before .less in
-    let lw : length (loop .work) ≡ length (args .work .now) = ap length (loop .inv .1) ∙ length-stored _ _ _ _ in
-    let lt : length (loop .table) ≡ length (args .table .now) = ap length (loop .inv .2) ∙ length-stored _ _ _ _ in
-    let p = places (pre .0) (pre .1) (loop .a) (loop-test .taken) in
-    let apart = pre .0 .apart in
-    let step = rows-step (args .stride) (args .b) in
+    let p = row-places (pre .0) (pre .1) _ _ _ (loop .inv .1) (loop .inv .2) (loop-test .taken) in
     omega (arith, less .ensures)
 
 add-better-3 : tie.Need-add-better-3 Inv-loop μ-loop
@@ -136,30 +101,20 @@ add-better-3 c =
 
 mul-better-3 : tie.Need-mul-better-3 Inv-loop μ-loop
 mul-better-3 c =
-    let args = c .before .before .before .before .before .before .before .args in
     let pre = c .before .before .before .before .before .before .before .pre in
     let loop = c .before .before .before .before .loop in
     let loop-test = c .before .before .before .loop-test in
     let less = c .before .before .less in
-    let lw : length (loop .work) ≡ length (args .work .now) = ap length (loop .inv .1) ∙ length-stored _ _ _ _ in
-    let lt : length (loop .table) ≡ length (args .table .now) = ap length (loop .inv .2) ∙ length-stored _ _ _ _ in
-    let p = places (pre .0) (pre .1) (loop .a) (loop-test .taken) in
-    let apart = pre .0 .apart in
-    let step = rows-step (args .stride) (args .b) in
+    let p = row-places (pre .0) (pre .1) _ _ _ (loop .inv .1) (loop .inv .2) (loop-test .taken) in
     omega (arith, less .ensures)
 
 slice-read-better-3 : tie.Need-slice-read-better-3 Inv-loop μ-loop
 slice-read-better-3 c =
-    let args = c .before .before .before .before .before .before .before .before .args in
     let pre = c .before .before .before .before .before .before .before .before .pre in
     let loop = c .before .before .before .before .before .loop in
     let loop-test = c .before .before .before .before .loop-test in
     let less = c .before .before .before .less in
-    let lw : length (loop .work) ≡ length (args .work .now) = ap length (loop .inv .1) ∙ length-stored _ _ _ _ in
-    let lt : length (loop .table) ≡ length (args .table .now) = ap length (loop .inv .2) ∙ length-stored _ _ _ _ in
-    let p = places (pre .0) (pre .1) (loop .a) (loop-test .taken) in
-    let apart = pre .0 .apart in
-    let step = rows-step (args .stride) (args .b) in
+    let p = row-places (pre .0) (pre .1) _ _ _ (loop .inv .1) (loop .inv .2) (loop-test .taken) in
     omega (arith, less .ensures)
 
 better-requires : tie.Need-better-requires Inv-loop μ-loop
@@ -179,86 +134,56 @@ better-requires c κs =
 
 add-work : tie.Need-add-work Inv-loop μ-loop
 add-work c =
-    let args = c .before .before .before .before .before .before .before .before .before .args in
     let pre = c .before .before .before .before .before .before .before .before .before .pre in
     let loop = c .before .before .before .before .before .before .loop in
     let loop-test = c .before .before .before .before .before .loop-test in
     let less = c .before .before .before .before .less in
-    let lw : length (loop .work) ≡ length (args .work .now) = ap length (loop .inv .1) ∙ length-stored _ _ _ _ in
-    let lt : length (loop .table) ≡ length (args .table .now) = ap length (loop .inv .2) ∙ length-stored _ _ _ _ in
-    let p = places (pre .0) (pre .1) (loop .a) (loop-test .taken) in
-    let apart = pre .0 .apart in
-    let step = rows-step (args .stride) (args .b) in
+    let p = row-places (pre .0) (pre .1) _ _ _ (loop .inv .1) (loop .inv .2) (loop-test .taken) in
     omega (arith, less .ensures)
 
 mul-work : tie.Need-mul-work Inv-loop μ-loop
 mul-work c =
-    let args = c .before .before .before .before .before .before .before .before .before .args in
     let pre = c .before .before .before .before .before .before .before .before .before .pre in
     let loop = c .before .before .before .before .before .before .loop in
     let loop-test = c .before .before .before .before .before .loop-test in
     let less = c .before .before .before .before .less in
-    let lw : length (loop .work) ≡ length (args .work .now) = ap length (loop .inv .1) ∙ length-stored _ _ _ _ in
-    let lt : length (loop .table) ≡ length (args .table .now) = ap length (loop .inv .2) ∙ length-stored _ _ _ _ in
-    let p = places (pre .0) (pre .1) (loop .a) (loop-test .taken) in
-    let apart = pre .0 .apart in
-    let step = rows-step (args .stride) (args .b) in
+    let p = row-places (pre .0) (pre .1) _ _ _ (loop .inv .1) (loop .inv .2) (loop-test .taken) in
     omega (arith, less .ensures)
 
 slice-write-work : tie.Need-slice-write-work Inv-loop μ-loop
 slice-write-work c =
-    let args = c .before .before .before .before .before .before .before .before .before .args in
     let pre = c .before .before .before .before .before .before .before .before .before .pre in
     let loop = c .before .before .before .before .before .before .loop in
     let loop-test = c .before .before .before .before .before .loop-test in
     let less = c .before .before .before .before .less in
-    let lw : length (loop .work) ≡ length (args .work .now) = ap length (loop .inv .1) ∙ length-stored _ _ _ _ in
-    let lt : length (loop .table) ≡ length (args .table .now) = ap length (loop .inv .2) ∙ length-stored _ _ _ _ in
-    let p = places (pre .0) (pre .1) (loop .a) (loop-test .taken) in
-    let apart = pre .0 .apart in
-    let step = rows-step (args .stride) (args .b) in
+    let p = row-places (pre .0) (pre .1) _ _ _ (loop .inv .1) (loop .inv .2) (loop-test .taken) in
     omega (arith, less .ensures)
 
 add-table : tie.Need-add-table Inv-loop μ-loop
 add-table c =
-    let args = c .before .before .before .before .before .before .before .before .before .args in
     let pre = c .before .before .before .before .before .before .before .before .before .pre in
     let loop = c .before .before .before .before .before .before .loop in
     let loop-test = c .before .before .before .before .before .loop-test in
     let less = c .before .before .before .before .less in
-    let lw : length (loop .work) ≡ length (args .work .now) = ap length (loop .inv .1) ∙ length-stored _ _ _ _ in
-    let lt : length (loop .table) ≡ length (args .table .now) = ap length (loop .inv .2) ∙ length-stored _ _ _ _ in
-    let p = places (pre .0) (pre .1) (loop .a) (loop-test .taken) in
-    let apart = pre .0 .apart in
-    let step = rows-step (args .stride) (args .b) in
+    let p = row-places (pre .0) (pre .1) _ _ _ (loop .inv .1) (loop .inv .2) (loop-test .taken) in
     omega (arith, less .ensures)
 
 mul-table : tie.Need-mul-table Inv-loop μ-loop
 mul-table c =
-    let args = c .before .before .before .before .before .before .before .before .before .args in
     let pre = c .before .before .before .before .before .before .before .before .before .pre in
     let loop = c .before .before .before .before .before .before .loop in
     let loop-test = c .before .before .before .before .before .loop-test in
     let less = c .before .before .before .before .less in
-    let lw : length (loop .work) ≡ length (args .work .now) = ap length (loop .inv .1) ∙ length-stored _ _ _ _ in
-    let lt : length (loop .table) ≡ length (args .table .now) = ap length (loop .inv .2) ∙ length-stored _ _ _ _ in
-    let p = places (pre .0) (pre .1) (loop .a) (loop-test .taken) in
-    let apart = pre .0 .apart in
-    let step = rows-step (args .stride) (args .b) in
+    let p = row-places (pre .0) (pre .1) _ _ _ (loop .inv .1) (loop .inv .2) (loop-test .taken) in
     omega (arith, less .ensures)
 
 slice-write-table : tie.Need-slice-write-table Inv-loop μ-loop
 slice-write-table c =
-    let args = c .before .before .before .before .before .before .before .before .before .args in
     let pre = c .before .before .before .before .before .before .before .before .before .pre in
     let loop = c .before .before .before .before .before .before .loop in
     let loop-test = c .before .before .before .before .before .loop-test in
     let less = c .before .before .before .before .less in
-    let lw : length (loop .work) ≡ length (args .work .now) = ap length (loop .inv .1) ∙ length-stored _ _ _ _ in
-    let lt : length (loop .table) ≡ length (args .table .now) = ap length (loop .inv .2) ∙ length-stored _ _ _ _ in
-    let p = places (pre .0) (pre .1) (loop .a) (loop-test .taken) in
-    let apart = pre .0 .apart in
-    let step = rows-step (args .stride) (args .b) in
+    let p = row-places (pre .0) (pre .1) _ _ _ (loop .inv .1) (loop .inv .2) (loop-test .taken) in
     omega (arith, less .ensures)
 
 add-a : tie.Need-add-a Inv-loop μ-loop
