@@ -2,18 +2,17 @@
 use mathlib.Core.Bool.{cond}
 use mathlib.Core.List.{List}
 use mathlib.Core.Logic.{_⊎_, inl, inr}
-use mathlib.Core.Path.{_≡_, refl, ap, ap₂, sym, _∙_, subst}
+use mathlib.Core.Path.{_≡_, refl, ap, sym, _∙_}
 use Prim.Native.Nat.{ℕ, _+_, _-_, _*_, _≤_, _<_, min}
 use native.Mathlib.Nat.{sub-le}
-use native.Mathlib.Decide.{decLe}
 use native.Mathlib.Omega.{arith}
 use lib.Dec.{ltb}
 use lib.ListN.{length, getD}
 use borrow.Author.Tests.{lt-ltb, le-ltb}
-use Rattle.decision.specs.Choice.{Leading, leading-join, leading-as}
+use Rattle.decision.specs.Choice.{Leading, leading-join}
 use Rattle.slices.specs.Rows.{cells}
 use Rattle.choose.specs.State.{worthAt, Block, Leads, Offered, triedFree, triedUpto}
-use Rattle.choose.proofs.Blocks.{leading-at, leads-as, leads-offered}
+use Rattle.choose.proofs.Blocks.{leading-at, leads-offered}
 use Rattle.choose.proofs.Entries.{block-room, worth-small, free-worth}
 
 -- a guarantee that both amounts leave room for
@@ -28,10 +27,6 @@ pair-out t a h = omega arith
 
 pub none-behind : (s n j : ℕ) → s + (n - s) ≤ j → j < n → ⊥
 none-behind s n j h l = omega arith
-
--- the row in which none of the guarantee is left
-pub few-at : (base stride w a x : ℕ) → x ≡ w - a → base + x * stride ≡ base + ((w - a) * stride + (a - a))
-few-at base stride w a x e = let z : a - a ≡ 0 = omega arith in rw (e, z) (omega arith)
 
 pub pair-cash : (t v : ℕ) → 10000 * (t + 2) + v < 4294967296 → 10000 * (t + 1) + 10000 + v < 4294967296
 pair-cash t v h = omega arith
@@ -58,9 +53,6 @@ module _ {work : List ℕ} {base stride w from n level rate : ℕ} (b : Block wo
 
   pub rest-fits : (s c : ℕ) → s ≡ min n c → s + (n - s) ≤ n
   rest-fits s c e = omega arith
-
-  pub rest-is : (s c : ℕ) → s ≡ min n c → s + (n - s) ≡ n
-  rest-is s c e = omega arith
 
   module _ {values amounts values' amounts' : List ℕ} (t : ℕ) where
     pub free-one : (low end at : ℕ) → at ≡ base + ((w - (t + 1)) * stride + (from + low - (t + 1)))

@@ -1,6 +1,6 @@
 -- The best of withdrawing further, for the states whose account is not below the guarantee. Assumes nothing.
 use mathlib.Core.List.{List}
-use mathlib.Core.Path.{_≡_, refl, ap, sym, _∙_, subst₂}
+use mathlib.Core.Path.{_≡_, ap, sym, _∙_, subst₂}
 use Prim.Native.Nat.{ℕ, _+_, _-_, _*_, _≤_, _<_, min, max}
 use native.Mathlib.Nat.{le-trans, le-of-eq, le-of-lt, max-eq-left, min-eq-right, min-eq-left}
 use native.Mathlib.Omega.{arith}

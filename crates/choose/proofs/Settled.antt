@@ -1,17 +1,14 @@
 -- The static and the mixed behaviour along a row, and what each behaviour records. Assumes nothing.
-use mathlib.Core.Bool.{cond}
 use mathlib.Core.List.{List}
 use mathlib.Core.Logic.{_⊎_, inl, inr}
-use mathlib.Core.Path.{_≡_, refl, ap, ap₂, sym, _∙_, subst, subst₂}
+use mathlib.Core.Path.{_≡_, refl, ap, sym, _∙_, subst, subst₂}
 use Prim.Native.Nat.{ℕ, _+_, _-_, _*_, _≤_, _<_, min, max}
-use native.Mathlib.Nat.{le-refl, le-trans, le-of-eq, le-of-lt, sub-le}
+use native.Mathlib.Nat.{le-refl, le-trans, le-of-eq}
 use native.Mathlib.Decide.{decLe}
 use native.Mathlib.Omega.{arith}
-use lib.Dec.{ltb}
 use lib.ListN.{length, getD}
 use borrow.Author.Tests.{lt-ltb, le-ltb}
-use Rattle.decision.specs.Choice.{Best}
-use Rattle.rules.specs.Date.{Behaviour, static, mixed, dynamic, freeAmount, largestAmount, admits, cash}
+use Rattle.rules.specs.Date.{Behaviour, static, mixed, dynamic, freeAmount, cash}
 use Rattle.slices.specs.Stored.{stored, length-stored, stored-in, stored-out, stored-join, stored-eq, is-stored}
 use Rattle.slices.specs.Rows.{cells, cells-kept, rows-le, rows-step}
 use Rattle.choose.specs.State.{worthOver, worthAt, bestValue, bestAmount, staticValue, Leads, Offered, Holds, Settled, Chosen, Plain, mixedBelow}

@@ -1,13 +1,12 @@
 -- The amounts above m where the account is below the guarantee, for a run of states. Assumes nothing.
 use mathlib.Core.List.{List}
 use mathlib.Core.Logic.{_⊎_, inl, inr}
-use mathlib.Core.Path.{_≡_, refl, ap, ap₂, sym, _∙_, subst}
+use mathlib.Core.Path.{_≡_, ap, ap₂, sym, _∙_, subst}
 use Prim.Native.Nat.{ℕ, _+_, _-_, _*_, _/_, _≤_, _<_, min}
 use native.Mathlib.Nat.{le-trans, le-of-eq, sub-le, mul-le-mul-right}
 use native.Mathlib.Decide.{decLe}
 use native.Mathlib.Omega.{arith}
 use lib.ListN.{length, getD}
-use Rattle.decision.specs.Choice.{Leading}
 use Rattle.rules.specs.Date.{freeAmount, cash}
 use Rattle.slices.specs.Rows.{cells}
 use Rattle.choose.specs.State.{worthAt, Block, Leads, Offered, Rising, Bounded, triedBelow, triedRun}

@@ -6,15 +6,15 @@ use mathlib.Core.Path.{_≡_, ap, sym, _∙_, subst}
 use Prim.Native.Nat.{ℕ, _+_, _-_, _*_, _≤_, _<_, min, max}
 use native.Mathlib.Nat.{le-trans, max-le, min-le-right}
 use native.Mathlib.Omega.{arith}
-use lib.ListN.{length, getD}
+use lib.ListN.{length}
 use Rattle.decision.specs.Choice.{largest, smallestBest, best-is}
 use Rattle.slices.specs.Stored.{stored, length-stored, stored-out}
 use Rattle.slices.specs.Rows.{cells, cells-kept, within-rows, rows-le, rows-step}
 use Rattle.slices.specs.Decided.{Decided, cells-behind}
 use Rattle.rules.specs.Date.{Behaviour, freeAmount, largestAmount, admits}
 use Rattle.laws.specs.Date.{admits-free, admits-within}
-use Rattle.further.specs.Further.{Room, furtherValue, furtherAmount}
-use Rattle.choose.specs.State.{worthOver, bestValue, bestAmount, Block, Furthered, Plain, Rising}
+use Rattle.further.specs.Further.{furtherValue, furtherAmount}
+use Rattle.choose.specs.State.{worthOver, bestValue, bestAmount, Block, Plain, Rising}
 use Rattle.states.specs.Row.{Deciding, Row}
 
 -- ---- one row

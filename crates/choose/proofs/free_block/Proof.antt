@@ -1,13 +1,12 @@
 -- `choose::free_block` meets its contract. Assumes nothing.
-use Prim.Native.Nat.{ℕ, _+_, _-_, _*_, _≤_, min}
+use Prim.Native.Nat.{ℕ, _+_, _-_, _≤_, min}
 use borrow.Author.Tests.{lt-ltb}
-use lib.ListN.{getD}
-use mathlib.Core.Path.{_≡_, refl, ap, sym, _∙_, subst}
+use mathlib.Core.Path.{_≡_, ap}
 use native.Mathlib.Nat.{le-refl}
 use native.Mathlib.Omega.{arith}
 use Rattle.choose.proofs.Blocks.{leads-start, leads-as}
 use Rattle.choose.proofs.Entries.{block-room}
-use Rattle.choose.proofs.Free.{free-room, free-small, start-at, start-worth}
+use Rattle.choose.proofs.Free.{free-small, start-at, start-worth}
 use Rattle.choose.specs.State.{Leads, worthAt, triedFree}
 use Rattle.rules.specs.Date.{freeAmount}
 use Rattle.slices.specs.Rows.{cells}

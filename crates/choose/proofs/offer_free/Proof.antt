@@ -1,7 +1,7 @@
 -- `choose::offer_free` meets its contract. Assumes nothing.
 use Prim.Native.Nat.{ℕ, _+_, _-_, _*_, min}
 use borrow.Author.Needs.{needs}
-use mathlib.Core.Path.{_≡_, ap, ap₂, _∙_}
+use mathlib.Core.Path.{ap, ap₂, _∙_}
 use native.Mathlib.Omega.{arith}
 use Rattle.choose.proofs.Entries.{block-room}
 use Rattle.choose.proofs.Free.{free-room, free-small, free-one, reached}

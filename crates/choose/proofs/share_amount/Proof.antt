@@ -1,9 +1,9 @@
 -- `choose::share_amount` meets its contract. Assumes nothing.
-use Prim.Native.Nat.{ℕ, _+_, _-_, _*_, _/_, _≤_, _<_, min}
+use Prim.Native.Nat.{ℕ, _+_, _-_, _*_, _/_}
 use borrow.Author.Needs.{needs}
 use lib.ListN.{getD}
-use mathlib.Core.Path.{_≡_, ap, sym, _∙_, subst}
-use native.Mathlib.Nat.{le-trans, le-of-eq, min-le-left, sub-le}
+use mathlib.Core.Path.{_≡_, ap, sym}
+use native.Mathlib.Nat.{sub-le}
 use native.Mathlib.Omega.{arith}
 use Rattle.choose.proofs.Blocks.{leads-as}
 use Rattle.choose.proofs.Entries.{block-room}

@@ -1,14 +1,13 @@
 -- `choose::share_block` meets its contract. Assumes nothing.
-use Prim.Native.Nat.{ℕ, _+_, _-_, _≤_, min, max}
+use Prim.Native.Nat.{ℕ, _+_, _-_, _≤_, min}
 use borrow.Author.Needs.{needs}
-use mathlib.Core.Path.{_≡_, refl, ap, sym, _∙_, subst}
+use mathlib.Core.Path.{ap, sym, _∙_}
 use native.Mathlib.Nat.{le-trans, le-of-eq, le-of-lt, min-le-left}
 use native.Mathlib.Omega.{arith}
 use Rattle.choose.proofs.Blocks.{leads-as}
 use Rattle.choose.proofs.Share.{run-is, above-from, none-above}
 use Rattle.choose.proofs.Tried.{below-all, below-same}
 use Rattle.choose.specs.State.{Leads, worthAt, triedBelow}
-use Rattle.rules.specs.Date.{freeAmount}
 use Rattle.slices.specs.Rows.{cells}
 use Rattle.choose.proofs.share_block.Statement.{statement}
 use Rattle.choose.proofs.share_block.Tie as tie

@@ -1,8 +1,8 @@
 -- `choose::static_row` meets its contract. Assumes nothing.
-use Prim.Native.Nat.{ℕ, _+_, _-_, _*_, _≤_}
+use Prim.Native.Nat.{ℕ, _+_, _-_, _*_}
 use borrow.Author.Needs.{needs}
 use lib.ListN.{length}
-use mathlib.Core.Path.{_≡_, ap, sym, _∙_}
+use mathlib.Core.Path.{_≡_, ap, _∙_}
 use native.Mathlib.Nat.{sub-le}
 use native.Mathlib.Omega.{arith}
 use Rattle.choose.proofs.Settled.{row-room, row-long, table-long, sums-room, sum-small, static-read, static-work, static-table}
