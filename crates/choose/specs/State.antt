@@ -45,18 +45,25 @@ pub record State (work : List ℕ) (base stride w a m : ℕ) : Type 0 where
   pub rows : base + (w + 1) * stride ≤ length work
 
 -- a block: n states of account w, from guarantee `from` on, whose sums leave room for cash
-pub record Block (work : List ℕ) (base stride w from n level rate : ℕ) : Type 0 where
+pub record Span (work : List ℕ) (base stride w from n : ℕ) : Type 0 where
   pub account : w ≤ topMost
-  pub some : 0 < n
   pub short : n ≤ 64
   pub columns : from + n ≤ stride
   pub width : stride ≤ 4001
-  pub level-is : level ≤ topMost
-  pub rate-is : rate ≤ rateMost
   pub rows : base + (w + 1) * stride ≤ length work
   pub small : (x y : ℕ) → x ≤ w → y < stride → cells work base stride x y ≤ 4000000000
 
--- what amount t is worth to state j of a block
+-- .. with the level and the penalty
+pub record Block (work : List ℕ) (base stride w from n level rate : ℕ) : Type 0 where
+  pub span : Span work base stride w from n
+  pub level-is : level ≤ topMost
+  pub rate-is : rate ≤ rateMost
+
+-- what amount t up to m is worth to state j of a block
+abbrev pub freeAt : (ℕ → ℕ → ℕ) → ℕ → ℕ → ℕ → ℕ → ℕ
+freeAt e w from j t = 10000 * t + e (w - t) (from + j - t)
+
+-- .. and any amount
 abbrev pub worthAt : (ℕ → ℕ → ℕ) → ℕ → ℕ → ℕ → ℕ → ℕ → ℕ → ℕ
 worthAt e rate level w from j t = worthOver e rate (freeAmount level (from + j)) w (from + j) t
 

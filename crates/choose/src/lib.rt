@@ -9,7 +9,7 @@ ghost use lib.ListN.{length, getD};
 ghost use Rattle.slices.specs.Stored.{stored};
 ghost use Rattle.slices.specs.Rows.{cells};
 ghost use Rattle.rules.specs.Contract.{topMost, rateMost};
-ghost use Rattle.choose.specs.State.{bestValue, bestAmount, staticValue, Furthered, Block, Leads, Offered, Chosen, Settled, Plain, Rising, Bounded, worthAt, triedFree, triedUpto, triedBelow, triedRun, mixedBelow};
+ghost use Rattle.choose.specs.State.{bestValue, bestAmount, staticValue, Furthered, Span, Block, Leads, Offered, Chosen, Settled, Plain, Rising, Bounded, freeAt, worthAt, triedFree, triedUpto, triedBelow, triedRun, mixedBelow};
 ghost use Rattle.rules.specs.Date.{static, mixed, freeAmount};
 ghost use Rattle.rules.specs.Operations.{behaviourOf};
 
@@ -19,23 +19,14 @@ fn pick(held: u32, other: u32, old: u32, new: u32) -> u32
     if held < other { new } else { old }
 }
 
-// Amount t, to n states from state `low` on that have none yet.
-fn start(
-    values: &mut [u32; 64],
-    amounts: &mut [u32; 64],
-    work: &[u32],
-    low: usize,
-    at: usize,
-    n: usize,
-    cash: u32,
-    t: u32,
-)
-    requires { ⌜ (low + n ≤ 64) × (at + n ≤ length (now work)) × ((i : ℕ) → i < n → cash + getD (now work) (at + i) 0 < 4294967296) ⌝ }
-    ensures { λ _. ⌜ (now (values .exit) ≡ stored (now (values .entry)) low (λ (i : ℕ). cash + getD (now (work .entry)) (at + i) 0) n) × (now (amounts .exit) ≡ stored (now (amounts .entry)) low (λ (i : ℕ). t) n) ⌝ }
+// Amount 0.
+fn start_block(values: &mut [u32; 64], amounts: &mut [u32; 64], work: &[u32], at: usize, n: usize)
+    requires { ⌜ (n ≤ 64) × (at + n ≤ length (now work)) ⌝ }
+    ensures { λ _. ⌜ (now (values .exit) ≡ stored (now (values .entry)) 0 (λ (j : ℕ). getD (now (work .entry)) (at + j) 0) n) × (now (amounts .exit) ≡ stored (now (amounts .entry)) 0 (λ (j : ℕ). 0) n) ⌝ }
 {
-    for i in 0..n {
-        values[low + i] = cash + work[at + i];
-        amounts[low + i] = t;
+    for j in 0..n {
+        values[j] = work[at + j];
+        amounts[j] = 0;
     }
 }
 
@@ -61,7 +52,7 @@ fn offer(
     }
 }
 
-// The better of the amounts t and t + 1: one load and one store of a state for two amounts.
+// The better of amount t with its cash and amount t + 1 with more: one load and one store of a state for two amounts.
 fn offer_two(
     values: &mut [u32; 64],
     amounts: &mut [u32; 64],
@@ -71,15 +62,16 @@ fn offer_two(
     next: usize,
     n: usize,
     cash: u32,
+    more: u32,
     t: u32,
 )
-    requires { ⌜ (low + n ≤ 64) × (at + n ≤ length (now work)) × (next + n ≤ length (now work)) × ((i : ℕ) → i < n → cash + getD (now work) (at + i) 0 < 4294967296) × ((i : ℕ) → i < n → cash + 10000 + getD (now work) (next + i) 0 < 4294967296) × (t ≤ topMost) ⌝ }
-    ensures { λ _. ⌜ Offered (now (values .entry)) (now (amounts .entry)) (now (values .exit)) (now (amounts .exit)) low n (λ (i : ℕ). cond (ltb (cash + getD (now (work .entry)) (at + i) 0) (cash + 10000 + getD (now (work .entry)) (next + i) 0)) (cash + 10000 + getD (now (work .entry)) (next + i) 0) (cash + getD (now (work .entry)) (at + i) 0)) (λ (i : ℕ). cond (ltb (cash + getD (now (work .entry)) (at + i) 0) (cash + 10000 + getD (now (work .entry)) (next + i) 0)) (t + 1) t) ⌝ }
+    requires { ⌜ (low + n ≤ 64) × (at + n ≤ length (now work)) × (next + n ≤ length (now work)) × ((i : ℕ) → i < n → cash + getD (now work) (at + i) 0 < 4294967296) × ((i : ℕ) → i < n → more + getD (now work) (next + i) 0 < 4294967296) × (t ≤ topMost) ⌝ }
+    ensures { λ _. ⌜ Offered (now (values .entry)) (now (amounts .entry)) (now (values .exit)) (now (amounts .exit)) low n (λ (i : ℕ). cond (ltb (cash + getD (now (work .entry)) (at + i) 0) (more + getD (now (work .entry)) (next + i) 0)) (more + getD (now (work .entry)) (next + i) 0) (cash + getD (now (work .entry)) (at + i) 0)) (λ (i : ℕ). cond (ltb (cash + getD (now (work .entry)) (at + i) 0) (more + getD (now (work .entry)) (next + i) 0)) (t + 1) t) ⌝ }
 {
     for i in 0..n {
         let held = values[low + i];
         let one = cash + work[at + i];
-        let two = cash + 10000 + work[next + i];
+        let two = more + work[next + i];
         let other = pick(one, two, one, two);
         let amount = pick(one, two, t, t + 1);
         values[low + i] = pick(held, other, held, other);
@@ -97,13 +89,11 @@ fn offer_free(
     w: usize,
     from: usize,
     n: usize,
-    level: usize,
-    rate: usize,
     end: usize,
     t: usize,
 )
-    requires { ⌜ Block (now work) base stride w from n level rate × Leads (worthAt (cells (now work) base stride) rate level w from) (now values) (now amounts) n (triedFree from t) × (t < level) × (end ≤ n) ⌝ }
-    ensures { λ _. ⌜ Leads (worthAt (cells (now (work .entry)) base stride) rate level w from) (now (values .exit)) (now (amounts .exit)) n (triedUpto from t end) ⌝ }
+    requires { ⌜ Span (now work) base stride w from n × Leads (freeAt (cells (now work) base stride) w from) (now values) (now amounts) n (triedFree from t) × (t < topMost) × (end ≤ n) ⌝ }
+    ensures { λ _. ⌜ Leads (freeAt (cells (now (work .entry)) base stride) w from) (now (values .exit)) (now (amounts .exit)) n (triedUpto from t end) ⌝ }
 {
     let low = date::smaller(end, date::less(t + 1, from));
     let at = base + (date::less(w, t + 1) * stride + date::less(from + low, t + 1));
@@ -119,7 +109,7 @@ fn offer_free(
     );
 }
 
-// Amounts t + 1 and t + 2, both to the states whose guarantee they do not pass.
+// Amounts t + 1 and t + 2, each to the states whose guarantee it does not pass.
 fn offer_pair(
     values: &mut [u32; 64],
     amounts: &mut [u32; 64],
@@ -129,28 +119,13 @@ fn offer_pair(
     w: usize,
     from: usize,
     n: usize,
-    level: usize,
-    rate: usize,
     t: usize,
 )
-    requires { ⌜ Block (now work) base stride w from n level rate × Leads (worthAt (cells (now work) base stride) rate level w from) (now values) (now amounts) n (triedFree from t) × (t + 1 < level) ⌝ }
-    ensures { λ _. ⌜ Leads (worthAt (cells (now (work .entry)) base stride) rate level w from) (now (values .exit)) (now (amounts .exit)) n (triedFree from (t + 2)) ⌝ }
+    requires { ⌜ Span (now work) base stride w from n × Leads (freeAt (cells (now work) base stride) w from) (now values) (now amounts) n (triedFree from t) × (t + 1 < topMost) ⌝ }
+    ensures { λ _. ⌜ Leads (freeAt (cells (now (work .entry)) base stride) w from) (now (values .exit)) (now (amounts .exit)) n (triedFree from (t + 2)) ⌝ }
 {
     let both = date::smaller(n, date::less(t + 2, from));
-    offer_free(
-        values,
-        amounts,
-        work,
-        base,
-        stride,
-        w,
-        from,
-        n,
-        level,
-        rate,
-        both,
-        t,
-    );
+    offer_free(values, amounts, work, base, stride, w, from, n, both, t);
     let one = base + (date::less(w, t + 1) * stride + date::less(from + both, t + 1));
     let two = base + (date::less(w, t + 2) * stride + date::less(from + both, t + 2));
     let cash = (10000 * (t + 1)) as u32;
@@ -163,6 +138,7 @@ fn offer_pair(
         two,
         n - both,
         cash,
+        cash + 10000,
         (t + 1) as u32,
     );
 }
@@ -178,53 +154,18 @@ fn free_block(
     from: usize,
     n: usize,
     level: usize,
-    rate: usize,
 )
-    requires { ⌜ Block (now work) base stride w from n level rate × (64 ≤ length (now values)) × (64 ≤ length (now amounts)) ⌝ }
-    ensures { λ _. ⌜ Leads (worthAt (cells (now (work .entry)) base stride) rate level w from) (now (values .exit)) (now (amounts .exit)) n (λ (j : ℕ). freeAmount level (from + j)) ⌝ }
+    requires { ⌜ Span (now work) base stride w from n × (level ≤ topMost) × (64 ≤ length (now values)) × (64 ≤ length (now amounts)) ⌝ }
+    ensures { λ _. ⌜ Leads (freeAt (cells (now (work .entry)) base stride) w from) (now (values .exit)) (now (amounts .exit)) n (λ (j : ℕ). freeAmount level (from + j)) ⌝ }
 {
-    start(
-        values,
-        amounts,
-        work,
-        0,
-        base + (w * stride + from),
-        n,
-        0,
-        0,
-    );
+    start_block(values, amounts, work, base + (w * stride + from), n);
     let mut t: usize = 0;
     while t + 1 < level {
-        offer_pair(
-            values,
-            amounts,
-            work,
-            base,
-            stride,
-            w,
-            from,
-            n,
-            level,
-            rate,
-            t,
-        );
+        offer_pair(values, amounts, work, base, stride, w, from, n, t);
         t += 2;
     }
     if t < level {
-        offer_free(
-            values,
-            amounts,
-            work,
-            base,
-            stride,
-            w,
-            from,
-            n,
-            level,
-            rate,
-            n,
-            t,
-        );
+        offer_free(values, amounts, work, base, stride, w, from, n, n, t);
     }
 }
 
@@ -514,7 +455,7 @@ pub fn dynamic_block(
     requires { ⌜ Block (now work) base stride w from n level rate × (w * stride ≤ length (now table)) × Furthered (now work) (now table) base stride w (10000 - rate) × (rising ≡ true → Rising (cells (now work) base stride) stride (w + 1)) × (64 ≤ length (now values)) × (64 ≤ length (now amounts)) ⌝ }
     ensures { λ _. ⌜ Chosen (cells (now (work .entry)) base stride) rate level w from n (now (values .exit)) (now (amounts .exit)) ⌝ }
 {
-    free_block(values, amounts, work, base, stride, w, from, n, level, rate);
+    free_block(values, amounts, work, base, stride, w, from, n, level);
     further_block(
         values,
         amounts,

@@ -29,17 +29,18 @@ module _ {behaviour : ℕ} {work table : List ℕ} {base stride w level rate : �
   pub row-entry : (from n : ℕ) → from + n ≤ stride → w * stride + from + n ≤ length table
   row-entry from n l = let s = rows-step stride w in omega (arith, d .room .entries)
 
-  pub row-block : (from n : ℕ) → 0 < n → n ≤ 64 → from + n ≤ stride → Block work base stride w from n level rate
-  row-block from n some short l = record {
-    account = omega (arith, d .room .few);
-    some = some;
-    short = short;
-    columns = l;
-    width = d .width;
+  pub row-block : (from n : ℕ) → n ≤ 64 → from + n ≤ stride → Block work base stride w from n level rate
+  row-block from n short l = record {
+    span = record {
+      account = omega (arith, d .room .few);
+      short = short;
+      columns = l;
+      width = d .width;
+      rows = d .room .room;
+      small = λ x y h k. d .room .small x y (omega arith) k;
+    };
     level-is = omega (arith, d .level-is, d .width);
     rate-is = d .rate-is;
-    rows = d .room .room;
-    small = λ x y h k. d .room .small x y (omega arith) k;
   }
 
   pub row-plain : Plain work table base stride w level

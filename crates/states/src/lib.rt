@@ -41,7 +41,7 @@ fn dynamic_run(
     rate: usize,
     rising: bool,
 )
-    requires { ⌜ Row 2 (now work) (now table) base stride w level rate rising × (0 < n) × (n ≤ 64) × (from + n ≤ stride) ⌝ }
+    requires { ⌜ Row 2 (now work) (now table) base stride w level rate rising × (n ≤ 64) × (from + n ≤ stride) ⌝ }
     ensures { λ _. ⌜ (now (work .exit) ≡ stored (now (work .entry)) (w * stride + from) (λ (j : ℕ). bestValue dynamic (cells (now (work .entry)) base stride) rate level w (from + j)) n) × (now (table .exit) ≡ stored (now (table .entry)) (w * stride + from) (λ (j : ℕ). bestAmount dynamic (cells (now (work .entry)) base stride) rate level w (from + j)) n) ⌝ }
 {
     let mut values = [0u32; 64];

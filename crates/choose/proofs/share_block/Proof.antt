@@ -19,7 +19,7 @@ abbrev μ-loop : tie.MeasureT-loop
 μ-loop values₀ amounts₀ work base stride w from n level rate rising low₀ values amounts low = n - low
 
 add-less : tie.Need-add-less Inv-loop μ-loop
-add-less c = omega (arith, c .before .before .pre .0 .account)
+add-less c = omega (arith, c .before .before .pre .0 .span .account)
 
 less-requires : tie.Need-less-requires Inv-loop μ-loop
 less-requires c κs = search needs

@@ -31,7 +31,7 @@ smaller-requires : tie.Need-smaller-requires Inv-loop μ-loop
 smaller-requires c κs = search needs
 
 dynamic-run-requires : tie.Need-dynamic-run-requires Inv-loop μ-loop
-dynamic-run-requires c κs = let e = c .before .before .smaller .ensures in (subst₂ (λ (xs ys : List ℕ). Row 2 xs ys (c .before .before .before .before .before .before .before .args .base) (c .before .before .before .before .before .before .before .args .stride) (c .before .before .before .before .before .before .before .args .w) (c .before .before .before .before .before .before .before .args .level) (c .before .before .before .before .before .before .before .args .rate) (c .before .before .before .before .before .before .before .args .rising)) (sym (c .before .before .before .before .loop .inv .1)) (sym (c .before .before .before .before .loop .inv .2)) (row-on (c .before .before .before .before .before .before .before .pre) _ _ (c .before .before .before .before .loop .from) (c .before .before .before .before .loop .inv .0)), omega arith, omega arith, omega arith)
+dynamic-run-requires c κs = let e = c .before .before .smaller .ensures in (subst₂ (λ (xs ys : List ℕ). Row 2 xs ys (c .before .before .before .before .before .before .before .args .base) (c .before .before .before .before .before .before .before .args .stride) (c .before .before .before .before .before .before .before .args .w) (c .before .before .before .before .before .before .before .args .level) (c .before .before .before .before .before .before .before .args .rate) (c .before .before .before .before .before .before .before .args .rising)) (sym (c .before .before .before .before .loop .inv .1)) (sym (c .before .before .before .before .loop .inv .2)) (row-on (c .before .before .before .before .before .before .before .pre) _ _ (c .before .before .before .before .loop .from) (c .before .before .before .before .loop .inv .0)), omega arith, omega arith)
 
 add-from : tie.Need-add-from Inv-loop μ-loop
 add-from c = let e = c .before .before .before .before .before .before .before .smaller .ensures in omega (arith, c .before .before .before .before .before .before .before .before .before .before .before .before .pre .width)

@@ -11,16 +11,16 @@ use Rattle.states.proofs.dynamic_run.Statement.{statement}
 use Rattle.states.proofs.dynamic_run.Tie as tie
 
 dynamic-block-requires : tie.Need-dynamic-block-requires
-dynamic-block-requires c κs = let r = c .before .before .before .before .before .before .pre .0 in let t = row-entry r 0 0 (omega arith) in (row-block r (c .before .before .before .before .before .before .args .from) (c .before .before .before .before .before .before .args .n) (c .before .before .before .before .before .before .pre .1) (c .before .before .before .before .before .before .pre .2) (c .before .before .before .before .before .before .pre .3), omega arith, r .furthered refl, r .rises, le-refl _, le-refl _)
+dynamic-block-requires c κs = let r = c .before .before .before .before .before .before .pre .0 in let t = row-entry r 0 0 (omega arith) in (row-block r (c .before .before .before .before .before .before .args .from) (c .before .before .before .before .before .before .args .n) (c .before .before .before .before .before .before .pre .1) (c .before .before .before .before .before .before .pre .2), omega arith, r .furthered refl, r .rises, le-refl _, le-refl _)
 
 mul-store : tie.Need-mul-store
-mul-store c = let r = row-room (c .before .before .before .before .before .before .before .before .before .before .before .pre .0) (c .before .before .before .before .before .before .before .before .before .before .before .args .from) (c .before .before .before .before .before .before .before .before .before .before .before .args .n) (c .before .before .before .before .before .before .before .before .before .before .before .pre .3) in omega arith
+mul-store c = let r = row-room (c .before .before .before .before .before .before .before .before .before .before .before .pre .0) (c .before .before .before .before .before .before .before .before .before .before .before .args .from) (c .before .before .before .before .before .before .before .before .before .before .before .args .n) (c .before .before .before .before .before .before .before .before .before .before .before .pre .2) in omega arith
 
 add-store : tie.Need-add-store
-add-store c = let r = row-room (c .before .before .before .before .before .before .before .before .before .before .before .pre .0) (c .before .before .before .before .before .before .before .before .before .before .before .args .from) (c .before .before .before .before .before .before .before .before .before .before .before .args .n) (c .before .before .before .before .before .before .before .before .before .before .before .pre .3) in omega arith
+add-store c = let r = row-room (c .before .before .before .before .before .before .before .before .before .before .before .pre .0) (c .before .before .before .before .before .before .before .before .before .before .before .args .from) (c .before .before .before .before .before .before .before .before .before .before .before .args .n) (c .before .before .before .before .before .before .before .before .before .before .before .pre .2) in omega arith
 
 store-requires : tie.Need-store-requires
-store-requires c κs = (c .before .before .before .before .before .before .before .before .before .before .before .pre .2, row-room (c .before .before .before .before .before .before .before .before .before .before .before .pre .0) (c .before .before .before .before .before .before .before .before .before .before .before .args .from) (c .before .before .before .before .before .before .before .before .before .before .before .args .n) (c .before .before .before .before .before .before .before .before .before .before .before .pre .3), row-entry (c .before .before .before .before .before .before .before .before .before .before .before .pre .0) (c .before .before .before .before .before .before .before .before .before .before .before .args .from) (c .before .before .before .before .before .before .before .before .before .before .before .args .n) (c .before .before .before .before .before .before .before .before .before .before .before .pre .3), λ j l. let e = c .before .before .before .before .dynamic-block .ensures .amount j l in let s = amount-small (c .before .before .before .before .before .before .before .before .before .before .before .pre .0) dynamic (c .before .before .before .before .before .before .before .before .before .before .before .args .from + j) (omega (arith, c .before .before .before .before .before .before .before .before .before .before .before .pre .3)) in omega arith)
+store-requires c κs = (c .before .before .before .before .before .before .before .before .before .before .before .pre .1, row-room (c .before .before .before .before .before .before .before .before .before .before .before .pre .0) (c .before .before .before .before .before .before .before .before .before .before .before .args .from) (c .before .before .before .before .before .before .before .before .before .before .before .args .n) (c .before .before .before .before .before .before .before .before .before .before .before .pre .2), row-entry (c .before .before .before .before .before .before .before .before .before .before .before .pre .0) (c .before .before .before .before .before .before .before .before .before .before .before .args .from) (c .before .before .before .before .before .before .before .before .before .before .before .args .n) (c .before .before .before .before .before .before .before .before .before .before .before .pre .2), λ j l. let e = c .before .before .before .before .dynamic-block .ensures .amount j l in let s = amount-small (c .before .before .before .before .before .before .before .before .before .before .before .pre .0) dynamic (c .before .before .before .before .before .before .before .before .before .before .before .args .from + j) (omega (arith, c .before .before .before .before .before .before .before .before .before .before .before .pre .2)) in omega arith)
 
 same-length : tie.Need-same-length
 same-length c = search needs
