@@ -1,23 +1,32 @@
 -- What a block of states reads, and what it is worth. Assumes nothing.
 use mathlib.Core.List.{List}
 use mathlib.Core.Path.{_≡_, refl, ap, sym, _∙_, subst}
-use Prim.Native.Nat.{ℕ, _+_, _-_, _*_, _/_, _≤_, _<_, min}
-use native.Mathlib.Nat.{le-trans, le-of-eq, le-of-lt, sub-le, zero-add, min-eq-left}
+use Prim.Native.Nat.{ℕ, _+_, _-_, _*_, _/_, _≤_, _<_}
+use native.Mathlib.Nat.{le-trans, le-of-lt, sub-le, zero-add, min-eq-left}
 use native.Mathlib.Omega.{arith}
 use lib.ListN.{length, getD}
-use Rattle.decision.specs.Choice.{Leading, leading-as}
+use Rattle.decision.specs.Choice.{Leading, leading-as, leading-eq}
 use Rattle.slices.specs.Rows.{cells, rows-le, rows-step}
 use Rattle.rules.specs.Date.{freeAmount, cash, balanceAfter, guaranteeAfter}
 use Rattle.laws.specs.Date.{guarantee-le}
 use Rattle.laws.specs.Bounds.{cash-le}
-use Rattle.choose.specs.State.{worthOver, worthAt, Block, Furthered}
+use Rattle.choose.specs.State.{worthOver, freeAt, worthAt, Span, Block, Leads, Furthered}
 use Rattle.choose.proofs.Worth.{free-is, above-is, further-best}
 
-module _ {work : List ℕ} {base stride w from n level rate : ℕ} (b : Block work base stride w from n level rate) where
-  -- c entries of a row
-  pub block-room : (x y c : ℕ) → x ≤ w → y + c ≤ stride → base + (x * stride + y) + c ≤ length work
-  block-room x y c h k = let p = rows-le stride (x + 1) (w + 1) (omega arith) in let s = rows-step stride x in omega (arith, b .rows)
+-- c entries of a row
+pub block-room : {work : List ℕ} {base stride w from n : ℕ} → Span work base stride w from n → (x y c : ℕ) → x ≤ w → y + c ≤ stride → base + (x * stride + y) + c ≤ length work
+block-room {stride = stride} {w = w} s x y c h k = let p = rows-le stride (x + 1) (w + 1) (omega arith) in let r = rows-step stride x in omega (arith, s .rows)
 
+-- the best of the amounts up to m
+pub leads-worth : (e : ℕ → ℕ → ℕ) (rate level w from : ℕ) {values amounts : List ℕ} {n : ℕ} → Leads (freeAt e w from) values amounts n (λ j. freeAmount level (from + j))
+    → Leads (worthAt e rate level w from) values amounts n (λ j. freeAmount level (from + j))
+leads-worth e rate level w from x = record {
+  values-long = x .values-long;
+  amounts-long = x .amounts-long;
+  each = λ j l. leading-eq (λ t p h. sym (free-is e rate (freeAmount level (from + j)) w (from + j) t h)) (x .each j l);
+}
+
+module _ {work : List ℕ} {base stride w from n level rate : ℕ} (b : Block work base stride w from n level rate) where
   -- what an amount is worth fits 32 bits
   pub worth-small : (j t : ℕ) → j < n → t ≤ 4000 → worthAt (cells work base stride) rate level w from j t ≤ 4040000000
   unfolding worthOver balanceAfter
@@ -25,17 +34,8 @@ module _ {work : List ℕ} {base stride w from n level rate : ℕ} (b : Block wo
       let m = freeAmount level (from + j) in
       let c = cash-le rate m t in
       let g = le-trans (guarantee-le m w (from + j) t) (sub-le (from + j) t) in
-      let s = b .small (w - t) (guaranteeAfter m w (from + j) t) (sub-le w t) (omega (arith, b .columns)) in
+      let s = b .span .small (w - t) (guaranteeAfter m w (from + j) t) (sub-le w t) (omega (arith, b .span .columns)) in
       omega arith
-
-  -- ---- amount t up to m
-  pub free-worth : (t low i at : ℕ) → at ≡ base + ((w - t) * stride + (from + low - t)) → t ≤ level → t ≤ from + low
-      → worthAt (cells work base stride) rate level w from (low + i) t ≡ 10000 * t + getD work (at + i) 0
-  unfolding freeAmount
-  free-worth t low i at p h k =
-      let q : base + ((w - t) * stride + (from + (low + i) - t)) ≡ at + i = omega arith in
-      free-is (cells work base stride) rate (min level (from + (low + i))) w (from + (low + i)) t (omega arith)
-      ∙ ap (λ (z : ℕ). 10000 * t + getD work z 0) q
 
   -- ---- amount t above m where the account is below the guarantee
   pub level-is : (j : ℕ) → level < w → w < from + j → freeAmount level (from + j) ≡ level
@@ -56,7 +56,7 @@ module _ {work : List ℕ} {base stride w from n level rate : ℕ} (b : Block wo
   further-worth {table} x j m index h p l k q =
       let a = from + j in
       let row : w - m - 1 < w = omega arith in
-      let column : a - (m + 1) < stride = omega (arith, b .columns) in
+      let column : a - (m + 1) < stride = omega (arith, b .span .columns) in
       let at : index ≡ 0 + ((w - m - 1) * stride + (a - (m + 1))) = q ∙ sym (zero-add _) in
       let value = ap (λ (z : ℕ). 10000 * m + (10000 - rate) + getD work z 0) at ∙ ap (λ (z : ℕ). 10000 * m + (10000 - rate) + z) (x .values (w - m - 1) (a - (m + 1)) row column) in
       let amount = ap (λ (z : ℕ). m + 1 + getD table z 0) at ∙ ap (λ (z : ℕ). m + 1 + z) (x .amounts (w - m - 1) (a - (m + 1)) row column) in

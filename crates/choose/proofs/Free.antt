@@ -2,19 +2,18 @@
 use mathlib.Core.Bool.{cond}
 use mathlib.Core.List.{List}
 use mathlib.Core.Logic.{_⊎_, inl, inr}
-use mathlib.Core.Path.{_≡_, refl, ap, ap₂, sym, _∙_, subst}
+use mathlib.Core.Path.{_≡_, refl, ap, sym, _∙_}
 use Prim.Native.Nat.{ℕ, _+_, _-_, _*_, _≤_, _<_, min}
-use native.Mathlib.Nat.{sub-le}
-use native.Mathlib.Decide.{decLe}
+use native.Mathlib.Nat.{sub-le, zero-add}
 use native.Mathlib.Omega.{arith}
 use lib.Dec.{ltb}
 use lib.ListN.{length, getD}
 use borrow.Author.Tests.{lt-ltb, le-ltb}
-use Rattle.decision.specs.Choice.{Leading, leading-join, leading-as}
+use Rattle.decision.specs.Choice.{Leading, leading-join}
 use Rattle.slices.specs.Rows.{cells}
-use Rattle.choose.specs.State.{worthAt, Block, Leads, Offered, triedFree, triedUpto}
-use Rattle.choose.proofs.Blocks.{leading-at, leads-as, leads-offered}
-use Rattle.choose.proofs.Entries.{block-room, worth-small, free-worth}
+use Rattle.choose.specs.State.{freeAt, Span, Leads, Offered, triedFree, triedUpto}
+use Rattle.choose.proofs.Blocks.{leading-at, leads-offered}
+use Rattle.choose.proofs.Entries.{block-room}
 
 -- a guarantee that both amounts leave room for
 pair-lo : (t a : ℕ) → t + 2 ≤ a → min t a + 1 ≡ t + 1
@@ -29,23 +28,26 @@ pair-out t a h = omega arith
 pub none-behind : (s n j : ℕ) → s + (n - s) ≤ j → j < n → ⊥
 none-behind s n j h l = omega arith
 
--- the row in which none of the guarantee is left
-pub few-at : (base stride w a x : ℕ) → x ≡ w - a → base + x * stride ≡ base + ((w - a) * stride + (a - a))
-few-at base stride w a x e = let z : a - a ≡ 0 = omega arith in rw (e, z) (omega arith)
-
 pub pair-cash : (t v : ℕ) → 10000 * (t + 2) + v < 4294967296 → 10000 * (t + 1) + 10000 + v < 4294967296
 pair-cash t v h = omega arith
 
-module _ {work : List ℕ} {base stride w from n level rate : ℕ} (b : Block work base stride w from n level rate) where
+-- the entry of amount t
+free-entry : (work : List ℕ) (base stride w from t low i at : ℕ) → at ≡ base + ((w - t) * stride + (from + low - t)) → t ≤ from + low
+    → freeAt (cells work base stride) w from (low + i) t ≡ 10000 * t + getD work (at + i) 0
+free-entry work base stride w from t low i at p k =
+    let q : base + ((w - t) * stride + (from + (low + i) - t)) ≡ at + i = omega arith in
+    ap (λ (z : ℕ). 10000 * t + getD work z 0) q
+
+module _ {work : List ℕ} {base stride w from n : ℕ} (b : Span work base stride w from n) where
   -- the entries of amount t stand in a row, and fit 32 bits with its cash
   pub free-room : (t low count at : ℕ) → at ≡ base + ((w - t) * stride + (from + low - t)) → low + count ≤ n → at + count ≤ length work
   free-room t low count at p fits = let r = block-room b (w - t) (from + low - t) count (sub-le w t) (omega (arith, b .columns)) in omega arith
 
-  pub free-small : (t low count at : ℕ) → at ≡ base + ((w - t) * stride + (from + low - t)) → t ≤ level → low + count ≤ n → (0 < count → t ≤ from + low)
+  pub free-small : (t low count at : ℕ) → at ≡ base + ((w - t) * stride + (from + low - t)) → t ≤ 4000 → low + count ≤ n → (0 < count → t ≤ from + low)
       → (i : ℕ) → i < count → 10000 * t + getD work (at + i) 0 < 4294967296
   free-small t low count at p h fits k i l =
-      let e = free-worth b t low i at p h (k (omega arith)) in
-      let s = worth-small b (low + i) t (omega arith) (omega (arith, b .level-is)) in
+      let e = free-entry work base stride w from t low i at p (k (omega arith)) in
+      let s = b .small (w - t) (from + (low + i) - t) (sub-le w t) (omega (arith, b .columns)) in
       omega arith
 
   -- the states from `low` on have a guarantee of s or more
@@ -59,18 +61,15 @@ module _ {work : List ℕ} {base stride w from n level rate : ℕ} (b : Block wo
   pub rest-fits : (s c : ℕ) → s ≡ min n c → s + (n - s) ≤ n
   rest-fits s c e = omega arith
 
-  pub rest-is : (s c : ℕ) → s ≡ min n c → s + (n - s) ≡ n
-  rest-is s c e = omega arith
-
   module _ {values amounts values' amounts' : List ℕ} (t : ℕ) where
     pub free-one : (low end at : ℕ) → at ≡ base + ((w - (t + 1)) * stride + (from + low - (t + 1)))
-        → Leads (worthAt (cells work base stride) rate level w from) values amounts n (triedFree from t)
+        → Leads (freeAt (cells work base stride) w from) values amounts n (triedFree from t)
         → Offered values amounts values' amounts' low (end - low) (λ i. 10000 * (t + 1) + getD work (at + i) 0) (λ i. t + 1)
-        → low ≡ min end (t + 1 - from) → end ≤ n → t < level
-        → Leads (worthAt (cells work base stride) rate level w from) values' amounts' n (triedUpto from t end)
-    free-one low end at p x o low-is fits h =
+        → low ≡ min end (t + 1 - from) → end ≤ n
+        → Leads (freeAt (cells work base stride) w from) values' amounts' n (triedUpto from t end)
+    free-one low end at p x o low-is fits =
         leads-offered x o (omega arith) (b .short) (triedUpto from t end)
-        (λ i l. leading-at (omega arith) (rw (lt-ltb (low + i) end (omega arith)) (omega arith)) (free-worth b (t + 1) low i at p (omega arith) (omega arith)))
+        (λ i l. leading-at (omega arith) (rw (lt-ltb (low + i) end (omega arith)) (omega arith)) (free-entry work base stride w from (t + 1) low i at p (omega arith)))
         (λ j l. out j l)
       where
         out : (j : ℕ) → j < n → (j < low) ⊎ (low + (end - low) ≤ j) → triedFree from t j ≡ triedUpto from t end j
@@ -78,26 +77,26 @@ module _ {work : List ℕ} {base stride w from n level rate : ℕ} (b : Block wo
         out j l (inr k) = rw (le-ltb j end (omega arith))
 
     pub free-two : (both at next : ℕ) → at ≡ base + ((w - (t + 1)) * stride + (from + both - (t + 1))) → next ≡ base + ((w - (t + 2)) * stride + (from + both - (t + 2)))
-        → Leads (worthAt (cells work base stride) rate level w from) values amounts n (triedUpto from t both)
+        → Leads (freeAt (cells work base stride) w from) values amounts n (triedUpto from t both)
         → Offered values amounts values' amounts' both (n - both) (λ i. cond (ltb (10000 * (t + 1) + getD work (at + i) 0) (10000 * (t + 1) + 10000 + getD work (next + i) 0)) (10000 * (t + 1) + 10000 + getD work (next + i) 0) (10000 * (t + 1) + getD work (at + i) 0)) (λ i. cond (ltb (10000 * (t + 1) + getD work (at + i) 0) (10000 * (t + 1) + 10000 + getD work (next + i) 0)) (t + 1 + 1) (t + 1))
-        → both ≡ min n (t + 2 - from) → t + 2 ≤ level
-        → Leads (worthAt (cells work base stride) rate level w from) values' amounts' n (triedFree from (t + 2))
-    free-two both at next p q x o both-is h =
+        → both ≡ min n (t + 2 - from)
+        → Leads (freeAt (cells work base stride) w from) values' amounts' n (triedFree from (t + 2))
+    free-two both at next p q x o both-is =
         leads-offered x o (rest-fits both (t + 2 - from) both-is) (b .short) (triedFree from (t + 2)) in-run (λ j l. out j l)
       where
-        second : (i : ℕ) → i < n - both → worthAt (cells work base stride) rate level w from (both + i) (t + 1 + 1) ≡ 10000 * (t + 1) + 10000 + getD work (next + i) 0
+        second : (i : ℕ) → i < n - both → freeAt (cells work base stride) w from (both + i) (t + 1 + 1) ≡ 10000 * (t + 1) + 10000 + getD work (next + i) 0
         second i l =
             let u : t + 1 + 1 ≡ t + 2 = omega arith in
             let v : 10000 * (t + 2) ≡ 10000 * (t + 1) + 10000 = omega arith in
-            ap (worthAt (cells work base stride) rate level w from (both + i)) u ∙ free-worth b (t + 2) both i next q h (reached (t + 2) both n i both-is l) ∙ ap (λ (z : ℕ). z + getD work (next + i) 0) v
+            ap (freeAt (cells work base stride) w from (both + i)) u ∙ free-entry work base stride w from (t + 2) both i next q (reached (t + 2) both n i both-is l) ∙ ap (λ (z : ℕ). z + getD work (next + i) 0) v
 
-        in-run : (i : ℕ) → i < n - both → Leading (worthAt (cells work base stride) rate level w from (both + i)) (triedUpto from t both (both + i) + 1) (triedFree from (t + 2) (both + i))
+        in-run : (i : ℕ) → i < n - both → Leading (freeAt (cells work base stride) w from (both + i)) (triedUpto from t both (both + i) + 1) (triedFree from (t + 2) (both + i))
             (cond (ltb (10000 * (t + 1) + getD work (at + i) 0) (10000 * (t + 1) + 10000 + getD work (next + i) 0)) (t + 1 + 1) (t + 1)) (cond (ltb (10000 * (t + 1) + getD work (at + i) 0) (10000 * (t + 1) + 10000 + getD work (next + i) 0)) (10000 * (t + 1) + 10000 + getD work (next + i) 0) (10000 * (t + 1) + getD work (at + i) 0))
         in-run i l =
             let r = reached (t + 2) both n i both-is l in
             let lo : triedUpto from t both (both + i) + 1 ≡ t + 1 = rw (le-ltb (both + i) both (omega arith)) (pair-lo t (from + (both + i)) (omega arith)) in
             let hi : triedFree from (t + 2) (both + i) ≡ t + 1 + 1 = pair-hi t (from + (both + i)) (omega arith) in
-            leading-join (leading-at lo refl (free-worth b (t + 1) both i at p (omega arith) (omega arith))) (leading-at refl hi (second i l))
+            leading-join (leading-at lo refl (free-entry work base stride w from (t + 1) both i at p (omega arith))) (leading-at refl hi (second i l))
 
         out : (j : ℕ) → j < n → (j < both) ⊎ (both + (n - both) ≤ j) → triedUpto from t both j ≡ triedFree from (t + 2) j
         out j l (inl k) = rw (lt-ltb j both k) (pair-out t (from + j) (short-of (t + 2) both n j both-is k))
@@ -107,8 +106,8 @@ module _ {work : List ℕ} {base stride w from n level rate : ℕ} (b : Block wo
   pub start-at : base + (w * stride + from) ≡ base + ((w - 0) * stride + (from + 0 - 0))
   start-at = let z : w - 0 ≡ w = omega arith in rw z (omega arith)
 
-  pub start-worth : (j : ℕ) → j < n → worthAt (cells work base stride) rate level w from j 0 ≡ 0 + getD work (base + (w * stride + from) + j) 0
+  pub start-worth : (j : ℕ) → j < n → freeAt (cells work base stride) w from j 0 ≡ getD work (base + (w * stride + from) + j) 0
   start-worth j l =
       let s : 0 + j ≡ j = omega arith in
-      let e = free-worth b 0 0 j (base + (w * stride + from)) start-at (omega arith) (omega arith) in
-      ap (λ (z : ℕ). worthAt (cells work base stride) rate level w from z 0) (sym s) ∙ e
+      let e = free-entry work base stride w from 0 0 j (base + (w * stride + from)) start-at (omega arith) in
+      ap (λ (z : ℕ). freeAt (cells work base stride) w from z 0) (sym s) ∙ e ∙ zero-add _

@@ -1,6 +1,6 @@
 -- The best of withdrawing further, for the states whose account is not below the guarantee. Assumes nothing.
 use mathlib.Core.List.{List}
-use mathlib.Core.Path.{_≡_, refl, ap, sym, _∙_, subst₂}
+use mathlib.Core.Path.{_≡_, ap, sym, _∙_, subst₂}
 use Prim.Native.Nat.{ℕ, _+_, _-_, _*_, _≤_, _<_, min, max}
 use native.Mathlib.Nat.{le-trans, le-of-eq, le-of-lt, max-eq-left, min-eq-right, min-eq-left}
 use native.Mathlib.Omega.{arith}
@@ -94,7 +94,7 @@ module _ {work table : List ℕ} {base stride w from n level rate : ℕ} (b : Bl
     pub further-small : (i : ℕ) → i < count → 10000 * m + (10000 - rate) + getD work (at + i) 0 < 4294967296
     further-small i l =
         let y = leads i l in
-        let s = worth-small b (low + i) (m + 1 + getD table (at + i) 0) (omega arith) (omega (arith, y .to, b .account)) in
+        let s = worth-small b (low + i) (m + 1 + getD table (at + i) 0) (omega arith) (omega (arith, y .to, b .span .account)) in
         omega (arith, y .worth)
 
     pub further-run : {values amounts values' amounts' : List ℕ}
@@ -102,7 +102,7 @@ module _ {work table : List ℕ} {base stride w from n level rate : ℕ} (b : Bl
         → Offered values amounts values' amounts' low count (λ i. 10000 * m + (10000 - rate) + getD work (at + i) 0) (λ i. m + 1 + getD table (at + i) 0)
         → Leads (worthAt (cells work base stride) rate level w from) values' amounts' n (triedBelow level w from (low + count))
     further-run y o =
-        leads-run level w from low y o fits (b .short) (λ i l.
+        leads-run level w from low y o fits (b .span .short) (λ i l.
         let f = free i l in
         let hi : max w (freeAmount level (from + (low + i))) ≡ w = ap (max w) f ∙ max-eq-left (le-of-lt above) in
         subst₂ (λ (z u : ℕ). Leading (worthAt (cells work base stride) rate level w from (low + i)) (z + 1) u (m + 1 + getD table (at + i) 0) (10000 * m + (10000 - rate) + getD work (at + i) 0)) (sym f) (sym hi) (leads i l))

@@ -1,13 +1,12 @@
 -- The amounts above m where the account is below the guarantee, for a run of states. Assumes nothing.
 use mathlib.Core.List.{List}
 use mathlib.Core.Logic.{_⊎_, inl, inr}
-use mathlib.Core.Path.{_≡_, refl, ap, ap₂, sym, _∙_, subst}
+use mathlib.Core.Path.{_≡_, ap, ap₂, sym, _∙_, subst}
 use Prim.Native.Nat.{ℕ, _+_, _-_, _*_, _/_, _≤_, _<_, min}
 use native.Mathlib.Nat.{le-trans, le-of-eq, sub-le, mul-le-mul-right}
 use native.Mathlib.Decide.{decLe}
 use native.Mathlib.Omega.{arith}
 use lib.ListN.{length, getD}
-use Rattle.decision.specs.Choice.{Leading}
 use Rattle.rules.specs.Date.{freeAmount, cash}
 use Rattle.slices.specs.Rows.{cells}
 use Rattle.choose.specs.State.{worthAt, Block, Leads, Offered, Rising, Bounded, triedBelow, triedRun}
@@ -45,13 +44,13 @@ module _ {work : List ℕ} {base stride w from n level rate : ℕ} (b : Block wo
   where
     -- the guarantee left to state i of the run
     left-is : (i : ℕ) → i < end - low → (from + low + i) * ((w - (t + 1)) * inverse) / 1099511627776 ≡ (from + low + i) * (w - (t + 1)) / w
-    left-is i l = share-is w inverse (omega arith) (b .account) inverse-is (from + low + i) (w - (t + 1)) (omega (arith, b .columns, b .width)) (sub-le w (t + 1))
+    left-is i l = share-is w inverse (omega arith) (b .span .account) inverse-is (from + low + i) (w - (t + 1)) (omega (arith, b .span .columns, b .span .width)) (sub-le w (t + 1))
 
     pub share-place : (i : ℕ) → i < end - low → base + (w - (t + 1)) * stride + (from + low + i) * ((w - (t + 1)) * inverse) / 1099511627776 < length work
     share-place i l =
         let q = (from + low + i) * (w - (t + 1)) / w in
         let s = share-le (from + low + i) (w - (t + 1)) w (sub-le w (t + 1)) in
-        let r = block-room b (w - (t + 1)) q 1 (sub-le w (t + 1)) (omega (arith, b .columns)) in
+        let r = block-room (b .span) (w - (t + 1)) q 1 (sub-le w (t + 1)) (omega (arith, b .span .columns)) in
         let e = left-is i l in
         omega arith
 
@@ -69,18 +68,18 @@ module _ {work : List ℕ} {base stride w from n level rate : ℕ} (b : Block wo
     pub share-fits : (i : ℕ) → i < end - low → k + getD work (base + (w - (t + 1)) * stride + (from + low + i) * ((w - (t + 1)) * inverse) / 1099511627776) 0 < 4294967296
     share-fits i l =
         let e = share-value i l in
-        let s = worth-small b (low + i) (t + 1) (omega arith) (omega (arith, b .account)) in
+        let s = worth-small b (low + i) (t + 1) (omega arith) (omega (arith, b .span .account)) in
         omega arith
 
     pub share-product : (from + low + (end - low)) * ((w - (t + 1)) * inverse) < 18446744073709551616
-    share-product = let s = share-small w inverse (omega arith) (b .account) inverse-is (from + low + (end - low)) (w - (t + 1)) (omega (arith, b .columns, b .width)) (sub-le w (t + 1)) in omega arith
+    share-product = let s = share-small w inverse (omega arith) (b .span .account) inverse-is (from + low + (end - low)) (w - (t + 1)) (omega (arith, b .span .columns, b .span .width)) (sub-le w (t + 1)) in omega arith
 
     module _ {values amounts : List ℕ} (x : Leads (worthAt (cells work base stride) rate level w from) values amounts n (triedRun level w from low end t)) where
       pub share-offer : {values' amounts' : List ℕ}
           → Offered values amounts values' amounts' low (end - low) (λ i. k + getD work (base + (w - (t + 1)) * stride + (from + low + i) * ((w - (t + 1)) * inverse) / 1099511627776) 0) (λ i. t + 1)
           → Leads (worthAt (cells work base stride) rate level w from) values' amounts' n (triedRun level w from low end (t + 1))
       share-offer o =
-          leads-offered x o (omega arith) (b .short) (triedRun level w from low end (t + 1))
+          leads-offered x o (omega arith) (b .span .short) (triedRun level w from low end (t + 1))
           (λ i l. leading-at (ap (λ (z : ℕ). z + 1) (run-in level w from low end t (low + i) (omega arith) (omega arith))) (run-in level w from low end (t + 1) (low + i) (omega arith) (omega arith)) (share-value i l))
           (λ j l o. run-out level w from low end t (t + 1) j (omega arith) (out j o))
         where
@@ -106,7 +105,7 @@ module _ {work : List ℕ} {base stride w from n level rate : ℕ} (b : Block wo
               let here = share-worth b (t + 1) j (omega arith) (omega arith) (omega arith) in
               let there = share-worth b (t + 1) (low + (end - low - 1)) (omega arith) (omega arith) (omega arith) in
               let s = share-le (from + (low + (end - low - 1))) (w - (t + 1)) w (sub-le w (t + 1)) in
-              let r = rising-le rises (w - (t + 1)) ((from + j) * (w - (t + 1)) / w) ((from + (low + (end - low - 1))) * (w - (t + 1)) / w) (omega arith) (share-rises (from + j) (from + (low + (end - low - 1))) (w - (t + 1)) w (omega arith) (omega arith)) (omega (arith, b .columns)) in
+              let r = rising-le rises (w - (t + 1)) ((from + j) * (w - (t + 1)) / w) ((from + (low + (end - low - 1))) * (w - (t + 1)) / w) (omega arith) (share-rises (from + j) (from + (low + (end - low - 1))) (w - (t + 1)) w (omega arith) (omega arith)) (omega (arith, b .span .columns)) in
               le-trans (le-of-eq here) (le-trans (cash-more (cash rate level (t + 1)) r) (le-of-eq (sym there)))
 
           go : (j : ℕ) → j < n → Dec (low ≤ j) → Dec (end ≤ j)

@@ -1,16 +1,16 @@
 -- What an amount is worth, case by case, and the best amount of each behaviour. Assumes nothing.
 use mathlib.Core.Bool.{Bool, true, false, cond, not}
 use mathlib.Core.Logic.{_⊎_, inl, inr}
-use mathlib.Core.Path.{_≡_, refl, ap, ap₂, sym, _∙_, subst, subst₂, subst₃}
+use mathlib.Core.Path.{_≡_, refl, ap, ap₂, sym, _∙_, subst₂, subst₃}
 use Prim.Native.Nat.{ℕ, _+_, _-_, _*_, _/_, _≤_, _<_, min, max}
-use native.Mathlib.Nat.{le-refl, le-trans, le-of-eq, min-eq-left, min-eq-right, mul-le-mul-left, mul-le-mul-right, div-le-of-le-mul, le-div-iff-mul-le, sub-add-eq, max-eq-left, max-eq-right, le-of-lt, mul-zero, zero-div, min-zero}
+use native.Mathlib.Nat.{le-trans, le-of-eq, min-eq-left, min-eq-right, mul-le-mul-left, div-le-of-le-mul, le-div-iff-mul-le, sub-add-eq, le-of-lt, mul-zero, zero-div, min-zero}
 use native.Mathlib.Decide.{decLe}
 use native.Mathlib.Omega.{arith}
-use lib.Dec.{T, ltb, ltb→lt, nltb→le, leb, eqb→eq}
+use lib.Dec.{T, ltb, ltb→lt, nltb→le, eqb→eq}
 use borrow.Author.Tests.{lt-leb}
-use Rattle.decision.specs.Choice.{Best, best-is, best-unique, Leading, leading-one, leading-shift, leading-eq, leading-as}
-use Rattle.rules.specs.Date.{Behaviour, static, mixed, dynamic, freeAmount, largestAmount, admits, surrenders, penalty, cash, balanceAfter, guaranteeAfter}
-use Rattle.laws.specs.Date.{guarantee-free, admits-free, admits-within, mixed-is, is-dynamic, admits-surrender}
+use Rattle.decision.specs.Choice.{Best, best-is, best-unique, Leading, leading-shift, leading-as}
+use Rattle.rules.specs.Date.{Behaviour, static, mixed, dynamic, freeAmount, largestAmount, admits, penalty, cash, balanceAfter, guaranteeAfter}
+use Rattle.laws.specs.Date.{guarantee-free, admits-free, mixed-is, is-dynamic, admits-surrender}
 use Rattle.further.specs.Further.{further, furtherValue, furtherAmount, further-leads}
 use Rattle.choose.specs.State.{worthOver, bestValue, bestAmount}
 

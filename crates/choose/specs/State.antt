@@ -1,8 +1,9 @@
 -- The value and the recorded amount of a state, over the discounted sums e of balance and guarantee. Assumes nothing.
 use mathlib.Core.Bool.{cond}
 use mathlib.Core.List.{List}
+use mathlib.Core.Logic.{_⊎_}
 use mathlib.Core.Path.{_≡_, ap}
-use Prim.Native.Nat.{ℕ, _+_, _-_, _*_, _/_, _≤_, _<_, min, max}
+use Prim.Native.Nat.{ℕ, _+_, _-_, _*_, _≤_, _<_, min, max}
 use native.Mathlib.Nat.{le-trans, sub-le}
 use lib.Dec.{ltb}
 use lib.ListN.{length, getD}
@@ -10,7 +11,7 @@ use Rattle.decision.specs.Choice.{Best, Leading, largest, smallestBest, largest
 use Rattle.slices.specs.Stored.{stored}
 use Rattle.slices.specs.Rows.{cells}
 use Rattle.rules.specs.Contract.{topMost, rateMost}
-use Rattle.rules.specs.Date.{Behaviour, static, mixed, freeAmount, largestAmount, admits, cash, balanceAfter, guaranteeAfter}
+use Rattle.rules.specs.Date.{Behaviour, static, mixed, dynamic, freeAmount, largestAmount, admits, cash, balanceAfter, guaranteeAfter}
 use Rattle.laws.specs.Date.{guarantee-le}
 use Rattle.further.specs.Further.{furtherValue, furtherAmount}
 
@@ -28,6 +29,12 @@ bestAmount b e rate level w a =
     let m = freeAmount level a in
     smallestBest (admits b m w) (worthOver e rate m w a) (largestAmount m w)
 
+-- what withdrawing m is worth
+unfoldable pub staticValue : (ℕ → ℕ → ℕ) → ℕ → ℕ → ℕ → ℕ
+staticValue e level w a =
+    let m = freeAmount level a in
+    10000 * m + e (w - m) (a - m)
+
 -- ---- what the functions hand to each other
 -- a state, and room for the rows of its balances
 pub record State (work : List ℕ) (base stride w a m : ℕ) : Type 0 where
@@ -38,18 +45,25 @@ pub record State (work : List ℕ) (base stride w a m : ℕ) : Type 0 where
   pub rows : base + (w + 1) * stride ≤ length work
 
 -- a block: n states of account w, from guarantee `from` on, whose sums leave room for cash
-pub record Block (work : List ℕ) (base stride w from n level rate : ℕ) : Type 0 where
+pub record Span (work : List ℕ) (base stride w from n : ℕ) : Type 0 where
   pub account : w ≤ topMost
-  pub some : 0 < n
   pub short : n ≤ 64
   pub columns : from + n ≤ stride
   pub width : stride ≤ 4001
-  pub level-is : level ≤ topMost
-  pub rate-is : rate ≤ rateMost
   pub rows : base + (w + 1) * stride ≤ length work
   pub small : (x y : ℕ) → x ≤ w → y < stride → cells work base stride x y ≤ 4000000000
 
--- what amount t is worth to state j of a block
+-- .. with the level and the penalty
+pub record Block (work : List ℕ) (base stride w from n level rate : ℕ) : Type 0 where
+  pub span : Span work base stride w from n
+  pub level-is : level ≤ topMost
+  pub rate-is : rate ≤ rateMost
+
+-- what amount t up to m is worth to state j of a block
+abbrev pub freeAt : (ℕ → ℕ → ℕ) → ℕ → ℕ → ℕ → ℕ → ℕ
+freeAt e w from j t = 10000 * t + e (w - t) (from + j - t)
+
+-- .. and any amount
 abbrev pub worthAt : (ℕ → ℕ → ℕ) → ℕ → ℕ → ℕ → ℕ → ℕ → ℕ → ℕ
 worthAt e rate level w from j t = worthOver e rate (freeAmount level (from + j)) w (from + j) t
 
@@ -81,25 +95,37 @@ triedBelow level w from s j = cond (ltb j s) (max w (freeAmount level (from + j)
 abbrev pub triedRun : ℕ → ℕ → ℕ → ℕ → ℕ → ℕ → ℕ → ℕ
 triedRun level w from low end t j = cond (ltb j low) (max w (freeAmount level (from + j))) (cond (ltb j end) t (freeAmount level (from + j)))
 
--- ---- static and mixed
--- .. the behaviour of state j where those below state s are mixed
+-- ---- what the behaviours leave
+-- a block holds the values and the recorded amounts of the dynamic behaviour
+pub record Chosen (e : ℕ → ℕ → ℕ) (rate level w from n : ℕ) (values amounts : List ℕ) : Type 0 where
+  pub value : (j : ℕ) → j < n → getD values j 0 ≡ bestValue dynamic e rate level w (from + j)
+  pub amount : (j : ℕ) → j < n → getD amounts j 0 ≡ bestAmount dynamic e rate level w (from + j)
+
+-- guarantee a has the best of what behaviour b admits: amount c, worth v
+abbrev pub Holds : Behaviour → (ℕ → ℕ → ℕ) → ℕ → ℕ → ℕ → ℕ → ℕ → ℕ → Type 0
+Holds b e rate level w a c v = Best (admits b (freeAmount level a) w) (worthOver e rate (freeAmount level a) w a) (largestAmount (freeAmount level a) w) c v
+
+-- the behaviour of guarantee a where those below s are mixed
 abbrev pub mixedBelow : ℕ → ℕ → Behaviour
-mixedBelow s j = cond (ltb j s) mixed static
+mixedBelow s a = cond (ltb a s) mixed static
 
--- state j has the best of what behaviour b admits: amount c, worth v
-abbrev pub Holds : Behaviour → (ℕ → ℕ → ℕ) → ℕ → ℕ → ℕ → ℕ → ℕ → ℕ → ℕ → Type 0
-Holds b e rate level w from j c v = Best (admits b (freeAmount level (from + j)) w) (worthAt e rate level w from j) (largestAmount (freeAmount level (from + j)) w) c v
+-- a row of n guarantees from index `at` on holds the best of each, and all else is as it was
+pub record Settled (b : ℕ → Behaviour) (e : ℕ → ℕ → ℕ) (rate level w : ℕ) (work table work' table' : List ℕ) (at n : ℕ) : Type 0 where
+  pub work-long : length work' ≡ length work
+  pub table-long : length table' ≡ length table
+  pub work-out : (j : ℕ) → (j < at) ⊎ (at + n ≤ j) → getD work' j 0 ≡ getD work j 0
+  pub table-out : (j : ℕ) → (j < at) ⊎ (at + n ≤ j) → getD table' j 0 ≡ getD table j 0
+  pub each : (a : ℕ) → a < n → Holds (b a) e rate level w a (getD table' (at + a) 0) (getD work' (at + a) 0)
 
--- .. each of the first n
-pub record Settled (b : ℕ → Behaviour) (e : ℕ → ℕ → ℕ) (rate level w from : ℕ) (values amounts : List ℕ) (n : ℕ) : Type 0 where
-  pub values-long : 64 ≤ length values
-  pub amounts-long : 64 ≤ length amounts
-  pub each : (j : ℕ) → j < n → Holds (b j) e rate level w from j (getD amounts j 0) (getD values j 0)
-
--- a block holds the values and the recorded amounts
-pub record Chosen (b : Behaviour) (e : ℕ → ℕ → ℕ) (rate level w from n : ℕ) (values amounts : List ℕ) : Type 0 where
-  pub value : (j : ℕ) → j < n → getD values j 0 ≡ bestValue b e rate level w (from + j)
-  pub amount : (j : ℕ) → j < n → getD amounts j 0 ≡ bestAmount b e rate level w (from + j)
+-- row w of two layers, the second at base, whose sums leave room for cash
+pub record Plain (work table : List ℕ) (base stride w level : ℕ) : Type 0 where
+  pub account : w ≤ topMost
+  pub level-is : level < stride
+  pub width : stride ≤ 4001
+  pub apart : (w + 1) * stride ≤ base
+  pub rows : base + (w + 1) * stride ≤ length work
+  pub entries : (w + 1) * stride ≤ length table
+  pub small : (x y : ℕ) → x ≤ w → y < stride → cells work base stride x y ≤ 4000000000
 
 -- ---- what lets an amount be passed over
 -- each of the n rows rises with the guarantee

@@ -8,8 +8,8 @@ ghost use lib.Dec.{ltb};
 ghost use lib.ListN.{length, getD};
 ghost use Rattle.slices.specs.Stored.{stored};
 ghost use Rattle.slices.specs.Rows.{cells};
-ghost use Rattle.rules.specs.Contract.{topMost};
-ghost use Rattle.choose.specs.State.{Furthered, Block, Leads, Offered, Settled, Chosen, Rising, Bounded, worthAt, triedFree, triedUpto, triedBelow, triedRun, mixedBelow};
+ghost use Rattle.rules.specs.Contract.{topMost, rateMost};
+ghost use Rattle.choose.specs.State.{bestValue, bestAmount, staticValue, Furthered, Span, Block, Leads, Offered, Chosen, Settled, Plain, Rising, Bounded, freeAt, worthAt, triedFree, triedUpto, triedBelow, triedRun, mixedBelow};
 ghost use Rattle.rules.specs.Date.{static, mixed, freeAmount};
 ghost use Rattle.rules.specs.Operations.{behaviourOf};
 
@@ -19,23 +19,14 @@ fn pick(held: u32, other: u32, old: u32, new: u32) -> u32
     if held < other { new } else { old }
 }
 
-// Amount t, to n states from state `low` on that have none yet.
-fn start(
-    values: &mut [u32; 64],
-    amounts: &mut [u32; 64],
-    work: &[u32],
-    low: usize,
-    at: usize,
-    n: usize,
-    cash: u32,
-    t: u32,
-)
-    requires { ⌜ (low + n ≤ 64) × (at + n ≤ length (now work)) × ((i : ℕ) → i < n → cash + getD (now work) (at + i) 0 < 4294967296) ⌝ }
-    ensures { λ _. ⌜ (now (values .exit) ≡ stored (now (values .entry)) low (λ (i : ℕ). cash + getD (now (work .entry)) (at + i) 0) n) × (now (amounts .exit) ≡ stored (now (amounts .entry)) low (λ (i : ℕ). t) n) ⌝ }
+// Amount 0.
+fn start_block(values: &mut [u32; 64], amounts: &mut [u32; 64], work: &[u32], at: usize, n: usize)
+    requires { ⌜ (n ≤ 64) × (at + n ≤ length (now work)) ⌝ }
+    ensures { λ _. ⌜ (now (values .exit) ≡ stored (now (values .entry)) 0 (λ (j : ℕ). getD (now (work .entry)) (at + j) 0) n) × (now (amounts .exit) ≡ stored (now (amounts .entry)) 0 (λ (j : ℕ). 0) n) ⌝ }
 {
-    for i in 0..n {
-        values[low + i] = cash + work[at + i];
-        amounts[low + i] = t;
+    for j in 0..n {
+        values[j] = work[at + j];
+        amounts[j] = 0;
     }
 }
 
@@ -61,7 +52,7 @@ fn offer(
     }
 }
 
-// The better of the amounts t and t + 1: one load and one store of a state for two amounts.
+// The better of amount t with its cash and amount t + 1 with more: one load and one store of a state for two amounts.
 fn offer_two(
     values: &mut [u32; 64],
     amounts: &mut [u32; 64],
@@ -71,15 +62,16 @@ fn offer_two(
     next: usize,
     n: usize,
     cash: u32,
+    more: u32,
     t: u32,
 )
-    requires { ⌜ (low + n ≤ 64) × (at + n ≤ length (now work)) × (next + n ≤ length (now work)) × ((i : ℕ) → i < n → cash + getD (now work) (at + i) 0 < 4294967296) × ((i : ℕ) → i < n → cash + 10000 + getD (now work) (next + i) 0 < 4294967296) × (t ≤ topMost) ⌝ }
-    ensures { λ _. ⌜ Offered (now (values .entry)) (now (amounts .entry)) (now (values .exit)) (now (amounts .exit)) low n (λ (i : ℕ). cond (ltb (cash + getD (now (work .entry)) (at + i) 0) (cash + 10000 + getD (now (work .entry)) (next + i) 0)) (cash + 10000 + getD (now (work .entry)) (next + i) 0) (cash + getD (now (work .entry)) (at + i) 0)) (λ (i : ℕ). cond (ltb (cash + getD (now (work .entry)) (at + i) 0) (cash + 10000 + getD (now (work .entry)) (next + i) 0)) (t + 1) t) ⌝ }
+    requires { ⌜ (low + n ≤ 64) × (at + n ≤ length (now work)) × (next + n ≤ length (now work)) × ((i : ℕ) → i < n → cash + getD (now work) (at + i) 0 < 4294967296) × ((i : ℕ) → i < n → more + getD (now work) (next + i) 0 < 4294967296) × (t ≤ topMost) ⌝ }
+    ensures { λ _. ⌜ Offered (now (values .entry)) (now (amounts .entry)) (now (values .exit)) (now (amounts .exit)) low n (λ (i : ℕ). cond (ltb (cash + getD (now (work .entry)) (at + i) 0) (more + getD (now (work .entry)) (next + i) 0)) (more + getD (now (work .entry)) (next + i) 0) (cash + getD (now (work .entry)) (at + i) 0)) (λ (i : ℕ). cond (ltb (cash + getD (now (work .entry)) (at + i) 0) (more + getD (now (work .entry)) (next + i) 0)) (t + 1) t) ⌝ }
 {
     for i in 0..n {
         let held = values[low + i];
         let one = cash + work[at + i];
-        let two = cash + 10000 + work[next + i];
+        let two = more + work[next + i];
         let other = pick(one, two, one, two);
         let amount = pick(one, two, t, t + 1);
         values[low + i] = pick(held, other, held, other);
@@ -97,13 +89,11 @@ fn offer_free(
     w: usize,
     from: usize,
     n: usize,
-    level: usize,
-    rate: usize,
     end: usize,
     t: usize,
 )
-    requires { ⌜ Block (now work) base stride w from n level rate × Leads (worthAt (cells (now work) base stride) rate level w from) (now values) (now amounts) n (triedFree from t) × (t < level) × (end ≤ n) ⌝ }
-    ensures { λ _. ⌜ Leads (worthAt (cells (now (work .entry)) base stride) rate level w from) (now (values .exit)) (now (amounts .exit)) n (triedUpto from t end) ⌝ }
+    requires { ⌜ Span (now work) base stride w from n × Leads (freeAt (cells (now work) base stride) w from) (now values) (now amounts) n (triedFree from t) × (t < topMost) × (end ≤ n) ⌝ }
+    ensures { λ _. ⌜ Leads (freeAt (cells (now (work .entry)) base stride) w from) (now (values .exit)) (now (amounts .exit)) n (triedUpto from t end) ⌝ }
 {
     let low = date::smaller(end, date::less(t + 1, from));
     let at = base + (date::less(w, t + 1) * stride + date::less(from + low, t + 1));
@@ -119,7 +109,7 @@ fn offer_free(
     );
 }
 
-// Amounts t + 1 and t + 2, both to the states whose guarantee they do not pass.
+// Amounts t + 1 and t + 2, each to the states whose guarantee it does not pass.
 fn offer_pair(
     values: &mut [u32; 64],
     amounts: &mut [u32; 64],
@@ -129,28 +119,13 @@ fn offer_pair(
     w: usize,
     from: usize,
     n: usize,
-    level: usize,
-    rate: usize,
     t: usize,
 )
-    requires { ⌜ Block (now work) base stride w from n level rate × Leads (worthAt (cells (now work) base stride) rate level w from) (now values) (now amounts) n (triedFree from t) × (t + 1 < level) ⌝ }
-    ensures { λ _. ⌜ Leads (worthAt (cells (now (work .entry)) base stride) rate level w from) (now (values .exit)) (now (amounts .exit)) n (triedFree from (t + 2)) ⌝ }
+    requires { ⌜ Span (now work) base stride w from n × Leads (freeAt (cells (now work) base stride) w from) (now values) (now amounts) n (triedFree from t) × (t + 1 < topMost) ⌝ }
+    ensures { λ _. ⌜ Leads (freeAt (cells (now (work .entry)) base stride) w from) (now (values .exit)) (now (amounts .exit)) n (triedFree from (t + 2)) ⌝ }
 {
     let both = date::smaller(n, date::less(t + 2, from));
-    offer_free(
-        values,
-        amounts,
-        work,
-        base,
-        stride,
-        w,
-        from,
-        n,
-        level,
-        rate,
-        both,
-        t,
-    );
+    offer_free(values, amounts, work, base, stride, w, from, n, both, t);
     let one = base + (date::less(w, t + 1) * stride + date::less(from + both, t + 1));
     let two = base + (date::less(w, t + 2) * stride + date::less(from + both, t + 2));
     let cash = (10000 * (t + 1)) as u32;
@@ -163,6 +138,7 @@ fn offer_pair(
         two,
         n - both,
         cash,
+        cash + 10000,
         (t + 1) as u32,
     );
 }
@@ -178,53 +154,18 @@ fn free_block(
     from: usize,
     n: usize,
     level: usize,
-    rate: usize,
 )
-    requires { ⌜ Block (now work) base stride w from n level rate × (64 ≤ length (now values)) × (64 ≤ length (now amounts)) ⌝ }
-    ensures { λ _. ⌜ Leads (worthAt (cells (now (work .entry)) base stride) rate level w from) (now (values .exit)) (now (amounts .exit)) n (λ (j : ℕ). freeAmount level (from + j)) ⌝ }
+    requires { ⌜ Span (now work) base stride w from n × (level ≤ topMost) × (64 ≤ length (now values)) × (64 ≤ length (now amounts)) ⌝ }
+    ensures { λ _. ⌜ Leads (freeAt (cells (now (work .entry)) base stride) w from) (now (values .exit)) (now (amounts .exit)) n (λ (j : ℕ). freeAmount level (from + j)) ⌝ }
 {
-    start(
-        values,
-        amounts,
-        work,
-        0,
-        base + (w * stride + from),
-        n,
-        0,
-        0,
-    );
+    start_block(values, amounts, work, base + (w * stride + from), n);
     let mut t: usize = 0;
     while t + 1 < level {
-        offer_pair(
-            values,
-            amounts,
-            work,
-            base,
-            stride,
-            w,
-            from,
-            n,
-            level,
-            rate,
-            t,
-        );
+        offer_pair(values, amounts, work, base, stride, w, from, n, t);
         t += 2;
     }
     if t < level {
-        offer_free(
-            values,
-            amounts,
-            work,
-            base,
-            stride,
-            w,
-            from,
-            n,
-            level,
-            rate,
-            n,
-            t,
-        );
+        offer_free(values, amounts, work, base, stride, w, from, n, n, t);
     }
 }
 
@@ -496,8 +437,8 @@ fn share_block(
     }
 }
 
-// Every amount: 0 to the larger of w and m.
-fn dynamic_block(
+// The values and the recorded amounts of a block under the dynamic behaviour: every amount from 0 to the larger of w and m.
+pub fn dynamic_block(
     values: &mut [u32; 64],
     amounts: &mut [u32; 64],
     work: &[u32],
@@ -512,9 +453,9 @@ fn dynamic_block(
     rising: bool,
 )
     requires { ⌜ Block (now work) base stride w from n level rate × (w * stride ≤ length (now table)) × Furthered (now work) (now table) base stride w (10000 - rate) × (rising ≡ true → Rising (cells (now work) base stride) stride (w + 1)) × (64 ≤ length (now values)) × (64 ≤ length (now amounts)) ⌝ }
-    ensures { λ _. ⌜ Leads (worthAt (cells (now (work .entry)) base stride) rate level w from) (now (values .exit)) (now (amounts .exit)) n (λ (j : ℕ). max w (freeAmount level (from + j))) ⌝ }
+    ensures { λ _. ⌜ Chosen (cells (now (work .entry)) base stride) rate level w from n (now (values .exit)) (now (amounts .exit)) ⌝ }
 {
-    free_block(values, amounts, work, base, stride, w, from, n, level, rate);
+    free_block(values, amounts, work, base, stride, w, from, n, level);
     further_block(
         values,
         amounts,
@@ -543,175 +484,161 @@ fn dynamic_block(
     );
 }
 
+// Static and mixed go along the row itself, in loops with one store each, so that they can be widened.
+fn pick_amount(held: u32, other: u32, old: u16, new: u16) -> u16
+    ensures { λ r. ⌜ r ≡ cond (ltb held other) new old ⌝ }
+{
+    if held < other { new } else { old }
+}
+
+fn copy(work: &mut [u32], to: usize, at: usize, n: usize, cash: u32)
+    requires { ⌜ (to + n ≤ at) × (at + n ≤ length (now work)) × ((i : ℕ) → i < n → cash + getD (now work) (at + i) 0 < 4294967296) ⌝ }
+    ensures { λ _. ⌜ now (work .exit) ≡ stored (now (work .entry)) to (λ (i : ℕ). cash + getD (now (work .entry)) (at + i) 0) n ⌝ }
+{
+    for i in 0..n {
+        work[to + i] = cash + work[at + i];
+    }
+}
+
+fn fill(table: &mut [u16], to: usize, n: usize, t: u16)
+    requires { ⌜ to + n ≤ length (now table) ⌝ }
+    ensures { λ _. ⌜ now (table .exit) ≡ stored (now (table .entry)) to (λ (i : ℕ). t) n ⌝ }
+{
+    for i in 0..n {
+        table[to + i] = t;
+    }
+}
+
 // Below the level m is the guarantee itself, and none is left.
 fn static_few(
-    values: &mut [u32; 64],
-    amounts: &mut [u32; 64],
-    work: &[u32],
+    work: &mut [u32],
+    table: &mut [u16],
     base: usize,
     stride: usize,
     w: usize,
-    from: usize,
-    n: usize,
     level: usize,
-    rate: usize,
 )
-    requires { ⌜ Block (now work) base stride w from n level rate × (64 ≤ length (now values)) × (64 ≤ length (now amounts)) ⌝ }
-    ensures { λ _. ⌜ Settled (λ (j : ℕ). static) (cells (now (work .entry)) base stride) rate level w from (now (values .exit)) (now (amounts .exit)) (min n (level - from)) ⌝ }
+    requires { ⌜ Plain (now work) (now table) base stride w level ⌝ }
+    ensures { λ _. ⌜ (now (work .exit) ≡ stored (now (work .entry)) (w * stride) (λ (a : ℕ). 10000 * a + cells (now (work .entry)) base stride (w - a) 0) level) × (now (table .exit) ≡ stored (now (table .entry)) (w * stride) (λ (a : ℕ). a) level) ⌝ }
 {
-    let few = date::smaller(n, date::less(level, from));
-    for j in 0..few {
-        let a = from + j;
-        let at = base + date::less(w, a) * stride;
-        start(
-            values,
-            amounts,
-            work,
-            j,
-            at,
-            1,
-            (10000 * a) as u32,
-            a as u32,
-        );
+    let row = w * stride;
+    for a in 0..level {
+        work[row + a] = (10000 * a) as u32 + work[base + date::less(w, a) * stride];
+        table[row + a] = a as u16;
     }
 }
 
 // Every state withdraws m.
-fn static_block(
-    values: &mut [u32; 64],
-    amounts: &mut [u32; 64],
-    work: &[u32],
+fn static_row(
+    work: &mut [u32],
+    table: &mut [u16],
     base: usize,
     stride: usize,
     w: usize,
-    from: usize,
-    n: usize,
     level: usize,
-    rate: usize,
 )
-    requires { ⌜ Block (now work) base stride w from n level rate × (64 ≤ length (now values)) × (64 ≤ length (now amounts)) ⌝ }
-    ensures { λ _. ⌜ Settled (λ (j : ℕ). static) (cells (now (work .entry)) base stride) rate level w from (now (values .exit)) (now (amounts .exit)) (n) ⌝ }
+    requires { ⌜ Plain (now work) (now table) base stride w level ⌝ }
+    ensures { λ _. ⌜ (now (work .exit) ≡ stored (now (work .entry)) (w * stride) (staticValue (cells (now (work .entry)) base stride) level w) stride) × (now (table .exit) ≡ stored (now (table .entry)) (w * stride) (freeAmount level) stride) ⌝ }
 {
-    static_few(values, amounts, work, base, stride, w, from, n, level, rate);
-    let few = date::smaller(n, date::less(level, from));
-    let at = base + (date::less(w, level) * stride + date::less(from + few, level));
-    start(
-        values,
-        amounts,
-        work,
-        few,
-        at,
-        n - few,
-        (10000 * level) as u32,
-        level as u32,
-    );
+    static_few(work, table, base, stride, w, level);
+    let to = w * stride + level;
+    let at = base + date::less(w, level) * stride;
+    copy(work, to, at, stride - level, (10000 * level) as u32);
+    fill(table, to, stride - level, level as u16);
 }
 
-// Amount t, worth the same to n states from state `low` on.
-fn offer_same(
-    values: &mut [u32; 64],
-    amounts: &mut [u32; 64],
-    low: usize,
-    n: usize,
-    other: u32,
-    t: u32,
-)
-    requires { ⌜ (low + n ≤ 64) ⌝ }
-    ensures { λ _. ⌜ Offered (now (values .entry)) (now (amounts .entry)) (now (values .exit)) (now (amounts .exit)) low n (λ (i : ℕ). other) (λ (i : ℕ). t) ⌝ }
+fn mark(work: &[u32], table: &mut [u16], to: usize, n: usize, other: u32, t: u16)
+    requires { ⌜ (to + n ≤ length (now work)) × (to + n ≤ length (now table)) ⌝ }
+    ensures { λ _. ⌜ now (table .exit) ≡ stored (now (table .entry)) to (λ (i : ℕ). cond (ltb (getD (now (work .entry)) (to + i) 0) other) t (getD (now (table .entry)) (to + i) 0)) n ⌝ }
 {
     for i in 0..n {
-        let held = values[low + i];
-        values[low + i] = pick(held, other, held, other);
-        amounts[low + i] = pick(held, other, amounts[low + i], t);
+        table[to + i] = pick_amount(work[to + i], other, table[to + i], t);
     }
 }
 
-// The whole account, to the states whose guarantee is below it and the level.
+fn raise(work: &mut [u32], to: usize, n: usize, other: u32)
+    requires { ⌜ to + n ≤ length (now work) ⌝ }
+    ensures { λ _. ⌜ now (work .exit) ≡ stored (now (work .entry)) to (λ (i : ℕ). cond (ltb (getD (now (work .entry)) (to + i) 0) other) other (getD (now (work .entry)) (to + i) 0)) n ⌝ }
+{
+    for i in 0..n {
+        let held = work[to + i];
+        work[to + i] = pick(held, other, held, other);
+    }
+}
+
+// Amount t, worth the same to each of n states.
+fn offer_same(work: &mut [u32], table: &mut [u16], to: usize, n: usize, other: u32, t: u16)
+    requires { ⌜ (to + n ≤ length (now work)) × (to + n ≤ length (now table)) ⌝ }
+    ensures { λ _. ⌜ Offered (now (work .entry)) (now (table .entry)) (now (work .exit)) (now (table .exit)) to n (λ (i : ℕ). other) (λ (i : ℕ). t) ⌝ }
+{
+    mark(&work[..], table, to, n, other, t);
+    raise(work, to, n, other);
+}
+
+// The whole account, where the guarantee is below it and the level.
 fn surrender_few(
-    values: &mut [u32; 64],
-    amounts: &mut [u32; 64],
-    work: &[u32],
+    work: &mut [u32],
+    table: &mut [u16],
     base: usize,
     stride: usize,
     w: usize,
-    from: usize,
-    n: usize,
     level: usize,
     rate: usize,
 )
-    requires { ⌜ Block (now work) base stride w from n level rate × Settled (λ (j : ℕ). static) (cells (now work) base stride) rate level w from (now values) (now amounts) (n) ⌝ }
-    ensures { λ _. ⌜ Settled (mixedBelow (min n (min level w - from))) (cells (now (work .entry)) base stride) rate level w from (now (values .exit)) (now (amounts .exit)) (n) ⌝ }
+    requires { ⌜ Plain (now work) (now table) base stride w level × (rate ≤ rateMost) × Settled (λ (a : ℕ). static) (cells (now work) base stride) rate level w (now work) (now table) (now work) (now table) (w * stride) stride ⌝ }
+    ensures { λ _. ⌜ Settled (mixedBelow (min level w)) (cells (now (work .entry)) base stride) rate level w (now (work .entry)) (now (table .entry)) (now (work .exit)) (now (table .exit)) (w * stride) stride ⌝ }
 {
-    let few = date::smaller(n, date::less(date::smaller(level, w), from));
-    for j in 0..few {
-        let other = date::cash(rate, from + j, w) as u32 + work[base];
-        offer_same(values, amounts, j, 1, other, w as u32);
+    let few = date::smaller(level, w);
+    for a in 0..few {
+        let other = date::cash(rate, a, w) as u32 + work[base];
+        offer_same(work, table, w * stride + a, 1, other, w as u16);
     }
 }
 
 // The whole account, where it is above m.
-fn surrender_block(
-    values: &mut [u32; 64],
-    amounts: &mut [u32; 64],
-    work: &[u32],
+fn surrender_row(
+    work: &mut [u32],
+    table: &mut [u16],
     base: usize,
     stride: usize,
     w: usize,
-    from: usize,
-    n: usize,
     level: usize,
     rate: usize,
 )
-    requires { ⌜ Block (now work) base stride w from n level rate × Settled (λ (j : ℕ). static) (cells (now work) base stride) rate level w from (now values) (now amounts) (n) ⌝ }
-    ensures { λ _. ⌜ Settled (λ (j : ℕ). mixed) (cells (now (work .entry)) base stride) rate level w from (now (values .exit)) (now (amounts .exit)) (n) ⌝ }
+    requires { ⌜ Plain (now work) (now table) base stride w level × (rate ≤ rateMost) × Settled (λ (a : ℕ). static) (cells (now work) base stride) rate level w (now work) (now table) (now work) (now table) (w * stride) stride ⌝ }
+    ensures { λ _. ⌜ Settled (λ (a : ℕ). mixed) (cells (now (work .entry)) base stride) rate level w (now (work .entry)) (now (table .entry)) (now (work .exit)) (now (table .exit)) (w * stride) stride ⌝ }
 {
-    surrender_few(values, amounts, work, base, stride, w, from, n, level, rate);
+    surrender_few(work, table, base, stride, w, level, rate);
     if level < w {
-        let few = date::smaller(n, date::less(level, from));
         let other = date::cash(rate, level, w) as u32 + work[base];
-        offer_same(values, amounts, few, n - few, other, w as u32);
+        offer_same(
+            work,
+            table,
+            w * stride + level,
+            stride - level,
+            other,
+            w as u16,
+        );
     }
 }
 
-// The values and the recorded amounts of a block under behaviour 0 static, 1 mixed, 2 dynamic.
-pub fn decide_block(
+// The values and the recorded amounts of a row under behaviour 0 static, 1 mixed.
+pub fn plain_row(
     behaviour: usize,
-    values: &mut [u32; 64],
-    amounts: &mut [u32; 64],
-    work: &[u32],
-    table: &[u16],
+    work: &mut [u32],
+    table: &mut [u16],
     base: usize,
     stride: usize,
     w: usize,
-    from: usize,
-    n: usize,
     level: usize,
     rate: usize,
-    rising: bool,
 )
-    requires { ⌜ (behaviour ≤ 2) × Block (now work) base stride w from n level rate × (w * stride ≤ length (now table)) × (behaviour ≡ 2 → Furthered (now work) (now table) base stride w (10000 - rate)) × (rising ≡ true → Rising (cells (now work) base stride) stride (w + 1)) × (64 ≤ length (now values)) × (64 ≤ length (now amounts)) ⌝ }
-    ensures { λ _. ⌜ Chosen (behaviourOf behaviour) (cells (now (work .entry)) base stride) rate level w from n (now (values .exit)) (now (amounts .exit)) ⌝ }
+    requires { ⌜ (behaviour ≤ 1) × Plain (now work) (now table) base stride w level × (rate ≤ rateMost) ⌝ }
+    ensures { λ _. ⌜ (now (work .exit) ≡ stored (now (work .entry)) (w * stride) (bestValue (behaviourOf behaviour) (cells (now (work .entry)) base stride) rate level w) stride) × (now (table .exit) ≡ stored (now (table .entry)) (w * stride) (bestAmount (behaviourOf behaviour) (cells (now (work .entry)) base stride) rate level w) stride) ⌝ }
 {
-    if behaviour == 2 {
-        dynamic_block(
-            values,
-            amounts,
-            work,
-            table,
-            base,
-            stride,
-            w,
-            from,
-            n,
-            level,
-            rate,
-            rising,
-        );
-        return;
-    }
-    static_block(values, amounts, work, base, stride, w, from, n, level, rate);
+    static_row(work, table, base, stride, w, level);
     if behaviour == 1 {
-        surrender_block(values, amounts, work, base, stride, w, from, n, level, rate);
+        surrender_row(work, table, base, stride, w, level, rate);
     }
 }
 

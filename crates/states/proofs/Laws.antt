@@ -6,15 +6,15 @@ use mathlib.Core.Path.{_≡_, ap, sym, _∙_, subst}
 use Prim.Native.Nat.{ℕ, _+_, _-_, _*_, _≤_, _<_, min, max}
 use native.Mathlib.Nat.{le-trans, max-le, min-le-right}
 use native.Mathlib.Omega.{arith}
-use lib.ListN.{length, getD}
+use lib.ListN.{length}
 use Rattle.decision.specs.Choice.{largest, smallestBest, best-is}
 use Rattle.slices.specs.Stored.{stored, length-stored, stored-out}
 use Rattle.slices.specs.Rows.{cells, cells-kept, within-rows, rows-le, rows-step}
 use Rattle.slices.specs.Decided.{Decided, cells-behind}
 use Rattle.rules.specs.Date.{Behaviour, freeAmount, largestAmount, admits}
 use Rattle.laws.specs.Date.{admits-free, admits-within}
-use Rattle.further.specs.Further.{Room, furtherValue, furtherAmount}
-use Rattle.choose.specs.State.{worthOver, bestValue, bestAmount, Block, Furthered, Rising}
+use Rattle.further.specs.Further.{furtherValue, furtherAmount}
+use Rattle.choose.specs.State.{worthOver, bestValue, bestAmount, Block, Plain, Rising}
 use Rattle.states.specs.Row.{Deciding, Row}
 
 -- ---- one row
@@ -29,16 +29,28 @@ module _ {behaviour : ℕ} {work table : List ℕ} {base stride w level rate : �
   pub row-entry : (from n : ℕ) → from + n ≤ stride → w * stride + from + n ≤ length table
   row-entry from n l = let s = rows-step stride w in omega (arith, d .room .entries)
 
-  pub row-block : (from n : ℕ) → 0 < n → n ≤ 64 → from + n ≤ stride → Block work base stride w from n level rate
-  row-block from n some short l = record {
-    account = omega (arith, d .room .few);
-    some = some;
-    short = short;
-    columns = l;
-    width = d .width;
-    level-is = d .level-is;
+  pub row-block : (from n : ℕ) → n ≤ 64 → from + n ≤ stride → Block work base stride w from n level rate
+  row-block from n short l = record {
+    span = record {
+      account = omega (arith, d .room .few);
+      short = short;
+      columns = l;
+      width = d .width;
+      rows = d .room .room;
+      small = λ x y h k. d .room .small x y (omega arith) k;
+    };
+    level-is = omega (arith, d .level-is, d .width);
     rate-is = d .rate-is;
+  }
+
+  pub row-plain : Plain work table base stride w level
+  row-plain = record {
+    account = omega (arith, d .room .few);
+    level-is = d .level-is;
+    width = d .width;
+    apart = d .room .apart;
     rows = d .room .room;
+    entries = d .room .entries;
     small = λ x y h k. d .room .small x y (omega arith) k;
   }
 
@@ -82,6 +94,9 @@ module _ {behaviour : ℕ} {work table : List ℕ} {base stride w level rate : �
       le-trans (best .within) (max-le (omega (arith, d .room .few)) (le-trans (min-le-right level a) (omega (arith, d .width))))
 
 -- ---- a level above every guarantee
+pub below-most : (level stride most : ℕ) → 0 < stride → most ≡ min level (stride - 1) → most < stride
+below-most level stride most h e = omega arith
+
 module _ (b : Behaviour) (e : ℕ → ℕ → ℕ) (rate level most stride w a : ℕ) (most-is : most ≡ min level (stride - 1)) (l : a < stride) where
   free-same : freeAmount most a ≡ freeAmount level a
   unfolding freeAmount
@@ -102,13 +117,13 @@ module _ {behaviour : ℕ} {work work' table table' : List ℕ} {base stride n r
     pub sums-same : cells work' base stride ≡ cells work base stride
     sums-same = cells-behind base x (d .room .apart)
 
-    pub next-row : {level : ℕ} {rising : Bool} → level ≤ stride - 1 → (rising ≡ true → Rising (cells work base stride) stride n) → Row behaviour work' table' base stride w level rate rising
+    pub next-row : {level : ℕ} {rising : Bool} → level < stride → (rising ≡ true → Rising (cells work base stride) stride n) → Row behaviour work' table' base stride w level rate rising
     next-row most rises =
         let l = rows-le stride (w + 1) n h in
         record {
           known = d .known;
           rate-is = d .rate-is;
-          level-is = omega (arith, d .width);
+          level-is = most;
           width = d .width;
           room = record {
             few = omega (arith, d .room .few);

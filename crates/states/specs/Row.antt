@@ -2,9 +2,9 @@
 use mathlib.Core.Bool.{Bool, true}
 use mathlib.Core.List.{List}
 use mathlib.Core.Path.{_≡_}
-use Prim.Native.Nat.{ℕ, _+_, _-_, _≤_}
+use Prim.Native.Nat.{ℕ, _+_, _-_, _≤_, _<_}
 use Rattle.slices.specs.Rows.{cells}
-use Rattle.rules.specs.Contract.{topMost, rateMost}
+use Rattle.rules.specs.Contract.{rateMost}
 use Rattle.further.specs.Further.{Room}
 use Rattle.choose.specs.State.{Furthered, Rising}
 
@@ -20,7 +20,7 @@ pub record Deciding (behaviour : ℕ) (work table : List ℕ) (base stride n rat
 pub record Row (behaviour : ℕ) (work table : List ℕ) (base stride w level rate : ℕ) (rising : Bool) : Type 0 where
   pub known : behaviour ≤ 2
   pub rate-is : rate ≤ rateMost
-  pub level-is : level ≤ topMost
+  pub level-is : level < stride
   pub width : stride ≤ 4001
   pub room : Room work table base stride (w + 1)
   pub furthered : behaviour ≡ 2 → Furthered work table base stride w (10000 - rate)

@@ -5,6 +5,7 @@ ghost use Prim.Native.Nat.{ℕ, _+_, _*_, _≤_, _<_};
 ghost use lib.ListN.{length, getD};
 ghost use Rattle.slices.specs.Stored.{stored};
 ghost use Rattle.slices.specs.Rows.{cells, flat};
+ghost use Rattle.rules.specs.Date.{dynamic};
 ghost use Rattle.rules.specs.Operations.{behaviourOf};
 ghost use Rattle.choose.specs.State.{bestValue, bestAmount, Rising};
 ghost use Rattle.states.specs.Row.{Deciding, Row};
@@ -27,9 +28,8 @@ fn store(
     }
 }
 
-// The states of account w with n guarantees, from `from` on.
-fn decide_run(
-    behaviour: usize,
+// The dynamic behaviour, for n guarantees of account w, from `from` on.
+fn dynamic_run(
     work: &mut [u32],
     table: &mut [u16],
     base: usize,
@@ -41,13 +41,12 @@ fn decide_run(
     rate: usize,
     rising: bool,
 )
-    requires { ⌜ Row behaviour (now work) (now table) base stride w level rate rising × (0 < n) × (n ≤ 64) × (from + n ≤ stride) ⌝ }
-    ensures { λ _. ⌜ (now (work .exit) ≡ stored (now (work .entry)) (w * stride + from) (λ (j : ℕ). bestValue (behaviourOf behaviour) (cells (now (work .entry)) base stride) rate level w (from + j)) n) × (now (table .exit) ≡ stored (now (table .entry)) (w * stride + from) (λ (j : ℕ). bestAmount (behaviourOf behaviour) (cells (now (work .entry)) base stride) rate level w (from + j)) n) ⌝ }
+    requires { ⌜ Row 2 (now work) (now table) base stride w level rate rising × (n ≤ 64) × (from + n ≤ stride) ⌝ }
+    ensures { λ _. ⌜ (now (work .exit) ≡ stored (now (work .entry)) (w * stride + from) (λ (j : ℕ). bestValue dynamic (cells (now (work .entry)) base stride) rate level w (from + j)) n) × (now (table .exit) ≡ stored (now (table .entry)) (w * stride + from) (λ (j : ℕ). bestAmount dynamic (cells (now (work .entry)) base stride) rate level w (from + j)) n) ⌝ }
 {
     let mut values = [0u32; 64];
     let mut amounts = [0u32; 64];
-    choose::decide_block(
-        behaviour,
+    choose::dynamic_block(
         &mut values,
         &mut amounts,
         &work[..],
@@ -64,7 +63,29 @@ fn decide_run(
     store(work, table, &values, &amounts, w * stride + from, n);
 }
 
-// The states of account w, 64 at a time.
+// .. for all of them, 64 at a time.
+fn dynamic_row(
+    work: &mut [u32],
+    table: &mut [u16],
+    base: usize,
+    stride: usize,
+    w: usize,
+    level: usize,
+    rate: usize,
+    rising: bool,
+)
+    requires { ⌜ Row 2 (now work) (now table) base stride w level rate rising ⌝ }
+    ensures { λ _. ⌜ (now (work .exit) ≡ stored (now (work .entry)) (w * stride) (bestValue dynamic (cells (now (work .entry)) base stride) rate level w) stride) × (now (table .exit) ≡ stored (now (table .entry)) (w * stride) (bestAmount dynamic (cells (now (work .entry)) base stride) rate level w) stride) ⌝ }
+{
+    let mut from: usize = 0;
+    while from < stride {
+        let n = date::smaller(64, stride - from);
+        dynamic_run(work, table, base, stride, w, from, n, level, rate, rising);
+        from += n;
+    }
+}
+
+// The states of account w.
 fn decide_row(
     behaviour: usize,
     work: &mut [u32],
@@ -79,23 +100,10 @@ fn decide_row(
     requires { ⌜ Row behaviour (now work) (now table) base stride w level rate rising ⌝ }
     ensures { λ _. ⌜ (now (work .exit) ≡ stored (now (work .entry)) (w * stride) (bestValue (behaviourOf behaviour) (cells (now (work .entry)) base stride) rate level w) stride) × (now (table .exit) ≡ stored (now (table .entry)) (w * stride) (bestAmount (behaviourOf behaviour) (cells (now (work .entry)) base stride) rate level w) stride) ⌝ }
 {
-    let mut from: usize = 0;
-    while from < stride {
-        let n = date::smaller(64, stride - from);
-        decide_run(
-            behaviour,
-            work,
-            table,
-            base,
-            stride,
-            w,
-            from,
-            n,
-            level,
-            rate,
-            rising,
-        );
-        from += n;
+    if behaviour == 2 {
+        dynamic_row(work, table, base, stride, w, level, rate, rising);
+    } else {
+        choose::plain_row(behaviour, work, table, base, stride, w, level, rate);
     }
 }
 

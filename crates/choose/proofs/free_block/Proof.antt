@@ -1,50 +1,49 @@
 -- `choose::free_block` meets its contract. Assumes nothing.
-use Prim.Native.Nat.{ℕ, _+_, _-_, _*_, _≤_, min}
+use Prim.Native.Nat.{ℕ, _+_, _-_, _≤_, min}
 use borrow.Author.Tests.{lt-ltb}
-use lib.ListN.{getD}
-use mathlib.Core.Path.{_≡_, refl, ap, sym, _∙_, subst}
+use mathlib.Core.Path.{_≡_, ap}
 use native.Mathlib.Nat.{le-refl}
 use native.Mathlib.Omega.{arith}
 use Rattle.choose.proofs.Blocks.{leads-start, leads-as}
 use Rattle.choose.proofs.Entries.{block-room}
-use Rattle.choose.proofs.Free.{free-room, free-small, start-at, start-worth}
-use Rattle.choose.specs.State.{Leads, worthAt, triedFree}
+use Rattle.choose.proofs.Free.{start-worth}
+use Rattle.choose.specs.State.{Leads, freeAt, triedFree}
 use Rattle.rules.specs.Date.{freeAmount}
 use Rattle.slices.specs.Rows.{cells}
 use Rattle.choose.proofs.free_block.Statement.{statement}
 use Rattle.choose.proofs.free_block.Tie as tie
 
 abbrev Inv-loop : tie.InvT-loop
-Inv-loop values₀ amounts₀ work base stride w from n level rate t₀ values amounts t = (t ≤ level) × Leads (worthAt (cells work base stride) rate level w from) values amounts n (triedFree from t)
+Inv-loop values₀ amounts₀ work base stride w from n level t₀ values amounts t = (t ≤ level) × Leads (freeAt (cells work base stride) w from) values amounts n (triedFree from t)
 
 abbrev μ-loop : tie.MeasureT-loop
-μ-loop values₀ amounts₀ work base stride w from n level rate t₀ values amounts t = level - t
+μ-loop values₀ amounts₀ work base stride w from n level t₀ values amounts t = level - t
 
-mul-start : tie.Need-mul-start Inv-loop μ-loop
-mul-start c = let p = block-room (c .before .before .before .pre .0) (c .before .before .before .args .w) (c .before .before .before .args .from) (c .before .before .before .args .n) (omega arith) (c .before .before .before .pre .0 .columns) in omega arith
+mul-start-block : tie.Need-mul-start-block Inv-loop μ-loop
+mul-start-block c = let p = block-room (c .before .before .before .pre .0) (c .before .before .before .args .w) (c .before .before .before .args .from) (c .before .before .before .args .n) (omega arith) (c .before .before .before .pre .0 .columns) in omega arith
 
-add-start : tie.Need-add-start Inv-loop μ-loop
-add-start c = let p = block-room (c .before .before .before .pre .0) (c .before .before .before .args .w) (c .before .before .before .args .from) (c .before .before .before .args .n) (omega arith) (c .before .before .before .pre .0 .columns) in omega arith
+add-start-block : tie.Need-add-start-block Inv-loop μ-loop
+add-start-block c = let p = block-room (c .before .before .before .pre .0) (c .before .before .before .args .w) (c .before .before .before .args .from) (c .before .before .before .args .n) (omega arith) (c .before .before .before .pre .0 .columns) in omega arith
 
-add-start-2 : tie.Need-add-start-2 Inv-loop μ-loop
-add-start-2 c = let p = block-room (c .before .before .before .pre .0) (c .before .before .before .args .w) (c .before .before .before .args .from) (c .before .before .before .args .n) (omega arith) (c .before .before .before .pre .0 .columns) in omega arith
+add-start-block-2 : tie.Need-add-start-block-2 Inv-loop μ-loop
+add-start-block-2 c = let p = block-room (c .before .before .before .pre .0) (c .before .before .before .args .w) (c .before .before .before .args .from) (c .before .before .before .args .n) (omega arith) (c .before .before .before .pre .0 .columns) in omega arith
 
-start-requires : tie.Need-start-requires Inv-loop μ-loop
-start-requires c κs = (omega (arith, c .before .before .before .pre .0 .short), block-room (c .before .before .before .pre .0) (c .before .before .before .args .w) (c .before .before .before .args .from) (c .before .before .before .args .n) (omega arith) (c .before .before .before .pre .0 .columns), λ i l. free-small (c .before .before .before .pre .0) 0 0 (c .before .before .before .args .n) _ (start-at (c .before .before .before .pre .0)) (omega arith) (omega arith) (λ k. omega arith) i l)
+start-block-requires : tie.Need-start-block-requires Inv-loop μ-loop
+start-block-requires c κs = (c .before .before .before .pre .0 .short, block-room (c .before .before .before .pre .0) (c .before .before .before .args .w) (c .before .before .before .args .from) (c .before .before .before .args .n) (omega arith) (c .before .before .before .pre .0 .columns))
 
 loop-holds : tie.Need-loop-holds Inv-loop μ-loop
 loop-holds c =
-    let first = leads-start (c .before .before .before .before .args .values .now) _ (c .before .before .before .before .args .amounts .now) _ (c .before .before .before .before .args .n) _ (c .before .before .before .before .pre .1) (c .before .before .before .before .pre .2) (c .before .before .before .before .pre .0 .short) (c .start .ensures .0) (c .start .ensures .1) (start-worth (c .before .before .before .before .pre .0)) in
+    let first = leads-start (c .before .before .before .before .args .values .now) _ (c .before .before .before .before .args .amounts .now) _ (c .before .before .before .before .args .n) _ (c .before .before .before .before .pre .2) (c .before .before .before .before .pre .3) (c .before .before .before .before .pre .0 .short) (c .start-block .ensures .0) (c .start-block .ensures .1) (start-worth (c .before .before .before .before .pre .0)) in
     (omega arith, leads-as first _ (λ j l. let z : 0 ≡ min 0 (c .before .before .before .before .args .from + j) = omega arith in z))
 
 add-loop : tie.Need-add-loop Inv-loop μ-loop
-add-loop c = omega (arith, c .before .before .before .before .before .pre .0 .level-is)
+add-loop c = omega (arith, c .before .before .before .before .before .pre .1)
 
 offer-pair-requires : tie.Need-offer-pair-requires Inv-loop μ-loop
-offer-pair-requires c κs = (c .before .before .before .before .before .before .before .before .pre .0, c .before .before .before .loop .inv .1, c .before .before .loop-test .taken)
+offer-pair-requires c κs = (c .before .before .before .before .before .before .before .before .pre .0, c .before .before .before .loop .inv .1, omega (arith, c .before .before .before .before .before .before .before .before .pre .1))
 
 add-t : tie.Need-add-t Inv-loop μ-loop
-add-t c = omega (arith, c .before .before .before .before .before .before .before .before .before .pre .0 .level-is)
+add-t c = omega (arith, c .before .before .before .before .before .before .before .before .before .pre .1)
 
 loop-less : tie.Need-loop-less Inv-loop μ-loop
 loop-less c = omega arith
@@ -53,7 +52,7 @@ loop-again : tie.Need-loop-again Inv-loop μ-loop
 loop-again c = (omega arith, c .offer-pair .ensures)
 
 offer-free-requires : tie.Need-offer-free-requires Inv-loop μ-loop
-offer-free-requires c κs = (c .before .before .before .before .before .before .before .before .before .pre .0, c .before .before .before .before .loop .inv .1, c .before .before .if1 .taken, le-refl _)
+offer-free-requires c κs = (c .before .before .before .before .before .before .before .before .before .pre .0, c .before .before .before .before .loop .inv .1, omega (arith, c .before .before .before .before .before .before .before .before .before .pre .1), le-refl _)
 
 returns : tie.Need-returns Inv-loop μ-loop
 unfolding freeAmount
@@ -69,10 +68,10 @@ free-block-spec =
     (tie.spec
     Inv-loop
     μ-loop
-    mul-start
-    add-start
-    add-start-2
-    start-requires
+    mul-start-block
+    add-start-block
+    add-start-block-2
+    start-block-requires
     loop-holds
     add-loop
     offer-pair-requires

@@ -1,8 +1,8 @@
 -- `choose::further_block` meets its contract. Assumes nothing.
-use Prim.Native.Nat.{ℕ, _+_, _-_, _*_, _≤_, _<_, min}
+use Prim.Native.Nat.{ℕ, _+_, _-_, _*_, _≤_, min}
 use borrow.Author.Needs.{needs}
 use lib.ListN.{length}
-use mathlib.Core.Path.{_≡_, ap, sym, _∙_, subst}
+use mathlib.Core.Path.{ap, _∙_, subst}
 use native.Mathlib.Nat.{le-trans}
 use native.Mathlib.Omega.{arith}
 use Rattle.choose.proofs.Blocks.{leads-as}
@@ -23,7 +23,7 @@ less-requires : tie.Need-less-requires
 less-requires c κs = search needs
 
 add-less-2 : tie.Need-add-less-2
-add-less-2 c = omega (arith, c .before .before .before .before .before .before .pre .0 .account)
+add-less-2 c = omega (arith, c .before .before .before .before .before .before .pre .0 .span .account)
 
 less-requires-2 : tie.Need-less-requires-2
 less-requires-2 c κs = search needs
@@ -32,59 +32,59 @@ smaller-requires : tie.Need-smaller-requires
 smaller-requires c κs = search needs
 
 sub-at : tie.Need-sub-at
-sub-at c = let low = c .before .before .before .less .ensures in let end = c .before .smaller .ensures ∙ ap (min (c .before .before .before .before .before .before .before .before .before .args .n)) (c .before .before .less2 .ensures) in let h = c .if1 .taken in let above = run-above (c .before .before .before .before .before .before .before .before .before .args .n) (c .before .before .before .before .before .before .before .before .before .args .level) (c .before .before .before .before .before .before .before .before .before .args .w) (c .before .before .before .before .before .before .before .before .before .args .from) (c .before .before .before .less .result) (c .before .smaller .result) low end h in let some = run-some (c .before .before .before .before .before .before .before .before .before .args .n) (c .before .before .before .before .before .before .before .before .before .args .level) (c .before .before .before .before .before .before .before .before .before .args .w) (c .before .before .before .before .before .before .before .before .before .args .from) (c .before .before .before .less .result) (c .before .smaller .result) low end h in let fits = run-fits (c .before .before .before .before .before .before .before .before .before .args .n) (c .before .before .before .before .before .before .before .before .before .args .level) (c .before .before .before .before .before .before .before .before .before .args .w) (c .before .before .before .before .before .before .before .before .before .args .from) (c .before .before .before .less .result) (c .before .smaller .result) low end h in omega (arith, c .before .before .before .before .before .before .before .before .before .pre .0 .account, c .before .before .before .before .before .before .before .before .before .pre .0 .rate-is, c .before .before .before .before .before .before .before .before .before .pre .0 .short, c .before .before .before .before .before .before .before .before .before .pre .0 .columns, c .before .before .before .before .before .before .before .before .before .pre .0 .width)
+sub-at c = let low = c .before .before .before .less .ensures in let end = c .before .smaller .ensures ∙ ap (min (c .before .before .before .before .before .before .before .before .before .args .n)) (c .before .before .less2 .ensures) in let h = c .if1 .taken in let above = run-above (c .before .before .before .before .before .before .before .before .before .args .n) (c .before .before .before .before .before .before .before .before .before .args .level) (c .before .before .before .before .before .before .before .before .before .args .w) (c .before .before .before .before .before .before .before .before .before .args .from) (c .before .before .before .less .result) (c .before .smaller .result) low end h in let some = run-some (c .before .before .before .before .before .before .before .before .before .args .n) (c .before .before .before .before .before .before .before .before .before .args .level) (c .before .before .before .before .before .before .before .before .before .args .w) (c .before .before .before .before .before .before .before .before .before .args .from) (c .before .before .before .less .result) (c .before .smaller .result) low end h in let fits = run-fits (c .before .before .before .before .before .before .before .before .before .args .n) (c .before .before .before .before .before .before .before .before .before .args .level) (c .before .before .before .before .before .before .before .before .before .args .w) (c .before .before .before .before .before .before .before .before .before .args .from) (c .before .before .before .less .result) (c .before .smaller .result) low end h in omega (arith, c .before .before .before .before .before .before .before .before .before .pre .0 .span .account, c .before .before .before .before .before .before .before .before .before .pre .0 .rate-is, c .before .before .before .before .before .before .before .before .before .pre .0 .span .short, c .before .before .before .before .before .before .before .before .before .pre .0 .span .columns, c .before .before .before .before .before .before .before .before .before .pre .0 .span .width)
 
 sub-at-2 : tie.Need-sub-at-2
-sub-at-2 c = let low = c .before .before .before .less .ensures in let end = c .before .smaller .ensures ∙ ap (min (c .before .before .before .before .before .before .before .before .before .args .n)) (c .before .before .less2 .ensures) in let h = c .if1 .taken in let above = run-above (c .before .before .before .before .before .before .before .before .before .args .n) (c .before .before .before .before .before .before .before .before .before .args .level) (c .before .before .before .before .before .before .before .before .before .args .w) (c .before .before .before .before .before .before .before .before .before .args .from) (c .before .before .before .less .result) (c .before .smaller .result) low end h in let some = run-some (c .before .before .before .before .before .before .before .before .before .args .n) (c .before .before .before .before .before .before .before .before .before .args .level) (c .before .before .before .before .before .before .before .before .before .args .w) (c .before .before .before .before .before .before .before .before .before .args .from) (c .before .before .before .less .result) (c .before .smaller .result) low end h in let fits = run-fits (c .before .before .before .before .before .before .before .before .before .args .n) (c .before .before .before .before .before .before .before .before .before .args .level) (c .before .before .before .before .before .before .before .before .before .args .w) (c .before .before .before .before .before .before .before .before .before .args .from) (c .before .before .before .less .result) (c .before .smaller .result) low end h in omega (arith, c .before .before .before .before .before .before .before .before .before .pre .0 .account, c .before .before .before .before .before .before .before .before .before .pre .0 .rate-is, c .before .before .before .before .before .before .before .before .before .pre .0 .short, c .before .before .before .before .before .before .before .before .before .pre .0 .columns, c .before .before .before .before .before .before .before .before .before .pre .0 .width)
+sub-at-2 c = let low = c .before .before .before .less .ensures in let end = c .before .smaller .ensures ∙ ap (min (c .before .before .before .before .before .before .before .before .before .args .n)) (c .before .before .less2 .ensures) in let h = c .if1 .taken in let above = run-above (c .before .before .before .before .before .before .before .before .before .args .n) (c .before .before .before .before .before .before .before .before .before .args .level) (c .before .before .before .before .before .before .before .before .before .args .w) (c .before .before .before .before .before .before .before .before .before .args .from) (c .before .before .before .less .result) (c .before .smaller .result) low end h in let some = run-some (c .before .before .before .before .before .before .before .before .before .args .n) (c .before .before .before .before .before .before .before .before .before .args .level) (c .before .before .before .before .before .before .before .before .before .args .w) (c .before .before .before .before .before .before .before .before .before .args .from) (c .before .before .before .less .result) (c .before .smaller .result) low end h in let fits = run-fits (c .before .before .before .before .before .before .before .before .before .args .n) (c .before .before .before .before .before .before .before .before .before .args .level) (c .before .before .before .before .before .before .before .before .before .args .w) (c .before .before .before .before .before .before .before .before .before .args .from) (c .before .before .before .less .result) (c .before .smaller .result) low end h in omega (arith, c .before .before .before .before .before .before .before .before .before .pre .0 .span .account, c .before .before .before .before .before .before .before .before .before .pre .0 .rate-is, c .before .before .before .before .before .before .before .before .before .pre .0 .span .short, c .before .before .before .before .before .before .before .before .before .pre .0 .span .columns, c .before .before .before .before .before .before .before .before .before .pre .0 .span .width)
 
 mul-at : tie.Need-mul-at
 mul-at c =
     let low = c .before .before .before .less .ensures in let end = c .before .smaller .ensures ∙ ap (min (c .before .before .before .before .before .before .before .before .before .args .n)) (c .before .before .less2 .ensures) in let h = c .if1 .taken in let above = run-above (c .before .before .before .before .before .before .before .before .before .args .n) (c .before .before .before .before .before .before .before .before .before .args .level) (c .before .before .before .before .before .before .before .before .before .args .w) (c .before .before .before .before .before .before .before .before .before .args .from) (c .before .before .before .less .result) (c .before .smaller .result) low end h in let some = run-some (c .before .before .before .before .before .before .before .before .before .args .n) (c .before .before .before .before .before .before .before .before .before .args .level) (c .before .before .before .before .before .before .before .before .before .args .w) (c .before .before .before .before .before .before .before .before .before .args .from) (c .before .before .before .less .result) (c .before .smaller .result) low end h in let fits = run-fits (c .before .before .before .before .before .before .before .before .before .args .n) (c .before .before .before .before .before .before .before .before .before .args .level) (c .before .before .before .before .before .before .before .before .before .args .w) (c .before .before .before .before .before .before .before .before .before .args .from) (c .before .before .before .less .result) (c .before .smaller .result) low end h in
-    let r = further-room (c .before .before .before .before .before .before .before .before .before .args .stride) (c .before .before .before .before .before .before .before .before .before .args .w) (c .before .before .before .before .before .before .before .before .before .args .level) (c .before .before .before .before .before .before .before .before .before .args .from + c .before .before .before .less .result - (c .before .before .before .before .before .before .before .before .before .args .level + 1)) (c .before .smaller .result - c .before .before .before .less .result) some (behind (c .before .before .before .before .before .before .before .before .before .args .from) (c .before .before .before .less .result) (c .before .before .before .before .before .before .before .before .before .args .level + 1) (c .before .smaller .result - c .before .before .before .less .result) (c .before .before .before .before .before .before .before .before .before .args .n) (c .before .before .before .before .before .before .before .before .before .args .stride) fits (c .before .before .before .before .before .before .before .before .before .pre .0 .columns)) in
-    let q = rows-step (c .before .before .before .before .before .before .before .before .before .args .stride) (c .before .before .before .before .before .before .before .before .before .args .w) in omega (arith, c .before .before .before .before .before .before .before .before .before .pre .0 .rows)
+    let r = further-room (c .before .before .before .before .before .before .before .before .before .args .stride) (c .before .before .before .before .before .before .before .before .before .args .w) (c .before .before .before .before .before .before .before .before .before .args .level) (c .before .before .before .before .before .before .before .before .before .args .from + c .before .before .before .less .result - (c .before .before .before .before .before .before .before .before .before .args .level + 1)) (c .before .smaller .result - c .before .before .before .less .result) some (behind (c .before .before .before .before .before .before .before .before .before .args .from) (c .before .before .before .less .result) (c .before .before .before .before .before .before .before .before .before .args .level + 1) (c .before .smaller .result - c .before .before .before .less .result) (c .before .before .before .before .before .before .before .before .before .args .n) (c .before .before .before .before .before .before .before .before .before .args .stride) fits (c .before .before .before .before .before .before .before .before .before .pre .0 .span .columns)) in
+    let q = rows-step (c .before .before .before .before .before .before .before .before .before .args .stride) (c .before .before .before .before .before .before .before .before .before .args .w) in omega (arith, c .before .before .before .before .before .before .before .before .before .pre .0 .span .rows)
 
 add-at : tie.Need-add-at
-add-at c = let low = c .before .before .before .less .ensures in let end = c .before .smaller .ensures ∙ ap (min (c .before .before .before .before .before .before .before .before .before .args .n)) (c .before .before .less2 .ensures) in let h = c .if1 .taken in let above = run-above (c .before .before .before .before .before .before .before .before .before .args .n) (c .before .before .before .before .before .before .before .before .before .args .level) (c .before .before .before .before .before .before .before .before .before .args .w) (c .before .before .before .before .before .before .before .before .before .args .from) (c .before .before .before .less .result) (c .before .smaller .result) low end h in let some = run-some (c .before .before .before .before .before .before .before .before .before .args .n) (c .before .before .before .before .before .before .before .before .before .args .level) (c .before .before .before .before .before .before .before .before .before .args .w) (c .before .before .before .before .before .before .before .before .before .args .from) (c .before .before .before .less .result) (c .before .smaller .result) low end h in let fits = run-fits (c .before .before .before .before .before .before .before .before .before .args .n) (c .before .before .before .before .before .before .before .before .before .args .level) (c .before .before .before .before .before .before .before .before .before .args .w) (c .before .before .before .before .before .before .before .before .before .args .from) (c .before .before .before .less .result) (c .before .smaller .result) low end h in omega (arith, c .before .before .before .before .before .before .before .before .before .pre .0 .account, c .before .before .before .before .before .before .before .before .before .pre .0 .rate-is, c .before .before .before .before .before .before .before .before .before .pre .0 .short, c .before .before .before .before .before .before .before .before .before .pre .0 .columns, c .before .before .before .before .before .before .before .before .before .pre .0 .width)
+add-at c = let low = c .before .before .before .less .ensures in let end = c .before .smaller .ensures ∙ ap (min (c .before .before .before .before .before .before .before .before .before .args .n)) (c .before .before .less2 .ensures) in let h = c .if1 .taken in let above = run-above (c .before .before .before .before .before .before .before .before .before .args .n) (c .before .before .before .before .before .before .before .before .before .args .level) (c .before .before .before .before .before .before .before .before .before .args .w) (c .before .before .before .before .before .before .before .before .before .args .from) (c .before .before .before .less .result) (c .before .smaller .result) low end h in let some = run-some (c .before .before .before .before .before .before .before .before .before .args .n) (c .before .before .before .before .before .before .before .before .before .args .level) (c .before .before .before .before .before .before .before .before .before .args .w) (c .before .before .before .before .before .before .before .before .before .args .from) (c .before .before .before .less .result) (c .before .smaller .result) low end h in let fits = run-fits (c .before .before .before .before .before .before .before .before .before .args .n) (c .before .before .before .before .before .before .before .before .before .args .level) (c .before .before .before .before .before .before .before .before .before .args .w) (c .before .before .before .before .before .before .before .before .before .args .from) (c .before .before .before .less .result) (c .before .smaller .result) low end h in omega (arith, c .before .before .before .before .before .before .before .before .before .pre .0 .span .account, c .before .before .before .before .before .before .before .before .before .pre .0 .rate-is, c .before .before .before .before .before .before .before .before .before .pre .0 .span .short, c .before .before .before .before .before .before .before .before .before .pre .0 .span .columns, c .before .before .before .before .before .before .before .before .before .pre .0 .span .width)
 
 add-at-2 : tie.Need-add-at-2
-add-at-2 c = let low = c .before .before .before .less .ensures in let end = c .before .smaller .ensures ∙ ap (min (c .before .before .before .before .before .before .before .before .before .args .n)) (c .before .before .less2 .ensures) in let h = c .if1 .taken in let above = run-above (c .before .before .before .before .before .before .before .before .before .args .n) (c .before .before .before .before .before .before .before .before .before .args .level) (c .before .before .before .before .before .before .before .before .before .args .w) (c .before .before .before .before .before .before .before .before .before .args .from) (c .before .before .before .less .result) (c .before .smaller .result) low end h in let some = run-some (c .before .before .before .before .before .before .before .before .before .args .n) (c .before .before .before .before .before .before .before .before .before .args .level) (c .before .before .before .before .before .before .before .before .before .args .w) (c .before .before .before .before .before .before .before .before .before .args .from) (c .before .before .before .less .result) (c .before .smaller .result) low end h in let fits = run-fits (c .before .before .before .before .before .before .before .before .before .args .n) (c .before .before .before .before .before .before .before .before .before .args .level) (c .before .before .before .before .before .before .before .before .before .args .w) (c .before .before .before .before .before .before .before .before .before .args .from) (c .before .before .before .less .result) (c .before .smaller .result) low end h in omega (arith, c .before .before .before .before .before .before .before .before .before .pre .0 .account, c .before .before .before .before .before .before .before .before .before .pre .0 .rate-is, c .before .before .before .before .before .before .before .before .before .pre .0 .short, c .before .before .before .before .before .before .before .before .before .pre .0 .columns, c .before .before .before .before .before .before .before .before .before .pre .0 .width)
+add-at-2 c = let low = c .before .before .before .less .ensures in let end = c .before .smaller .ensures ∙ ap (min (c .before .before .before .before .before .before .before .before .before .args .n)) (c .before .before .less2 .ensures) in let h = c .if1 .taken in let above = run-above (c .before .before .before .before .before .before .before .before .before .args .n) (c .before .before .before .before .before .before .before .before .before .args .level) (c .before .before .before .before .before .before .before .before .before .args .w) (c .before .before .before .before .before .before .before .before .before .args .from) (c .before .before .before .less .result) (c .before .smaller .result) low end h in let some = run-some (c .before .before .before .before .before .before .before .before .before .args .n) (c .before .before .before .before .before .before .before .before .before .args .level) (c .before .before .before .before .before .before .before .before .before .args .w) (c .before .before .before .before .before .before .before .before .before .args .from) (c .before .before .before .less .result) (c .before .smaller .result) low end h in let fits = run-fits (c .before .before .before .before .before .before .before .before .before .args .n) (c .before .before .before .before .before .before .before .before .before .args .level) (c .before .before .before .before .before .before .before .before .before .args .w) (c .before .before .before .before .before .before .before .before .before .args .from) (c .before .before .before .less .result) (c .before .smaller .result) low end h in omega (arith, c .before .before .before .before .before .before .before .before .before .pre .0 .span .account, c .before .before .before .before .before .before .before .before .before .pre .0 .rate-is, c .before .before .before .before .before .before .before .before .before .pre .0 .span .short, c .before .before .before .before .before .before .before .before .before .pre .0 .span .columns, c .before .before .before .before .before .before .before .before .before .pre .0 .span .width)
 
 sub-at-3 : tie.Need-sub-at-3
-sub-at-3 c = let low = c .before .before .before .less .ensures in let end = c .before .smaller .ensures ∙ ap (min (c .before .before .before .before .before .before .before .before .before .args .n)) (c .before .before .less2 .ensures) in let h = c .if1 .taken in let above = run-above (c .before .before .before .before .before .before .before .before .before .args .n) (c .before .before .before .before .before .before .before .before .before .args .level) (c .before .before .before .before .before .before .before .before .before .args .w) (c .before .before .before .before .before .before .before .before .before .args .from) (c .before .before .before .less .result) (c .before .smaller .result) low end h in let some = run-some (c .before .before .before .before .before .before .before .before .before .args .n) (c .before .before .before .before .before .before .before .before .before .args .level) (c .before .before .before .before .before .before .before .before .before .args .w) (c .before .before .before .before .before .before .before .before .before .args .from) (c .before .before .before .less .result) (c .before .smaller .result) low end h in let fits = run-fits (c .before .before .before .before .before .before .before .before .before .args .n) (c .before .before .before .before .before .before .before .before .before .args .level) (c .before .before .before .before .before .before .before .before .before .args .w) (c .before .before .before .before .before .before .before .before .before .args .from) (c .before .before .before .less .result) (c .before .smaller .result) low end h in omega (arith, c .before .before .before .before .before .before .before .before .before .pre .0 .account, c .before .before .before .before .before .before .before .before .before .pre .0 .rate-is, c .before .before .before .before .before .before .before .before .before .pre .0 .short, c .before .before .before .before .before .before .before .before .before .pre .0 .columns, c .before .before .before .before .before .before .before .before .before .pre .0 .width)
+sub-at-3 c = let low = c .before .before .before .less .ensures in let end = c .before .smaller .ensures ∙ ap (min (c .before .before .before .before .before .before .before .before .before .args .n)) (c .before .before .less2 .ensures) in let h = c .if1 .taken in let above = run-above (c .before .before .before .before .before .before .before .before .before .args .n) (c .before .before .before .before .before .before .before .before .before .args .level) (c .before .before .before .before .before .before .before .before .before .args .w) (c .before .before .before .before .before .before .before .before .before .args .from) (c .before .before .before .less .result) (c .before .smaller .result) low end h in let some = run-some (c .before .before .before .before .before .before .before .before .before .args .n) (c .before .before .before .before .before .before .before .before .before .args .level) (c .before .before .before .before .before .before .before .before .before .args .w) (c .before .before .before .before .before .before .before .before .before .args .from) (c .before .before .before .less .result) (c .before .smaller .result) low end h in let fits = run-fits (c .before .before .before .before .before .before .before .before .before .args .n) (c .before .before .before .before .before .before .before .before .before .args .level) (c .before .before .before .before .before .before .before .before .before .args .w) (c .before .before .before .before .before .before .before .before .before .args .from) (c .before .before .before .less .result) (c .before .smaller .result) low end h in omega (arith, c .before .before .before .before .before .before .before .before .before .pre .0 .span .account, c .before .before .before .before .before .before .before .before .before .pre .0 .rate-is, c .before .before .before .before .before .before .before .before .before .pre .0 .span .short, c .before .before .before .before .before .before .before .before .before .pre .0 .span .columns, c .before .before .before .before .before .before .before .before .before .pre .0 .span .width)
 
 add-at-3 : tie.Need-add-at-3
 add-at-3 c =
     let low = c .before .before .before .less .ensures in let end = c .before .smaller .ensures ∙ ap (min (c .before .before .before .before .before .before .before .before .before .args .n)) (c .before .before .less2 .ensures) in let h = c .if1 .taken in let above = run-above (c .before .before .before .before .before .before .before .before .before .args .n) (c .before .before .before .before .before .before .before .before .before .args .level) (c .before .before .before .before .before .before .before .before .before .args .w) (c .before .before .before .before .before .before .before .before .before .args .from) (c .before .before .before .less .result) (c .before .smaller .result) low end h in let some = run-some (c .before .before .before .before .before .before .before .before .before .args .n) (c .before .before .before .before .before .before .before .before .before .args .level) (c .before .before .before .before .before .before .before .before .before .args .w) (c .before .before .before .before .before .before .before .before .before .args .from) (c .before .before .before .less .result) (c .before .smaller .result) low end h in let fits = run-fits (c .before .before .before .before .before .before .before .before .before .args .n) (c .before .before .before .before .before .before .before .before .before .args .level) (c .before .before .before .before .before .before .before .before .before .args .w) (c .before .before .before .before .before .before .before .before .before .args .from) (c .before .before .before .less .result) (c .before .smaller .result) low end h in
-    let r = further-room (c .before .before .before .before .before .before .before .before .before .args .stride) (c .before .before .before .before .before .before .before .before .before .args .w) (c .before .before .before .before .before .before .before .before .before .args .level) (c .before .before .before .before .before .before .before .before .before .args .from + c .before .before .before .less .result - (c .before .before .before .before .before .before .before .before .before .args .level + 1)) (c .before .smaller .result - c .before .before .before .less .result) some (behind (c .before .before .before .before .before .before .before .before .before .args .from) (c .before .before .before .less .result) (c .before .before .before .before .before .before .before .before .before .args .level + 1) (c .before .smaller .result - c .before .before .before .less .result) (c .before .before .before .before .before .before .before .before .before .args .n) (c .before .before .before .before .before .before .before .before .before .args .stride) fits (c .before .before .before .before .before .before .before .before .before .pre .0 .columns)) in
-    let q = rows-step (c .before .before .before .before .before .before .before .before .before .args .stride) (c .before .before .before .before .before .before .before .before .before .args .w) in omega (arith, c .before .before .before .before .before .before .before .before .before .pre .0 .rows)
+    let r = further-room (c .before .before .before .before .before .before .before .before .before .args .stride) (c .before .before .before .before .before .before .before .before .before .args .w) (c .before .before .before .before .before .before .before .before .before .args .level) (c .before .before .before .before .before .before .before .before .before .args .from + c .before .before .before .less .result - (c .before .before .before .before .before .before .before .before .before .args .level + 1)) (c .before .smaller .result - c .before .before .before .less .result) some (behind (c .before .before .before .before .before .before .before .before .before .args .from) (c .before .before .before .less .result) (c .before .before .before .before .before .before .before .before .before .args .level + 1) (c .before .smaller .result - c .before .before .before .less .result) (c .before .before .before .before .before .before .before .before .before .args .n) (c .before .before .before .before .before .before .before .before .before .args .stride) fits (c .before .before .before .before .before .before .before .before .before .pre .0 .span .columns)) in
+    let q = rows-step (c .before .before .before .before .before .before .before .before .before .args .stride) (c .before .before .before .before .before .before .before .before .before .args .w) in omega (arith, c .before .before .before .before .before .before .before .before .before .pre .0 .span .rows)
 
 mul-cash : tie.Need-mul-cash
-mul-cash c = let low = c .before .before .before .less .ensures in let end = c .before .smaller .ensures ∙ ap (min (c .before .before .before .before .before .before .before .before .before .args .n)) (c .before .before .less2 .ensures) in let h = c .if1 .taken in let above = run-above (c .before .before .before .before .before .before .before .before .before .args .n) (c .before .before .before .before .before .before .before .before .before .args .level) (c .before .before .before .before .before .before .before .before .before .args .w) (c .before .before .before .before .before .before .before .before .before .args .from) (c .before .before .before .less .result) (c .before .smaller .result) low end h in let some = run-some (c .before .before .before .before .before .before .before .before .before .args .n) (c .before .before .before .before .before .before .before .before .before .args .level) (c .before .before .before .before .before .before .before .before .before .args .w) (c .before .before .before .before .before .before .before .before .before .args .from) (c .before .before .before .less .result) (c .before .smaller .result) low end h in let fits = run-fits (c .before .before .before .before .before .before .before .before .before .args .n) (c .before .before .before .before .before .before .before .before .before .args .level) (c .before .before .before .before .before .before .before .before .before .args .w) (c .before .before .before .before .before .before .before .before .before .args .from) (c .before .before .before .less .result) (c .before .smaller .result) low end h in omega (arith, c .before .before .before .before .before .before .before .before .before .pre .0 .account, c .before .before .before .before .before .before .before .before .before .pre .0 .rate-is, c .before .before .before .before .before .before .before .before .before .pre .0 .short, c .before .before .before .before .before .before .before .before .before .pre .0 .columns, c .before .before .before .before .before .before .before .before .before .pre .0 .width)
+mul-cash c = let low = c .before .before .before .less .ensures in let end = c .before .smaller .ensures ∙ ap (min (c .before .before .before .before .before .before .before .before .before .args .n)) (c .before .before .less2 .ensures) in let h = c .if1 .taken in let above = run-above (c .before .before .before .before .before .before .before .before .before .args .n) (c .before .before .before .before .before .before .before .before .before .args .level) (c .before .before .before .before .before .before .before .before .before .args .w) (c .before .before .before .before .before .before .before .before .before .args .from) (c .before .before .before .less .result) (c .before .smaller .result) low end h in let some = run-some (c .before .before .before .before .before .before .before .before .before .args .n) (c .before .before .before .before .before .before .before .before .before .args .level) (c .before .before .before .before .before .before .before .before .before .args .w) (c .before .before .before .before .before .before .before .before .before .args .from) (c .before .before .before .less .result) (c .before .smaller .result) low end h in let fits = run-fits (c .before .before .before .before .before .before .before .before .before .args .n) (c .before .before .before .before .before .before .before .before .before .args .level) (c .before .before .before .before .before .before .before .before .before .args .w) (c .before .before .before .before .before .before .before .before .before .args .from) (c .before .before .before .less .result) (c .before .smaller .result) low end h in omega (arith, c .before .before .before .before .before .before .before .before .before .pre .0 .span .account, c .before .before .before .before .before .before .before .before .before .pre .0 .rate-is, c .before .before .before .before .before .before .before .before .before .pre .0 .span .short, c .before .before .before .before .before .before .before .before .before .pre .0 .span .columns, c .before .before .before .before .before .before .before .before .before .pre .0 .span .width)
 
 sub-cash : tie.Need-sub-cash
-sub-cash c = let low = c .before .before .before .less .ensures in let end = c .before .smaller .ensures ∙ ap (min (c .before .before .before .before .before .before .before .before .before .args .n)) (c .before .before .less2 .ensures) in let h = c .if1 .taken in let above = run-above (c .before .before .before .before .before .before .before .before .before .args .n) (c .before .before .before .before .before .before .before .before .before .args .level) (c .before .before .before .before .before .before .before .before .before .args .w) (c .before .before .before .before .before .before .before .before .before .args .from) (c .before .before .before .less .result) (c .before .smaller .result) low end h in let some = run-some (c .before .before .before .before .before .before .before .before .before .args .n) (c .before .before .before .before .before .before .before .before .before .args .level) (c .before .before .before .before .before .before .before .before .before .args .w) (c .before .before .before .before .before .before .before .before .before .args .from) (c .before .before .before .less .result) (c .before .smaller .result) low end h in let fits = run-fits (c .before .before .before .before .before .before .before .before .before .args .n) (c .before .before .before .before .before .before .before .before .before .args .level) (c .before .before .before .before .before .before .before .before .before .args .w) (c .before .before .before .before .before .before .before .before .before .args .from) (c .before .before .before .less .result) (c .before .smaller .result) low end h in omega (arith, c .before .before .before .before .before .before .before .before .before .pre .0 .account, c .before .before .before .before .before .before .before .before .before .pre .0 .rate-is, c .before .before .before .before .before .before .before .before .before .pre .0 .short, c .before .before .before .before .before .before .before .before .before .pre .0 .columns, c .before .before .before .before .before .before .before .before .before .pre .0 .width)
+sub-cash c = let low = c .before .before .before .less .ensures in let end = c .before .smaller .ensures ∙ ap (min (c .before .before .before .before .before .before .before .before .before .args .n)) (c .before .before .less2 .ensures) in let h = c .if1 .taken in let above = run-above (c .before .before .before .before .before .before .before .before .before .args .n) (c .before .before .before .before .before .before .before .before .before .args .level) (c .before .before .before .before .before .before .before .before .before .args .w) (c .before .before .before .before .before .before .before .before .before .args .from) (c .before .before .before .less .result) (c .before .smaller .result) low end h in let some = run-some (c .before .before .before .before .before .before .before .before .before .args .n) (c .before .before .before .before .before .before .before .before .before .args .level) (c .before .before .before .before .before .before .before .before .before .args .w) (c .before .before .before .before .before .before .before .before .before .args .from) (c .before .before .before .less .result) (c .before .smaller .result) low end h in let fits = run-fits (c .before .before .before .before .before .before .before .before .before .args .n) (c .before .before .before .before .before .before .before .before .before .args .level) (c .before .before .before .before .before .before .before .before .before .args .w) (c .before .before .before .before .before .before .before .before .before .args .from) (c .before .before .before .less .result) (c .before .smaller .result) low end h in omega (arith, c .before .before .before .before .before .before .before .before .before .pre .0 .span .account, c .before .before .before .before .before .before .before .before .before .pre .0 .rate-is, c .before .before .before .before .before .before .before .before .before .pre .0 .span .short, c .before .before .before .before .before .before .before .before .before .pre .0 .span .columns, c .before .before .before .before .before .before .before .before .before .pre .0 .span .width)
 
 add-cash : tie.Need-add-cash
-add-cash c = let low = c .before .before .before .less .ensures in let end = c .before .smaller .ensures ∙ ap (min (c .before .before .before .before .before .before .before .before .before .args .n)) (c .before .before .less2 .ensures) in let h = c .if1 .taken in let above = run-above (c .before .before .before .before .before .before .before .before .before .args .n) (c .before .before .before .before .before .before .before .before .before .args .level) (c .before .before .before .before .before .before .before .before .before .args .w) (c .before .before .before .before .before .before .before .before .before .args .from) (c .before .before .before .less .result) (c .before .smaller .result) low end h in let some = run-some (c .before .before .before .before .before .before .before .before .before .args .n) (c .before .before .before .before .before .before .before .before .before .args .level) (c .before .before .before .before .before .before .before .before .before .args .w) (c .before .before .before .before .before .before .before .before .before .args .from) (c .before .before .before .less .result) (c .before .smaller .result) low end h in let fits = run-fits (c .before .before .before .before .before .before .before .before .before .args .n) (c .before .before .before .before .before .before .before .before .before .args .level) (c .before .before .before .before .before .before .before .before .before .args .w) (c .before .before .before .before .before .before .before .before .before .args .from) (c .before .before .before .less .result) (c .before .smaller .result) low end h in omega (arith, c .before .before .before .before .before .before .before .before .before .pre .0 .account, c .before .before .before .before .before .before .before .before .before .pre .0 .rate-is, c .before .before .before .before .before .before .before .before .before .pre .0 .short, c .before .before .before .before .before .before .before .before .before .pre .0 .columns, c .before .before .before .before .before .before .before .before .before .pre .0 .width)
+add-cash c = let low = c .before .before .before .less .ensures in let end = c .before .smaller .ensures ∙ ap (min (c .before .before .before .before .before .before .before .before .before .args .n)) (c .before .before .less2 .ensures) in let h = c .if1 .taken in let above = run-above (c .before .before .before .before .before .before .before .before .before .args .n) (c .before .before .before .before .before .before .before .before .before .args .level) (c .before .before .before .before .before .before .before .before .before .args .w) (c .before .before .before .before .before .before .before .before .before .args .from) (c .before .before .before .less .result) (c .before .smaller .result) low end h in let some = run-some (c .before .before .before .before .before .before .before .before .before .args .n) (c .before .before .before .before .before .before .before .before .before .args .level) (c .before .before .before .before .before .before .before .before .before .args .w) (c .before .before .before .before .before .before .before .before .before .args .from) (c .before .before .before .less .result) (c .before .smaller .result) low end h in let fits = run-fits (c .before .before .before .before .before .before .before .before .before .args .n) (c .before .before .before .before .before .before .before .before .before .args .level) (c .before .before .before .before .before .before .before .before .before .args .w) (c .before .before .before .before .before .before .before .before .before .args .from) (c .before .before .before .less .result) (c .before .smaller .result) low end h in omega (arith, c .before .before .before .before .before .before .before .before .before .pre .0 .span .account, c .before .before .before .before .before .before .before .before .before .pre .0 .rate-is, c .before .before .before .before .before .before .before .before .before .pre .0 .span .short, c .before .before .before .before .before .before .before .before .before .pre .0 .span .columns, c .before .before .before .before .before .before .before .before .before .pre .0 .span .width)
 
 cast-cash : tie.Need-cast-cash
-cast-cash c = let low = c .before .before .before .less .ensures in let end = c .before .smaller .ensures ∙ ap (min (c .before .before .before .before .before .before .before .before .before .args .n)) (c .before .before .less2 .ensures) in let h = c .if1 .taken in let above = run-above (c .before .before .before .before .before .before .before .before .before .args .n) (c .before .before .before .before .before .before .before .before .before .args .level) (c .before .before .before .before .before .before .before .before .before .args .w) (c .before .before .before .before .before .before .before .before .before .args .from) (c .before .before .before .less .result) (c .before .smaller .result) low end h in let some = run-some (c .before .before .before .before .before .before .before .before .before .args .n) (c .before .before .before .before .before .before .before .before .before .args .level) (c .before .before .before .before .before .before .before .before .before .args .w) (c .before .before .before .before .before .before .before .before .before .args .from) (c .before .before .before .less .result) (c .before .smaller .result) low end h in let fits = run-fits (c .before .before .before .before .before .before .before .before .before .args .n) (c .before .before .before .before .before .before .before .before .before .args .level) (c .before .before .before .before .before .before .before .before .before .args .w) (c .before .before .before .before .before .before .before .before .before .args .from) (c .before .before .before .less .result) (c .before .smaller .result) low end h in omega (arith, c .before .before .before .before .before .before .before .before .before .pre .0 .account, c .before .before .before .before .before .before .before .before .before .pre .0 .rate-is, c .before .before .before .before .before .before .before .before .before .pre .0 .short, c .before .before .before .before .before .before .before .before .before .pre .0 .columns, c .before .before .before .before .before .before .before .before .before .pre .0 .width)
+cast-cash c = let low = c .before .before .before .less .ensures in let end = c .before .smaller .ensures ∙ ap (min (c .before .before .before .before .before .before .before .before .before .args .n)) (c .before .before .less2 .ensures) in let h = c .if1 .taken in let above = run-above (c .before .before .before .before .before .before .before .before .before .args .n) (c .before .before .before .before .before .before .before .before .before .args .level) (c .before .before .before .before .before .before .before .before .before .args .w) (c .before .before .before .before .before .before .before .before .before .args .from) (c .before .before .before .less .result) (c .before .smaller .result) low end h in let some = run-some (c .before .before .before .before .before .before .before .before .before .args .n) (c .before .before .before .before .before .before .before .before .before .args .level) (c .before .before .before .before .before .before .before .before .before .args .w) (c .before .before .before .before .before .before .before .before .before .args .from) (c .before .before .before .less .result) (c .before .smaller .result) low end h in let fits = run-fits (c .before .before .before .before .before .before .before .before .before .args .n) (c .before .before .before .before .before .before .before .before .before .args .level) (c .before .before .before .before .before .before .before .before .before .args .w) (c .before .before .before .before .before .before .before .before .before .args .from) (c .before .before .before .less .result) (c .before .smaller .result) low end h in omega (arith, c .before .before .before .before .before .before .before .before .before .pre .0 .span .account, c .before .before .before .before .before .before .before .before .before .pre .0 .rate-is, c .before .before .before .before .before .before .before .before .before .pre .0 .span .short, c .before .before .before .before .before .before .before .before .before .pre .0 .span .columns, c .before .before .before .before .before .before .before .before .before .pre .0 .span .width)
 
 sub-offer-further : tie.Need-sub-offer-further
-sub-offer-further c = let low = c .before .before .before .before .before .less .ensures in let end = c .before .before .before .smaller .ensures ∙ ap (min (c .before .before .before .before .before .before .before .before .before .before .before .args .n)) (c .before .before .before .before .less2 .ensures) in let h = c .before .before .if1 .taken in let above = run-above (c .before .before .before .before .before .before .before .before .before .before .before .args .n) (c .before .before .before .before .before .before .before .before .before .before .before .args .level) (c .before .before .before .before .before .before .before .before .before .before .before .args .w) (c .before .before .before .before .before .before .before .before .before .before .before .args .from) (c .before .before .before .before .before .less .result) (c .before .before .before .smaller .result) low end h in let some = run-some (c .before .before .before .before .before .before .before .before .before .before .before .args .n) (c .before .before .before .before .before .before .before .before .before .before .before .args .level) (c .before .before .before .before .before .before .before .before .before .before .before .args .w) (c .before .before .before .before .before .before .before .before .before .before .before .args .from) (c .before .before .before .before .before .less .result) (c .before .before .before .smaller .result) low end h in let fits = run-fits (c .before .before .before .before .before .before .before .before .before .before .before .args .n) (c .before .before .before .before .before .before .before .before .before .before .before .args .level) (c .before .before .before .before .before .before .before .before .before .before .before .args .w) (c .before .before .before .before .before .before .before .before .before .before .before .args .from) (c .before .before .before .before .before .less .result) (c .before .before .before .smaller .result) low end h in omega (arith, c .before .before .before .before .before .before .before .before .before .before .before .pre .0 .account, c .before .before .before .before .before .before .before .before .before .before .before .pre .0 .rate-is, c .before .before .before .before .before .before .before .before .before .before .before .pre .0 .short, c .before .before .before .before .before .before .before .before .before .before .before .pre .0 .columns, c .before .before .before .before .before .before .before .before .before .before .before .pre .0 .width)
+sub-offer-further c = let low = c .before .before .before .before .before .less .ensures in let end = c .before .before .before .smaller .ensures ∙ ap (min (c .before .before .before .before .before .before .before .before .before .before .before .args .n)) (c .before .before .before .before .less2 .ensures) in let h = c .before .before .if1 .taken in let above = run-above (c .before .before .before .before .before .before .before .before .before .before .before .args .n) (c .before .before .before .before .before .before .before .before .before .before .before .args .level) (c .before .before .before .before .before .before .before .before .before .before .before .args .w) (c .before .before .before .before .before .before .before .before .before .before .before .args .from) (c .before .before .before .before .before .less .result) (c .before .before .before .smaller .result) low end h in let some = run-some (c .before .before .before .before .before .before .before .before .before .before .before .args .n) (c .before .before .before .before .before .before .before .before .before .before .before .args .level) (c .before .before .before .before .before .before .before .before .before .before .before .args .w) (c .before .before .before .before .before .before .before .before .before .before .before .args .from) (c .before .before .before .before .before .less .result) (c .before .before .before .smaller .result) low end h in let fits = run-fits (c .before .before .before .before .before .before .before .before .before .before .before .args .n) (c .before .before .before .before .before .before .before .before .before .before .before .args .level) (c .before .before .before .before .before .before .before .before .before .before .before .args .w) (c .before .before .before .before .before .before .before .before .before .before .before .args .from) (c .before .before .before .before .before .less .result) (c .before .before .before .smaller .result) low end h in omega (arith, c .before .before .before .before .before .before .before .before .before .before .before .pre .0 .span .account, c .before .before .before .before .before .before .before .before .before .before .before .pre .0 .rate-is, c .before .before .before .before .before .before .before .before .before .before .before .pre .0 .span .short, c .before .before .before .before .before .before .before .before .before .before .before .pre .0 .span .columns, c .before .before .before .before .before .before .before .before .before .before .before .pre .0 .span .width)
 
 add-offer-further : tie.Need-add-offer-further
-add-offer-further c = let low = c .before .before .before .before .before .less .ensures in let end = c .before .before .before .smaller .ensures ∙ ap (min (c .before .before .before .before .before .before .before .before .before .before .before .args .n)) (c .before .before .before .before .less2 .ensures) in let h = c .before .before .if1 .taken in let above = run-above (c .before .before .before .before .before .before .before .before .before .before .before .args .n) (c .before .before .before .before .before .before .before .before .before .before .before .args .level) (c .before .before .before .before .before .before .before .before .before .before .before .args .w) (c .before .before .before .before .before .before .before .before .before .before .before .args .from) (c .before .before .before .before .before .less .result) (c .before .before .before .smaller .result) low end h in let some = run-some (c .before .before .before .before .before .before .before .before .before .before .before .args .n) (c .before .before .before .before .before .before .before .before .before .before .before .args .level) (c .before .before .before .before .before .before .before .before .before .before .before .args .w) (c .before .before .before .before .before .before .before .before .before .before .before .args .from) (c .before .before .before .before .before .less .result) (c .before .before .before .smaller .result) low end h in let fits = run-fits (c .before .before .before .before .before .before .before .before .before .before .before .args .n) (c .before .before .before .before .before .before .before .before .before .before .before .args .level) (c .before .before .before .before .before .before .before .before .before .before .before .args .w) (c .before .before .before .before .before .before .before .before .before .before .before .args .from) (c .before .before .before .before .before .less .result) (c .before .before .before .smaller .result) low end h in omega (arith, c .before .before .before .before .before .before .before .before .before .before .before .pre .0 .account, c .before .before .before .before .before .before .before .before .before .before .before .pre .0 .rate-is, c .before .before .before .before .before .before .before .before .before .before .before .pre .0 .short, c .before .before .before .before .before .before .before .before .before .before .before .pre .0 .columns, c .before .before .before .before .before .before .before .before .before .before .before .pre .0 .width)
+add-offer-further c = let low = c .before .before .before .before .before .less .ensures in let end = c .before .before .before .smaller .ensures ∙ ap (min (c .before .before .before .before .before .before .before .before .before .before .before .args .n)) (c .before .before .before .before .less2 .ensures) in let h = c .before .before .if1 .taken in let above = run-above (c .before .before .before .before .before .before .before .before .before .before .before .args .n) (c .before .before .before .before .before .before .before .before .before .before .before .args .level) (c .before .before .before .before .before .before .before .before .before .before .before .args .w) (c .before .before .before .before .before .before .before .before .before .before .before .args .from) (c .before .before .before .before .before .less .result) (c .before .before .before .smaller .result) low end h in let some = run-some (c .before .before .before .before .before .before .before .before .before .before .before .args .n) (c .before .before .before .before .before .before .before .before .before .before .before .args .level) (c .before .before .before .before .before .before .before .before .before .before .before .args .w) (c .before .before .before .before .before .before .before .before .before .before .before .args .from) (c .before .before .before .before .before .less .result) (c .before .before .before .smaller .result) low end h in let fits = run-fits (c .before .before .before .before .before .before .before .before .before .before .before .args .n) (c .before .before .before .before .before .before .before .before .before .before .before .args .level) (c .before .before .before .before .before .before .before .before .before .before .before .args .w) (c .before .before .before .before .before .before .before .before .before .before .before .args .from) (c .before .before .before .before .before .less .result) (c .before .before .before .smaller .result) low end h in omega (arith, c .before .before .before .before .before .before .before .before .before .before .before .pre .0 .span .account, c .before .before .before .before .before .before .before .before .before .before .before .pre .0 .rate-is, c .before .before .before .before .before .before .before .before .before .before .before .pre .0 .span .short, c .before .before .before .before .before .before .before .before .before .before .before .pre .0 .span .columns, c .before .before .before .before .before .before .before .before .before .before .before .pre .0 .span .width)
 
 cast-offer-further : tie.Need-cast-offer-further
-cast-offer-further c = let low = c .before .before .before .before .before .less .ensures in let end = c .before .before .before .smaller .ensures ∙ ap (min (c .before .before .before .before .before .before .before .before .before .before .before .args .n)) (c .before .before .before .before .less2 .ensures) in let h = c .before .before .if1 .taken in let above = run-above (c .before .before .before .before .before .before .before .before .before .before .before .args .n) (c .before .before .before .before .before .before .before .before .before .before .before .args .level) (c .before .before .before .before .before .before .before .before .before .before .before .args .w) (c .before .before .before .before .before .before .before .before .before .before .before .args .from) (c .before .before .before .before .before .less .result) (c .before .before .before .smaller .result) low end h in let some = run-some (c .before .before .before .before .before .before .before .before .before .before .before .args .n) (c .before .before .before .before .before .before .before .before .before .before .before .args .level) (c .before .before .before .before .before .before .before .before .before .before .before .args .w) (c .before .before .before .before .before .before .before .before .before .before .before .args .from) (c .before .before .before .before .before .less .result) (c .before .before .before .smaller .result) low end h in let fits = run-fits (c .before .before .before .before .before .before .before .before .before .before .before .args .n) (c .before .before .before .before .before .before .before .before .before .before .before .args .level) (c .before .before .before .before .before .before .before .before .before .before .before .args .w) (c .before .before .before .before .before .before .before .before .before .before .before .args .from) (c .before .before .before .before .before .less .result) (c .before .before .before .smaller .result) low end h in omega (arith, c .before .before .before .before .before .before .before .before .before .before .before .pre .0 .account, c .before .before .before .before .before .before .before .before .before .before .before .pre .0 .rate-is, c .before .before .before .before .before .before .before .before .before .before .before .pre .0 .short, c .before .before .before .before .before .before .before .before .before .before .before .pre .0 .columns, c .before .before .before .before .before .before .before .before .before .before .before .pre .0 .width)
+cast-offer-further c = let low = c .before .before .before .before .before .less .ensures in let end = c .before .before .before .smaller .ensures ∙ ap (min (c .before .before .before .before .before .before .before .before .before .before .before .args .n)) (c .before .before .before .before .less2 .ensures) in let h = c .before .before .if1 .taken in let above = run-above (c .before .before .before .before .before .before .before .before .before .before .before .args .n) (c .before .before .before .before .before .before .before .before .before .before .before .args .level) (c .before .before .before .before .before .before .before .before .before .before .before .args .w) (c .before .before .before .before .before .before .before .before .before .before .before .args .from) (c .before .before .before .before .before .less .result) (c .before .before .before .smaller .result) low end h in let some = run-some (c .before .before .before .before .before .before .before .before .before .before .before .args .n) (c .before .before .before .before .before .before .before .before .before .before .before .args .level) (c .before .before .before .before .before .before .before .before .before .before .before .args .w) (c .before .before .before .before .before .before .before .before .before .before .before .args .from) (c .before .before .before .before .before .less .result) (c .before .before .before .smaller .result) low end h in let fits = run-fits (c .before .before .before .before .before .before .before .before .before .before .before .args .n) (c .before .before .before .before .before .before .before .before .before .before .before .args .level) (c .before .before .before .before .before .before .before .before .before .before .before .args .w) (c .before .before .before .before .before .before .before .before .before .before .before .args .from) (c .before .before .before .before .before .less .result) (c .before .before .before .smaller .result) low end h in omega (arith, c .before .before .before .before .before .before .before .before .before .before .before .pre .0 .span .account, c .before .before .before .before .before .before .before .before .before .before .before .pre .0 .rate-is, c .before .before .before .before .before .before .before .before .before .before .before .pre .0 .span .short, c .before .before .before .before .before .before .before .before .before .before .before .pre .0 .span .columns, c .before .before .before .before .before .before .before .before .before .before .before .pre .0 .span .width)
 
 offer-further-requires : tie.Need-offer-further-requires
 offer-further-requires c κs =
     let low = c .before .before .before .before .before .less .ensures in let end = c .before .before .before .smaller .ensures ∙ ap (min (c .before .before .before .before .before .before .before .before .before .before .before .args .n)) (c .before .before .before .before .less2 .ensures) in let h = c .before .before .if1 .taken in let above = run-above (c .before .before .before .before .before .before .before .before .before .before .before .args .n) (c .before .before .before .before .before .before .before .before .before .before .before .args .level) (c .before .before .before .before .before .before .before .before .before .before .before .args .w) (c .before .before .before .before .before .before .before .before .before .before .before .args .from) (c .before .before .before .before .before .less .result) (c .before .before .before .smaller .result) low end h in let some = run-some (c .before .before .before .before .before .before .before .before .before .before .before .args .n) (c .before .before .before .before .before .before .before .before .before .before .before .args .level) (c .before .before .before .before .before .before .before .before .before .before .before .args .w) (c .before .before .before .before .before .before .before .before .before .before .before .args .from) (c .before .before .before .before .before .less .result) (c .before .before .before .smaller .result) low end h in let fits = run-fits (c .before .before .before .before .before .before .before .before .before .before .before .args .n) (c .before .before .before .before .before .before .before .before .before .before .before .args .level) (c .before .before .before .before .before .before .before .before .before .before .before .args .w) (c .before .before .before .before .before .before .before .before .before .before .before .args .from) (c .before .before .before .before .before .less .result) (c .before .before .before .smaller .result) low end h in
-    let r = further-room (c .before .before .before .before .before .before .before .before .before .before .before .args .stride) (c .before .before .before .before .before .before .before .before .before .before .before .args .w) (c .before .before .before .before .before .before .before .before .before .before .before .args .level) (c .before .before .before .before .before .before .before .before .before .before .before .args .from + c .before .before .before .before .before .less .result - (c .before .before .before .before .before .before .before .before .before .before .before .args .level + 1)) (c .before .before .before .smaller .result - c .before .before .before .before .before .less .result) some (behind (c .before .before .before .before .before .before .before .before .before .before .before .args .from) (c .before .before .before .before .before .less .result) (c .before .before .before .before .before .before .before .before .before .before .before .args .level + 1) (c .before .before .before .smaller .result - c .before .before .before .before .before .less .result) (c .before .before .before .before .before .before .before .before .before .before .before .args .n) (c .before .before .before .before .before .before .before .before .before .before .before .args .stride) fits (c .before .before .before .before .before .before .before .before .before .before .before .pre .0 .columns)) in
+    let r = further-room (c .before .before .before .before .before .before .before .before .before .before .before .args .stride) (c .before .before .before .before .before .before .before .before .before .before .before .args .w) (c .before .before .before .before .before .before .before .before .before .before .before .args .level) (c .before .before .before .before .before .before .before .before .before .before .before .args .from + c .before .before .before .before .before .less .result - (c .before .before .before .before .before .before .before .before .before .before .before .args .level + 1)) (c .before .before .before .smaller .result - c .before .before .before .before .before .less .result) some (behind (c .before .before .before .before .before .before .before .before .before .before .before .args .from) (c .before .before .before .before .before .less .result) (c .before .before .before .before .before .before .before .before .before .before .before .args .level + 1) (c .before .before .before .smaller .result - c .before .before .before .before .before .less .result) (c .before .before .before .before .before .before .before .before .before .before .before .args .n) (c .before .before .before .before .before .before .before .before .before .before .before .args .stride) fits (c .before .before .before .before .before .before .before .before .before .before .before .pre .0 .span .columns)) in
     let q = rows-step (c .before .before .before .before .before .before .before .before .before .before .before .args .stride) (c .before .before .before .before .before .before .before .before .before .before .before .args .w) in
-    (le-trans fits (c .before .before .before .before .before .before .before .before .before .before .before .pre .0 .short), le-trans r (let z : c .before .before .before .before .before .before .before .before .before .before .before .args .w * c .before .before .before .before .before .before .before .before .before .before .before .args .stride ≤ length (c .before .before .before .before .before .before .before .before .before .before .before .args .work .now) = omega (arith, c .before .before .before .before .before .before .before .before .before .before .before .pre .0 .rows) in z), le-trans r (c .before .before .before .before .before .before .before .before .before .before .before .pre .1), further-small (c .before .before .before .before .before .before .before .before .before .before .before .pre .0) (c .before .before .before .before .before .before .before .before .before .before .before .pre .2) (c .before .before .before .before .before .before .before .before .before .before .before .pre .1) (c .before .before .before .before .before .before .before .before .before .before .before .args .level) (c .before .before .before .before .before .less .result) (c .before .before .before .smaller .result - c .before .before .before .before .before .less .result) _ some fits (λ i l. run-free (c .before .before .before .before .before .before .before .before .before .before .before .args .level) (c .before .before .before .before .before .before .before .before .before .before .before .args .from) (c .before .before .before .before .before .less .result) i above) (run-under (c .before .before .before .before .before .before .before .before .before .before .before .args .n) (c .before .before .before .before .before .before .before .before .before .before .before .args .level) (c .before .before .before .before .before .before .before .before .before .before .before .args .w) (c .before .before .before .before .before .before .before .before .before .before .before .args .from) (c .before .before .before .before .before .less .result) (c .before .before .before .smaller .result) low end) (λ i l. run-place (c .before .before .before .before .before .before .before .before .before .before .before .args .w) (c .before .before .before .before .before .before .before .before .before .before .before .args .stride) (c .before .before .before .before .before .before .before .before .before .before .before .args .from) (c .before .before .before .before .before .before .before .before .before .before .before .args .level) (c .before .before .before .before .before .less .result) i above), omega (arith, c .before .before .before .before .before .before .before .before .before .before .before .pre .0 .level-is))
+    (le-trans fits (c .before .before .before .before .before .before .before .before .before .before .before .pre .0 .span .short), le-trans r (let z : c .before .before .before .before .before .before .before .before .before .before .before .args .w * c .before .before .before .before .before .before .before .before .before .before .before .args .stride ≤ length (c .before .before .before .before .before .before .before .before .before .before .before .args .work .now) = omega (arith, c .before .before .before .before .before .before .before .before .before .before .before .pre .0 .span .rows) in z), le-trans r (c .before .before .before .before .before .before .before .before .before .before .before .pre .1), further-small (c .before .before .before .before .before .before .before .before .before .before .before .pre .0) (c .before .before .before .before .before .before .before .before .before .before .before .pre .2) (c .before .before .before .before .before .before .before .before .before .before .before .pre .1) (c .before .before .before .before .before .before .before .before .before .before .before .args .level) (c .before .before .before .before .before .less .result) (c .before .before .before .smaller .result - c .before .before .before .before .before .less .result) _ some fits (λ i l. run-free (c .before .before .before .before .before .before .before .before .before .before .before .args .level) (c .before .before .before .before .before .before .before .before .before .before .before .args .from) (c .before .before .before .before .before .less .result) i above) (run-under (c .before .before .before .before .before .before .before .before .before .before .before .args .n) (c .before .before .before .before .before .before .before .before .before .before .before .args .level) (c .before .before .before .before .before .before .before .before .before .before .before .args .w) (c .before .before .before .before .before .before .before .before .before .before .before .args .from) (c .before .before .before .before .before .less .result) (c .before .before .before .smaller .result) low end) (λ i l. run-place (c .before .before .before .before .before .before .before .before .before .before .before .args .w) (c .before .before .before .before .before .before .before .before .before .before .before .args .stride) (c .before .before .before .before .before .before .before .before .before .before .before .args .from) (c .before .before .before .before .before .before .before .before .before .before .before .args .level) (c .before .before .before .before .before .less .result) i above), omega (arith, c .before .before .before .before .before .before .before .before .before .before .before .pre .0 .level-is))
 
 returns : tie.Need-returns
 returns c =

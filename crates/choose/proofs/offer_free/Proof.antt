@@ -1,7 +1,7 @@
 -- `choose::offer_free` meets its contract. Assumes nothing.
 use Prim.Native.Nat.{ℕ, _+_, _-_, _*_, min}
 use borrow.Author.Needs.{needs}
-use mathlib.Core.Path.{_≡_, ap, ap₂, _∙_}
+use mathlib.Core.Path.{ap, ap₂, _∙_}
 use native.Mathlib.Omega.{arith}
 use Rattle.choose.proofs.Entries.{block-room}
 use Rattle.choose.proofs.Free.{free-room, free-small, free-one, reached}
@@ -9,7 +9,7 @@ use Rattle.choose.proofs.offer_free.Statement.{statement}
 use Rattle.choose.proofs.offer_free.Tie as tie
 
 add-less : tie.Need-add-less
-add-less c = omega (arith, c .before .pre .0 .level-is, c .before .pre .0 .columns, c .before .pre .0 .width, c .before .pre .0 .short)
+add-less c = omega (arith, c .before .pre .2, c .before .pre .0 .columns, c .before .pre .0 .width, c .before .pre .0 .short)
 
 less-requires : tie.Need-less-requires
 less-requires c κs = search needs
@@ -18,7 +18,7 @@ smaller-requires : tie.Need-smaller-requires
 smaller-requires c κs = search needs
 
 add-less-2 : tie.Need-add-less-2
-add-less-2 c = omega (arith, c .before .before .before .pre .0 .level-is, c .before .before .before .pre .0 .columns, c .before .before .before .pre .0 .width, c .before .before .before .pre .0 .short)
+add-less-2 c = omega (arith, c .before .before .before .pre .2, c .before .before .before .pre .0 .columns, c .before .before .before .pre .0 .width, c .before .before .before .pre .0 .short)
 
 less-requires-2 : tie.Need-less-requires-2
 less-requires-2 c κs = search needs
@@ -27,10 +27,10 @@ mul-at : tie.Need-mul-at
 mul-at c = let e = c .less2 .ensures in let p = block-room (c .before .before .before .before .pre .0) (c .less2 .result) 0 0 (omega arith) (omega arith) in omega arith
 
 add-less-3 : tie.Need-add-less-3
-add-less-3 c = omega (arith, c .before .before .before .before .pre .0 .level-is, c .before .before .before .before .pre .0 .columns, c .before .before .before .before .pre .0 .width, c .before .before .before .before .pre .0 .short)
+add-less-3 c = omega (arith, c .before .before .before .before .pre .2, c .before .before .before .before .pre .0 .columns, c .before .before .before .before .pre .0 .width, c .before .before .before .before .pre .0 .short)
 
 add-less-4 : tie.Need-add-less-4
-add-less-4 c = omega (arith, c .before .before .before .before .pre .0 .level-is, c .before .before .before .before .pre .0 .columns, c .before .before .before .before .pre .0 .width, c .before .before .before .before .pre .0 .short)
+add-less-4 c = omega (arith, c .before .before .before .before .pre .2, c .before .before .before .before .pre .0 .columns, c .before .before .before .before .pre .0 .width, c .before .before .before .before .pre .0 .short)
 
 less-requires-3 : tie.Need-less-requires-3
 less-requires-3 c κs = search needs
@@ -45,31 +45,31 @@ sub-offer : tie.Need-sub-offer
 sub-offer c = let f = c .before .before .before .before .smaller .ensures in omega arith
 
 add-offer : tie.Need-add-offer
-add-offer c = omega (arith, c .before .before .before .before .before .before .before .pre .0 .level-is, c .before .before .before .before .before .before .before .pre .0 .columns, c .before .before .before .before .before .before .before .pre .0 .width, c .before .before .before .before .before .before .before .pre .0 .short)
+add-offer c = omega (arith, c .before .before .before .before .before .before .before .pre .2, c .before .before .before .before .before .before .before .pre .0 .columns, c .before .before .before .before .before .before .before .pre .0 .width, c .before .before .before .before .before .before .before .pre .0 .short)
 
 mul-offer : tie.Need-mul-offer
-mul-offer c = omega (arith, c .before .before .before .before .before .before .before .pre .0 .level-is, c .before .before .before .before .before .before .before .pre .0 .columns, c .before .before .before .before .before .before .before .pre .0 .width, c .before .before .before .before .before .before .before .pre .0 .short)
+mul-offer c = omega (arith, c .before .before .before .before .before .before .before .pre .2, c .before .before .before .before .before .before .before .pre .0 .columns, c .before .before .before .before .before .before .before .pre .0 .width, c .before .before .before .before .before .before .before .pre .0 .short)
 
 cast-offer : tie.Need-cast-offer
-cast-offer c = omega (arith, c .before .before .before .before .before .before .before .pre .0 .level-is, c .before .before .before .before .before .before .before .pre .0 .columns, c .before .before .before .before .before .before .before .pre .0 .width, c .before .before .before .before .before .before .before .pre .0 .short)
+cast-offer c = omega (arith, c .before .before .before .before .before .before .before .pre .2, c .before .before .before .before .before .before .before .pre .0 .columns, c .before .before .before .before .before .before .before .pre .0 .width, c .before .before .before .before .before .before .before .pre .0 .short)
 
 add-offer-2 : tie.Need-add-offer-2
-add-offer-2 c = omega (arith, c .before .before .before .before .before .before .before .pre .0 .level-is, c .before .before .before .before .before .before .before .pre .0 .columns, c .before .before .before .before .before .before .before .pre .0 .width, c .before .before .before .before .before .before .before .pre .0 .short)
+add-offer-2 c = omega (arith, c .before .before .before .before .before .before .before .pre .2, c .before .before .before .before .before .before .before .pre .0 .columns, c .before .before .before .before .before .before .before .pre .0 .width, c .before .before .before .before .before .before .before .pre .0 .short)
 
 cast-offer-2 : tie.Need-cast-offer-2
-cast-offer-2 c = omega (arith, c .before .before .before .before .before .before .before .pre .0 .level-is, c .before .before .before .before .before .before .before .pre .0 .columns, c .before .before .before .before .before .before .before .pre .0 .width, c .before .before .before .before .before .before .before .pre .0 .short)
+cast-offer-2 c = omega (arith, c .before .before .before .before .before .before .before .pre .2, c .before .before .before .before .before .before .before .pre .0 .columns, c .before .before .before .before .before .before .before .pre .0 .width, c .before .before .before .before .before .before .before .pre .0 .short)
 
 offer-requires : tie.Need-offer-requires
 offer-requires c κs =
     let f = c .before .before .before .before .smaller .ensures ∙ ap (min (c .before .before .before .before .before .before .before .args .end)) (c .before .before .before .before .before .less .ensures) in
     let at = ap₂ (λ (x y : ℕ). c .before .before .before .before .before .before .before .args .base + (x * c .before .before .before .before .before .before .before .args .stride + y)) (c .before .before .before .less2 .ensures) (c .before .before .less3 .ensures) in
-    (omega (arith, c .before .before .before .before .before .before .before .pre .0 .short), free-room (c .before .before .before .before .before .before .before .pre .0) (c .before .before .before .before .before .before .before .args .t + 1) (c .before .before .before .before .smaller .result) (c .before .before .before .before .before .before .before .args .end - c .before .before .before .before .smaller .result) _ at (omega arith), free-small (c .before .before .before .before .before .before .before .pre .0) (c .before .before .before .before .before .before .before .args .t + 1) (c .before .before .before .before .smaller .result) (c .before .before .before .before .before .before .before .args .end - c .before .before .before .before .smaller .result) _ at (omega arith) (omega arith) (λ l. reached (c .before .before .before .before .before .before .before .pre .0) (c .before .before .before .before .before .before .before .args .t + 1) (c .before .before .before .before .smaller .result) (c .before .before .before .before .before .before .before .args .end) 0 f l))
+    (omega (arith, c .before .before .before .before .before .before .before .pre .0 .short), free-room (c .before .before .before .before .before .before .before .pre .0) (c .before .before .before .before .before .before .before .args .t + 1) (c .before .before .before .before .smaller .result) (c .before .before .before .before .before .before .before .args .end - c .before .before .before .before .smaller .result) _ at (omega arith), free-small (c .before .before .before .before .before .before .before .pre .0) (c .before .before .before .before .before .before .before .args .t + 1) (c .before .before .before .before .smaller .result) (c .before .before .before .before .before .before .before .args .end - c .before .before .before .before .smaller .result) _ at (omega (arith, c .before .before .before .before .before .before .before .pre .2)) (omega arith) (λ l. reached (c .before .before .before .before .before .before .before .pre .0) (c .before .before .before .before .before .before .before .args .t + 1) (c .before .before .before .before .smaller .result) (c .before .before .before .before .before .before .before .args .end) 0 f l))
 
 returns : tie.Need-returns
 returns c =
     let f = c .before .before .before .before .before .smaller .ensures ∙ ap (min (c .before .before .before .before .before .before .before .before .args .end)) (c .before .before .before .before .before .before .less .ensures) in
     let at = ap₂ (λ (x y : ℕ). c .before .before .before .before .before .before .before .before .args .base + (x * c .before .before .before .before .before .before .before .before .args .stride + y)) (c .before .before .before .before .less2 .ensures) (c .before .before .before .less3 .ensures) in
-    free-one (c .before .before .before .before .before .before .before .before .pre .0) (c .before .before .before .before .before .before .before .before .args .t) (c .before .before .before .before .before .smaller .result) (c .before .before .before .before .before .before .before .before .args .end) _ at (c .before .before .before .before .before .before .before .before .pre .1) (c .offer .ensures) f (c .before .before .before .before .before .before .before .before .pre .3) (c .before .before .before .before .before .before .before .before .pre .2)
+    free-one (c .before .before .before .before .before .before .before .before .pre .0) (c .before .before .before .before .before .before .before .before .args .t) (c .before .before .before .before .before .smaller .result) (c .before .before .before .before .before .before .before .before .args .end) _ at (c .before .before .before .before .before .before .before .before .pre .1) (c .offer .ensures) f (c .before .before .before .before .before .before .before .before .pre .3)
 
 pub offer-free-spec : {M : Type 1} → statement M
 offer-free-spec =

@@ -12,10 +12,10 @@ use Rattle.choose.proofs.offer_two.Statement.{statement}
 use Rattle.choose.proofs.offer_two.Tie as tie
 
 abbrev Inv-loop : tie.InvT-loop
-Inv-loop values₀ amounts₀ work low at next n cash t i₀ values amounts i = (i ≤ n) × Offered values₀ amounts₀ values amounts low i (λ x. cond (ltb (cash + getD work (at + x) 0) (cash + 10000 + getD work (next + x) 0)) (cash + 10000 + getD work (next + x) 0) (cash + getD work (at + x) 0)) (λ x. cond (ltb (cash + getD work (at + x) 0) (cash + 10000 + getD work (next + x) 0)) (t + 1) t)
+Inv-loop values₀ amounts₀ work low at next n cash more t i₀ values amounts i = (i ≤ n) × Offered values₀ amounts₀ values amounts low i (λ x. cond (ltb (cash + getD work (at + x) 0) (more + getD work (next + x) 0)) (more + getD work (next + x) 0) (cash + getD work (at + x) 0)) (λ x. cond (ltb (cash + getD work (at + x) 0) (more + getD work (next + x) 0)) (t + 1) t)
 
 abbrev μ-loop : tie.MeasureT-loop
-μ-loop values₀ amounts₀ work low at next n cash t i₀ values amounts i = n - i
+μ-loop values₀ amounts₀ work low at next n cash more t i₀ values amounts i = n - i
 
 loop-holds : tie.Need-loop-holds Inv-loop μ-loop
 loop-holds c = (omega arith, offered-none _ _ _ _ _)
@@ -42,10 +42,7 @@ add-one-2 : tie.Need-add-one-2 Inv-loop μ-loop
 add-one-2 c = let s = c .before .before .before .before .before .pre .3 (c .before .before .before .loop .i) (c .before .before .loop-test .taken) in omega arith
 
 add-two : tie.Need-add-two Inv-loop μ-loop
-add-two c = let s = c .before .before .before .before .before .pre .4 (c .before .before .before .loop .i) (c .before .before .loop-test .taken) in omega (arith, c .before .before .before .before .before .pre .2)
-
-add-two-2 : tie.Need-add-two-2 Inv-loop μ-loop
-add-two-2 c = let s = c .before .before .before .before .before .pre .4 (c .before .before .before .loop .i) (c .before .before .loop-test .taken) in omega (arith, c .before .before .before .before .before .pre .2)
+add-two c = omega (arith, c .before .before .before .before .before .pre .0, c .before .before .before .before .before .pre .1, c .before .before .before .before .before .pre .2, c .before .before .before .before .before .pre .5)
 
 mul-two : tie.Need-mul-two Inv-loop μ-loop
 mul-two c = omega (arith, c .before .before .before .before .before .pre .0, c .before .before .before .before .before .pre .1, c .before .before .before .before .before .pre .2, c .before .before .before .before .before .pre .5)
@@ -53,8 +50,8 @@ mul-two c = omega (arith, c .before .before .before .before .before .pre .0, c .
 shared-slice-read-two : tie.Need-shared-slice-read-two Inv-loop μ-loop
 shared-slice-read-two c = omega (arith, c .before .before .before .before .before .before .pre .0, c .before .before .before .before .before .before .pre .1, c .before .before .before .before .before .before .pre .2, c .before .before .before .before .before .before .pre .5)
 
-add-two-3 : tie.Need-add-two-3 Inv-loop μ-loop
-add-two-3 c = let s = c .before .before .before .before .before .before .pre .4 (c .before .before .before .before .loop .i) (c .before .before .before .loop-test .taken) in omega (arith, c .before .before .before .before .before .before .pre .2)
+add-two-2 : tie.Need-add-two-2 Inv-loop μ-loop
+add-two-2 c = let s = c .before .before .before .before .before .before .pre .4 (c .before .before .before .before .loop .i) (c .before .before .before .loop-test .taken) in omega (arith, c .before .before .before .before .before .before .pre .2)
 
 pick-requires : tie.Need-pick-requires Inv-loop μ-loop
 pick-requires c κs = search needs
@@ -129,10 +126,9 @@ offer-two-spec =
     shared-slice-read-one
     add-one-2
     add-two
-    add-two-2
     mul-two
     shared-slice-read-two
-    add-two-3
+    add-two-2
     pick-requires
     add-pick
     pick-requires-2

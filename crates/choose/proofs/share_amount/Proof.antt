@@ -1,9 +1,9 @@
 -- `choose::share_amount` meets its contract. Assumes nothing.
-use Prim.Native.Nat.{ℕ, _+_, _-_, _*_, _/_, _≤_, _<_, min}
+use Prim.Native.Nat.{ℕ, _+_, _-_, _*_, _/_}
 use borrow.Author.Needs.{needs}
 use lib.ListN.{getD}
-use mathlib.Core.Path.{_≡_, ap, sym, _∙_, subst}
-use native.Mathlib.Nat.{le-trans, le-of-eq, min-le-left, sub-le}
+use mathlib.Core.Path.{_≡_, ap, sym}
+use native.Mathlib.Nat.{sub-le}
 use native.Mathlib.Omega.{arith}
 use Rattle.choose.proofs.Blocks.{leads-as}
 use Rattle.choose.proofs.Entries.{block-room}
@@ -14,7 +14,7 @@ use Rattle.choose.proofs.share_amount.Statement.{statement}
 use Rattle.choose.proofs.share_amount.Tie as tie
 
 add-smaller : tie.Need-add-smaller
-add-smaller c = omega (arith, c .before .pre .0 .short)
+add-smaller c = omega (arith, c .before .pre .0 .span .short)
 
 smaller-requires : tie.Need-smaller-requires
 smaller-requires c κs = search needs
@@ -23,37 +23,37 @@ sub-count : tie.Need-sub-count
 sub-count c = let ends = run-is (c .before .before .args .n) (c .before .before .args .low) (c .smaller .result) (c .smaller .ensures) (c .before .before .pre .5) in omega arith
 
 add-x : tie.Need-add-x
-add-x c = let ends = run-is (c .before .before .args .n) (c .before .before .args .low) (c .smaller .result) (c .smaller .ensures) (c .before .before .pre .5) in omega (arith, c .before .before .pre .0 .account, c .before .before .pre .0 .short, c .before .before .pre .0 .columns, c .before .before .pre .0 .width)
+add-x c = let ends = run-is (c .before .before .args .n) (c .before .before .args .low) (c .smaller .result) (c .smaller .ensures) (c .before .before .pre .5) in omega (arith, c .before .before .pre .0 .span .account, c .before .before .pre .0 .span .short, c .before .before .pre .0 .span .columns, c .before .before .pre .0 .span .width)
 
 sub-x : tie.Need-sub-x
-sub-x c = let ends = run-is (c .before .before .args .n) (c .before .before .args .low) (c .smaller .result) (c .smaller .ensures) (c .before .before .pre .5) in omega (arith, c .before .before .pre .0 .account, c .before .before .pre .0 .short, c .before .before .pre .0 .columns, c .before .before .pre .0 .width)
+sub-x c = let ends = run-is (c .before .before .args .n) (c .before .before .args .low) (c .smaller .result) (c .smaller .ensures) (c .before .before .pre .5) in omega (arith, c .before .before .pre .0 .span .account, c .before .before .pre .0 .span .short, c .before .before .pre .0 .span .columns, c .before .before .pre .0 .span .width)
 
 mul-at : tie.Need-mul-at
-mul-at c = let r = block-room (c .before .before .pre .0) (c .before .before .args .w - (c .before .before .args .t + 1)) 0 0 (sub-le _ _) (omega arith) in omega arith
+mul-at c = let r = block-room (c .before .before .pre .0 .span) (c .before .before .args .w - (c .before .before .args .t + 1)) 0 0 (sub-le _ _) (omega arith) in omega arith
 
 add-at : tie.Need-add-at
-add-at c = let r = block-room (c .before .before .pre .0) (c .before .before .args .w - (c .before .before .args .t + 1)) 0 0 (sub-le _ _) (omega arith) in omega arith
+add-at c = let r = block-room (c .before .before .pre .0 .span) (c .before .before .args .w - (c .before .before .args .t + 1)) 0 0 (sub-le _ _) (omega arith) in omega arith
 
 mul-step : tie.Need-mul-step
-mul-step c = let s = step-small (c .before .before .args .w) (c .before .before .args .inverse) (omega arith) (c .before .before .pre .0 .account) (c .before .before .pre .8) (c .before .before .args .w - (c .before .before .args .t + 1)) (sub-le _ _) in omega arith
+mul-step c = let s = step-small (c .before .before .args .w) (c .before .before .args .inverse) (omega arith) (c .before .before .pre .0 .span .account) (c .before .before .pre .8) (c .before .before .args .w - (c .before .before .args .t + 1)) (sub-le _ _) in omega arith
 
 add-cash : tie.Need-add-cash
-add-cash c = let ends = run-is (c .before .before .args .n) (c .before .before .args .low) (c .smaller .result) (c .smaller .ensures) (c .before .before .pre .5) in omega (arith, c .before .before .pre .0 .account, c .before .before .pre .0 .short, c .before .before .pre .0 .columns, c .before .before .pre .0 .width)
+add-cash c = let ends = run-is (c .before .before .args .n) (c .before .before .args .low) (c .smaller .result) (c .smaller .ensures) (c .before .before .pre .5) in omega (arith, c .before .before .pre .0 .span .account, c .before .before .pre .0 .span .short, c .before .before .pre .0 .span .columns, c .before .before .pre .0 .span .width)
 
 cash-requires : tie.Need-cash-requires
-cash-requires c κs = (c .before .before .pre .0 .rate-is, omega (arith, c .before .before .pre .0 .account))
+cash-requires c κs = (c .before .before .pre .0 .rate-is, omega (arith, c .before .before .pre .0 .span .account))
 
 cast-cash : tie.Need-cast-cash
 cast-cash c = omega (arith, c .cash .ensures .1)
 
 add-last : tie.Need-add-last
-add-last c = let ends = run-is (c .before .before .before .before .args .n) (c .before .before .before .before .args .low) (c .before .before .smaller .result) (c .before .before .smaller .ensures) (c .before .before .before .before .pre .5) in omega (arith, c .before .before .before .before .pre .0 .account, c .before .before .before .before .pre .0 .short, c .before .before .before .before .pre .0 .columns, c .before .before .before .before .pre .0 .width)
+add-last c = let ends = run-is (c .before .before .before .before .args .n) (c .before .before .before .before .args .low) (c .before .before .smaller .result) (c .before .before .smaller .ensures) (c .before .before .before .before .pre .5) in omega (arith, c .before .before .before .before .pre .0 .span .account, c .before .before .before .before .pre .0 .span .short, c .before .before .before .before .pre .0 .span .columns, c .before .before .before .before .pre .0 .span .width)
 
 add-last-2 : tie.Need-add-last-2
-add-last-2 c = let ends = run-is (c .before .before .before .before .args .n) (c .before .before .before .before .args .low) (c .before .before .smaller .result) (c .before .before .smaller .ensures) (c .before .before .before .before .pre .5) in omega (arith, c .before .before .before .before .pre .0 .account, c .before .before .before .before .pre .0 .short, c .before .before .before .before .pre .0 .columns, c .before .before .before .before .pre .0 .width)
+add-last-2 c = let ends = run-is (c .before .before .before .before .args .n) (c .before .before .before .before .args .low) (c .before .before .smaller .result) (c .before .before .smaller .ensures) (c .before .before .before .before .pre .5) in omega (arith, c .before .before .before .before .pre .0 .span .account, c .before .before .before .before .pre .0 .span .short, c .before .before .before .before .pre .0 .span .columns, c .before .before .before .before .pre .0 .span .width)
 
 sub-last : tie.Need-sub-last
-sub-last c = let ends = run-is (c .before .before .before .before .args .n) (c .before .before .before .before .args .low) (c .before .before .smaller .result) (c .before .before .smaller .ensures) (c .before .before .before .before .pre .5) in omega (arith, c .before .before .before .before .pre .0 .account, c .before .before .before .before .pre .0 .short, c .before .before .before .before .pre .0 .columns, c .before .before .before .before .pre .0 .width)
+sub-last c = let ends = run-is (c .before .before .before .before .args .n) (c .before .before .before .before .args .low) (c .before .before .smaller .result) (c .before .before .smaller .ensures) (c .before .before .before .before .pre .5) in omega (arith, c .before .before .before .before .pre .0 .span .account, c .before .before .before .before .pre .0 .span .short, c .before .before .before .before .pre .0 .span .columns, c .before .before .before .before .pre .0 .span .width)
 
 mul-last : tie.Need-mul-last
 mul-last c = let ends = run-is (c .before .before .before .before .args .n) (c .before .before .before .before .args .low) (c .before .before .smaller .result) (c .before .before .smaller .ensures) (c .before .before .before .before .pre .5) in let p = share-product (c .before .before .before .before .pre .0) (c .before .before .before .before .args .low) (c .before .before .smaller .result) (c .before .before .before .before .args .t) (c .before .before .before .before .args .inverse) (c .before .cash .result) (c .before .before .before .before .pre .4) (ends .0) (ends .1) (c .before .before .before .before .pre .6) (c .before .before .before .before .pre .7) (c .before .before .before .before .pre .8) (c .before .cash .ensures .0) in let l = share-last (c .before .before .before .before .args .from + c .before .before .before .before .args .low) (c .before .before .smaller .result - c .before .before .before .before .args .low) ((c .before .before .before .before .args .w - (c .before .before .before .before .args .t + 1)) * c .before .before .before .before .args .inverse) (omega arith) in omega arith
@@ -74,18 +74,18 @@ returns : tie.Need-returns
 returns c = let ends = run-is (c .before .before .before .before .before .before .args .n) (c .before .before .before .before .before .before .args .low) (c .before .before .before .before .smaller .result) (c .before .before .before .before .smaller .ensures) (c .before .before .before .before .before .before .pre .5) in leads-as (share-pass (c .before .before .before .before .before .before .pre .0) (c .before .before .before .before .before .before .args .low) (c .before .before .before .before .smaller .result) (c .before .before .before .before .before .before .args .t) (c .before .before .before .before .before .before .args .inverse) (c .before .before .before .cash .result) (c .before .before .before .before .before .before .pre .4) (ends .0) (ends .1) (c .before .before .before .before .before .before .pre .6) (c .before .before .before .before .before .before .pre .7) (c .before .before .before .before .before .before .pre .8) (c .before .before .before .cash .ensures .0) (leads-as (c .before .before .before .before .before .before .pre .1) _ (λ j l. ap (λ (z : ℕ). triedRun (c .before .before .before .before .before .before .args .level) (c .before .before .before .before .before .before .args .w) (c .before .before .before .before .before .before .args .from) (c .before .before .before .before .before .before .args .low) z (c .before .before .before .before .before .before .args .t) j) (sym (c .before .before .before .before .smaller .ensures)))) (c .before .before .before .before .before .before .pre .3 (c .before .before .if1 .taken)) (bounded-as (c .before .before .before .before .before .before .pre .2) (sym (c .before .before .before .before .smaller .ensures))) (c .if2 .taken)) _ (λ j l. ap (λ (z : ℕ). triedRun (c .before .before .before .before .before .before .args .level) (c .before .before .before .before .before .before .args .w) (c .before .before .before .before .before .before .args .from) (c .before .before .before .before .before .before .args .low) z (c .before .before .before .before .before .before .args .t + 1) j) (c .before .before .before .before .smaller .ensures))
 
 add-offer-share : tie.Need-add-offer-share
-add-offer-share c = let ends = run-is (c .before .before .before .before .before .before .args .n) (c .before .before .before .before .before .before .args .low) (c .before .before .before .before .smaller .result) (c .before .before .before .before .smaller .ensures) (c .before .before .before .before .before .before .pre .5) in omega (arith, c .before .before .before .before .before .before .pre .0 .account, c .before .before .before .before .before .before .pre .0 .short, c .before .before .before .before .before .before .pre .0 .columns, c .before .before .before .before .before .before .pre .0 .width)
+add-offer-share c = let ends = run-is (c .before .before .before .before .before .before .args .n) (c .before .before .before .before .before .before .args .low) (c .before .before .before .before .smaller .result) (c .before .before .before .before .smaller .ensures) (c .before .before .before .before .before .before .pre .5) in omega (arith, c .before .before .before .before .before .before .pre .0 .span .account, c .before .before .before .before .before .before .pre .0 .span .short, c .before .before .before .before .before .before .pre .0 .span .columns, c .before .before .before .before .before .before .pre .0 .span .width)
 
 add-offer-share-2 : tie.Need-add-offer-share-2
-add-offer-share-2 c = let ends = run-is (c .before .before .before .before .before .before .args .n) (c .before .before .before .before .before .before .args .low) (c .before .before .before .before .smaller .result) (c .before .before .before .before .smaller .ensures) (c .before .before .before .before .before .before .pre .5) in omega (arith, c .before .before .before .before .before .before .pre .0 .account, c .before .before .before .before .before .before .pre .0 .short, c .before .before .before .before .before .before .pre .0 .columns, c .before .before .before .before .before .before .pre .0 .width)
+add-offer-share-2 c = let ends = run-is (c .before .before .before .before .before .before .args .n) (c .before .before .before .before .before .before .args .low) (c .before .before .before .before .smaller .result) (c .before .before .before .before .smaller .ensures) (c .before .before .before .before .before .before .pre .5) in omega (arith, c .before .before .before .before .before .before .pre .0 .span .account, c .before .before .before .before .before .before .pre .0 .span .short, c .before .before .before .before .before .before .pre .0 .span .columns, c .before .before .before .before .before .before .pre .0 .span .width)
 
 cast-offer-share : tie.Need-cast-offer-share
-cast-offer-share c = let ends = run-is (c .before .before .before .before .before .before .args .n) (c .before .before .before .before .before .before .args .low) (c .before .before .before .before .smaller .result) (c .before .before .before .before .smaller .ensures) (c .before .before .before .before .before .before .pre .5) in omega (arith, c .before .before .before .before .before .before .pre .0 .account, c .before .before .before .before .before .before .pre .0 .short, c .before .before .before .before .before .before .pre .0 .columns, c .before .before .before .before .before .before .pre .0 .width)
+cast-offer-share c = let ends = run-is (c .before .before .before .before .before .before .args .n) (c .before .before .before .before .before .before .args .low) (c .before .before .before .before .smaller .result) (c .before .before .before .before .smaller .ensures) (c .before .before .before .before .before .before .pre .5) in omega (arith, c .before .before .before .before .before .before .pre .0 .span .account, c .before .before .before .before .before .before .pre .0 .span .short, c .before .before .before .before .before .before .pre .0 .span .columns, c .before .before .before .before .before .before .pre .0 .span .width)
 
 offer-share-requires : tie.Need-offer-share-requires
 offer-share-requires c κs =
     let ends = run-is (c .before .before .before .before .before .before .args .n) (c .before .before .before .before .before .before .args .low) (c .before .before .before .before .smaller .result) (c .before .before .before .before .smaller .ensures) (c .before .before .before .before .before .before .pre .5) in
-    (omega (arith, c .before .before .before .before .before .before .pre .0 .short), share-product (c .before .before .before .before .before .before .pre .0) (c .before .before .before .before .before .before .args .low) (c .before .before .before .before .smaller .result) (c .before .before .before .before .before .before .args .t) (c .before .before .before .before .before .before .args .inverse) (c .before .before .before .cash .result) (c .before .before .before .before .before .before .pre .4) (ends .0) (ends .1) (c .before .before .before .before .before .before .pre .6) (c .before .before .before .before .before .before .pre .7) (c .before .before .before .before .before .before .pre .8) (c .before .before .before .cash .ensures .0), share-place (c .before .before .before .before .before .before .pre .0) (c .before .before .before .before .before .before .args .low) (c .before .before .before .before .smaller .result) (c .before .before .before .before .before .before .args .t) (c .before .before .before .before .before .before .args .inverse) (c .before .before .before .cash .result) (c .before .before .before .before .before .before .pre .4) (ends .0) (ends .1) (c .before .before .before .before .before .before .pre .6) (c .before .before .before .before .before .before .pre .7) (c .before .before .before .before .before .before .pre .8) (c .before .before .before .cash .ensures .0), share-fits (c .before .before .before .before .before .before .pre .0) (c .before .before .before .before .before .before .args .low) (c .before .before .before .before .smaller .result) (c .before .before .before .before .before .before .args .t) (c .before .before .before .before .before .before .args .inverse) (c .before .before .before .cash .result) (c .before .before .before .before .before .before .pre .4) (ends .0) (ends .1) (c .before .before .before .before .before .before .pre .6) (c .before .before .before .before .before .before .pre .7) (c .before .before .before .before .before .before .pre .8) (c .before .before .before .cash .ensures .0))
+    (omega (arith, c .before .before .before .before .before .before .pre .0 .span .short), share-product (c .before .before .before .before .before .before .pre .0) (c .before .before .before .before .before .before .args .low) (c .before .before .before .before .smaller .result) (c .before .before .before .before .before .before .args .t) (c .before .before .before .before .before .before .args .inverse) (c .before .before .before .cash .result) (c .before .before .before .before .before .before .pre .4) (ends .0) (ends .1) (c .before .before .before .before .before .before .pre .6) (c .before .before .before .before .before .before .pre .7) (c .before .before .before .before .before .before .pre .8) (c .before .before .before .cash .ensures .0), share-place (c .before .before .before .before .before .before .pre .0) (c .before .before .before .before .before .before .args .low) (c .before .before .before .before .smaller .result) (c .before .before .before .before .before .before .args .t) (c .before .before .before .before .before .before .args .inverse) (c .before .before .before .cash .result) (c .before .before .before .before .before .before .pre .4) (ends .0) (ends .1) (c .before .before .before .before .before .before .pre .6) (c .before .before .before .before .before .before .pre .7) (c .before .before .before .before .before .before .pre .8) (c .before .before .before .cash .ensures .0), share-fits (c .before .before .before .before .before .before .pre .0) (c .before .before .before .before .before .before .args .low) (c .before .before .before .before .smaller .result) (c .before .before .before .before .before .before .args .t) (c .before .before .before .before .before .before .args .inverse) (c .before .before .before .cash .result) (c .before .before .before .before .before .before .pre .4) (ends .0) (ends .1) (c .before .before .before .before .before .before .pre .6) (c .before .before .before .before .before .before .pre .7) (c .before .before .before .before .before .before .pre .8) (c .before .before .before .cash .ensures .0))
 
 returns-2 : tie.Need-returns-2
 returns-2 c =

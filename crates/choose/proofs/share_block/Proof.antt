@@ -1,14 +1,13 @@
 -- `choose::share_block` meets its contract. Assumes nothing.
-use Prim.Native.Nat.{ℕ, _+_, _-_, _≤_, min, max}
+use Prim.Native.Nat.{ℕ, _+_, _-_, _≤_, min}
 use borrow.Author.Needs.{needs}
-use mathlib.Core.Path.{_≡_, refl, ap, sym, _∙_, subst}
+use mathlib.Core.Path.{ap, sym, _∙_}
 use native.Mathlib.Nat.{le-trans, le-of-eq, le-of-lt, min-le-left}
 use native.Mathlib.Omega.{arith}
 use Rattle.choose.proofs.Blocks.{leads-as}
 use Rattle.choose.proofs.Share.{run-is, above-from, none-above}
 use Rattle.choose.proofs.Tried.{below-all, below-same}
 use Rattle.choose.specs.State.{Leads, worthAt, triedBelow}
-use Rattle.rules.specs.Date.{freeAmount}
 use Rattle.slices.specs.Rows.{cells}
 use Rattle.choose.proofs.share_block.Statement.{statement}
 use Rattle.choose.proofs.share_block.Tie as tie
@@ -20,7 +19,7 @@ abbrev μ-loop : tie.MeasureT-loop
 μ-loop values₀ amounts₀ work base stride w from n level rate rising low₀ values amounts low = n - low
 
 add-less : tie.Need-add-less Inv-loop μ-loop
-add-less c = omega (arith, c .before .before .pre .0 .account)
+add-less c = omega (arith, c .before .before .pre .0 .span .account)
 
 less-requires : tie.Need-less-requires Inv-loop μ-loop
 less-requires c κs = search needs

@@ -1,7 +1,7 @@
 -- `choose::share_run` meets its contract. Assumes nothing.
 use Prim.Native.Nat.{ℕ, _+_, _-_, _≤_, min}
 use borrow.Author.Needs.{needs}
-use mathlib.Core.Path.{_≡_, refl, ap, sym, _∙_}
+use mathlib.Core.Path.{_≡_, refl, ap}
 use native.Mathlib.Nat.{le-refl, le-of-lt}
 use native.Mathlib.Omega.{arith}
 use Rattle.choose.proofs.Blocks.{leads-as}
@@ -20,25 +20,25 @@ abbrev μ-loop : tie.MeasureT-loop
 μ-loop values₀ amounts₀ work base stride w from n level rate low rising end inverse bound t₀ values amounts t = w - t
 
 add-smaller : tie.Need-add-smaller Inv-loop μ-loop
-add-smaller c = omega (arith, c .before .pre .0 .short, c .before .pre .0 .account)
+add-smaller c = omega (arith, c .before .pre .0 .span .short, c .before .pre .0 .span .account)
 
 smaller-requires : tie.Need-smaller-requires Inv-loop μ-loop
 smaller-requires c κs = search needs
 
 add-inverse : tie.Need-add-inverse Inv-loop μ-loop
-add-inverse c = omega (arith, c .before .before .pre .0 .short, c .before .before .pre .0 .account)
+add-inverse c = omega (arith, c .before .before .pre .0 .span .short, c .before .before .pre .0 .span .account)
 
 sub-inverse : tie.Need-sub-inverse Inv-loop μ-loop
-sub-inverse c = omega (arith, c .before .before .pre .0 .short, c .before .before .pre .0 .account)
+sub-inverse c = omega (arith, c .before .before .pre .0 .span .short, c .before .before .pre .0 .span .account)
 
 div-inverse : tie.Need-div-inverse Inv-loop μ-loop
-div-inverse c = omega (arith, c .before .before .pre .0 .short, c .before .before .pre .0 .account)
+div-inverse c = omega (arith, c .before .before .pre .0 .span .short, c .before .before .pre .0 .span .account)
 
 sub-least : tie.Need-sub-least Inv-loop μ-loop
 sub-least c = let ends = run-is (c .before .before .before .args .n) (c .before .before .before .args .low) (c .before .smaller .result) (c .before .smaller .ensures) (c .before .before .before .pre .4) in omega arith
 
 least-requires : tie.Need-least-requires Inv-loop μ-loop
-least-requires c κs = let ends = run-is (c .before .before .before .args .n) (c .before .before .before .args .low) (c .before .smaller .result) (c .before .smaller .ensures) (c .before .before .before .pre .4) in omega (arith, c .before .before .before .pre .0 .short)
+least-requires c κs = let ends = run-is (c .before .before .before .args .n) (c .before .before .before .args .low) (c .before .smaller .result) (c .before .smaller .ensures) (c .before .before .before .pre .4) in omega (arith, c .before .before .before .pre .0 .span .short)
 
 loop-holds : tie.Need-loop-holds Inv-loop μ-loop
 loop-holds c = (le-refl _, omega (arith, c .before .before .before .before .pre .5), leads-as (c .before .before .before .before .pre .1) _ (λ j l. run-start (c .before .before .before .before .args .level) (c .before .before .before .before .args .w) (c .before .before .before .before .args .from) (c .before .before .before .before .args .low) (min (c .before .before .before .before .args .n) (c .before .before .before .before .args .low + 16)) j (λ h. level-is (c .before .before .before .before .pre .0) j (c .before .before .before .before .pre .5) (omega (arith, c .before .before .before .before .pre .3)))))
@@ -47,7 +47,7 @@ share-amount-requires : tie.Need-share-amount-requires Inv-loop μ-loop
 share-amount-requires c κs = (c .before .before .before .before .before .before .before .before .pre .0, c .before .before .before .loop .inv .2, least-bounds (c .before .before .before .before .before .before .before .before .args .low) (c .before .before .before .before .before .before .smaller .result) (c .before .before .before .before .before .before .before .before .pre .0) (c .before .before .before .before .before .before .before .before .pre .1) (c .before .before .before .before .before .before .smaller .ensures) (c .before .before .before .before .before .before .before .before .pre .4) (c .before .before .before .before .before .before .before .before .pre .3) (c .before .before .before .before .before .before .before .before .pre .5) (c .before .before .before .before .least .ensures), c .before .before .before .before .before .before .before .before .pre .2, c .before .before .before .before .before .before .before .before .pre .3, c .before .before .before .before .before .before .before .before .pre .4, c .before .before .before .loop .inv .0, c .before .before .loop-test .taken, refl)
 
 add-t : tie.Need-add-t Inv-loop μ-loop
-add-t c = omega (arith, c .before .before .before .before .before .before .before .before .before .pre .0 .short, c .before .before .before .before .before .before .before .before .before .pre .0 .account)
+add-t c = omega (arith, c .before .before .before .before .before .before .before .before .before .pre .0 .span .short, c .before .before .before .before .before .before .before .before .before .pre .0 .span .account)
 
 loop-less : tie.Need-loop-less Inv-loop μ-loop
 loop-less c = omega arith

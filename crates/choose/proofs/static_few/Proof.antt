@@ -1,72 +1,95 @@
 -- `choose::static_few` meets its contract. Assumes nothing.
-use Prim.Native.Nat.{ℕ, _+_, _-_, _*_, _≤_, min}
+use Prim.Native.Nat.{ℕ, _+_, _-_, _*_, _≤_}
 use borrow.Author.Needs.{needs}
-use mathlib.Core.Path.{_≡_, ap, sym, _∙_, subst}
-use native.Mathlib.Nat.{le-refl, le-of-lt}
+use lib.ListN.{length, getD, set}
+use mathlib.Core.List.{List}
+use mathlib.Core.Logic.{inr}
+use mathlib.Core.Path.{_≡_, refl, ap, sym, _∙_}
+use native.Mathlib.Nat.{sub-le}
 use native.Mathlib.Omega.{arith}
-use Rattle.choose.proofs.Entries.{block-room, free-worth}
-use Rattle.choose.proofs.Free.{few-at, free-room, free-small}
-use Rattle.choose.proofs.Settled.{settled-none, settled-start, static-in, static-free}
-use Rattle.choose.specs.State.{Settled}
-use Rattle.rules.specs.Date.{static}
+use Rattle.choose.proofs.Settled.{row-room, row-long, table-long, sums-room, sum-small, few-entry}
 use Rattle.slices.specs.Rows.{cells}
+use Rattle.slices.specs.Stored.{stored, length-stored, stored-next, stored-out}
 use Rattle.choose.proofs.static_few.Statement.{statement}
 use Rattle.choose.proofs.static_few.Tie as tie
 
 abbrev Inv-loop : tie.InvT-loop
-Inv-loop values₀ amounts₀ work base stride w from n level rate few j₀ values amounts j = (j ≤ few) × Settled (λ i. static) (cells work base stride) rate level w from values amounts j
+Inv-loop work₀ table₀ base stride w level row a₀ work table a = (a ≤ level) × (work ≡ stored work₀ row (λ x. 10000 * x + cells work₀ base stride (w - x) 0) a) × (table ≡ stored table₀ row (λ x. x) a)
 
 abbrev μ-loop : tie.MeasureT-loop
-μ-loop values₀ amounts₀ work base stride w from n level rate few j₀ values amounts j = few - j
+μ-loop work₀ table₀ base stride w level row a₀ work table a = level - a
+
+mul-row : tie.Need-mul-row Inv-loop μ-loop
+mul-row c = let r = row-long (c .before .before .pre) 0 0 (omega arith) in omega arith
+
+loop-holds : tie.Need-loop-holds Inv-loop μ-loop
+unfolding stored
+loop-holds c = (omega arith, refl, refl)
+
+mul-work : tie.Need-mul-work Inv-loop μ-loop
+mul-work c = omega (arith, c .before .before .before .before .pre .level-is, c .before .before .before .before .pre .width)
+
+cast-work : tie.Need-cast-work Inv-loop μ-loop
+cast-work c = omega (arith, c .before .before .before .before .pre .level-is, c .before .before .before .before .pre .width)
 
 less-requires : tie.Need-less-requires Inv-loop μ-loop
 less-requires c κs = search needs
 
-smaller-requires : tie.Need-smaller-requires Inv-loop μ-loop
-smaller-requires c κs = search needs
+mul-work-2 : tie.Need-mul-work-2 Inv-loop μ-loop
+mul-work-2 c = let lw : length (c .before .before .loop .work) ≡ length (c .before .before .before .before .before .args .work .now) = ap length (c .before .before .loop .inv .1) ∙ length-stored _ _ _ _ in let e = c .less .ensures in let r = sums-room (c .before .before .before .before .before .pre) (c .less .result) 0 1 (omega arith) (omega (arith, c .before .before .before .before .before .pre .level-is)) in omega arith
 
-loop-holds : tie.Need-loop-holds Inv-loop μ-loop
-loop-holds c = (omega arith, settled-none (c .before .before .before .pre .1) (c .before .before .before .pre .2))
+add-work : tie.Need-add-work Inv-loop μ-loop
+add-work c = let lw : length (c .before .before .loop .work) ≡ length (c .before .before .before .before .before .args .work .now) = ap length (c .before .before .loop .inv .1) ∙ length-stored _ _ _ _ in let e = c .less .ensures in let r = sums-room (c .before .before .before .before .before .pre) (c .less .result) 0 1 (omega arith) (omega (arith, c .before .before .before .before .before .pre .level-is)) in omega arith
+
+mul-work-3 : tie.Need-mul-work-3 Inv-loop μ-loop
+mul-work-3 c = let lw : length (c .before .before .loop .work) ≡ length (c .before .before .before .before .before .args .work .now) = ap length (c .before .before .loop .inv .1) ∙ length-stored _ _ _ _ in let e = c .less .ensures in let r = sums-room (c .before .before .before .before .before .pre) (c .less .result) 0 1 (omega arith) (omega (arith, c .before .before .before .before .before .pre .level-is)) in omega arith
+
+slice-read-work : tie.Need-slice-read-work Inv-loop μ-loop
+slice-read-work c = let lw : length (c .before .before .before .loop .work) ≡ length (c .before .before .before .before .before .before .args .work .now) = ap length (c .before .before .before .loop .inv .1) ∙ length-stored _ _ _ _ in let e = c .before .less .ensures in let r = sums-room (c .before .before .before .before .before .before .pre) (c .before .less .result) 0 1 (omega arith) (omega (arith, c .before .before .before .before .before .before .pre .level-is)) in omega arith
+
+add-work-2 : tie.Need-add-work-2 Inv-loop μ-loop
+add-work-2 c = let read : getD (c .before .before .before .loop .work) (c .before .before .before .before .before .before .args .base + c .before .less .result * c .before .before .before .before .before .before .args .stride) 0 ≡ cells (c .before .before .before .before .before .before .args .work .now) (c .before .before .before .before .before .before .args .base) (c .before .before .before .before .before .before .args .stride) (c .before .before .before .before .before .before .args .w - c .before .before .before .loop .a) 0 = ap (λ (xs : List ℕ). getD xs (c .before .before .before .before .before .before .args .base + c .before .less .result * c .before .before .before .before .before .before .args .stride) 0) (c .before .before .before .loop .inv .1) ∙ stored-out _ _ _ _ _ (inr (let r = row-room (c .before .before .before .before .before .before .pre) 0 (c .before .before .before .loop .a) (omega (arith, c .before .before .before .before .before .before .pre .level-is)) in omega arith)) ∙ ap (λ (z : ℕ). getD (c .before .before .before .before .before .before .args .work .now) z 0) (few-entry (c .before .before .before .before .before .before .args .base) (c .before .before .before .before .before .before .args .stride) (c .before .before .before .before .before .before .args .w) (c .before .before .before .loop .a) (c .before .less .result) (c .before .less .ensures)) in let s = sum-small (c .before .before .before .before .before .before .pre) (c .before .before .before .before .before .before .args .w - c .before .before .before .loop .a) 0 (c .before .before .before .loop .a) (sub-le _ _) (omega (arith, c .before .before .before .before .before .before .pre .level-is)) (omega (arith, c .before .before .before .before .before .before .pre .level-is, c .before .before .before .before .before .before .pre .width)) in omega arith
+
+add-work-3 : tie.Need-add-work-3 Inv-loop μ-loop
+add-work-3 c = let lw : length (c .before .before .before .loop .work) ≡ length (c .before .before .before .before .before .before .args .work .now) = ap length (c .before .before .before .loop .inv .1) ∙ length-stored _ _ _ _ in let r = row-long (c .before .before .before .before .before .before .pre) (c .before .before .before .loop .a) 1 (omega (arith, c .before .before .before .before .before .before .pre .level-is)) in omega arith
+
+mul-work-4 : tie.Need-mul-work-4 Inv-loop μ-loop
+mul-work-4 c = let lw : length (c .before .before .before .loop .work) ≡ length (c .before .before .before .before .before .before .args .work .now) = ap length (c .before .before .before .loop .inv .1) ∙ length-stored _ _ _ _ in let r = row-long (c .before .before .before .before .before .before .pre) (c .before .before .before .loop .a) 1 (omega (arith, c .before .before .before .before .before .before .pre .level-is)) in omega arith
+
+slice-write-work : tie.Need-slice-write-work Inv-loop μ-loop
+slice-write-work c = let lw : length (c .before .before .before .loop .work) ≡ length (c .before .before .before .before .before .before .args .work .now) = ap length (c .before .before .before .loop .inv .1) ∙ length-stored _ _ _ _ in let r = row-long (c .before .before .before .before .before .before .pre) (c .before .before .before .loop .a) 1 (omega (arith, c .before .before .before .before .before .before .pre .level-is)) in omega arith
+
+cast-table : tie.Need-cast-table Inv-loop μ-loop
+cast-table c = omega (arith, c .before .before .before .before .before .before .pre .level-is, c .before .before .before .before .before .before .pre .width)
+
+add-table : tie.Need-add-table Inv-loop μ-loop
+add-table c = let lt : length (c .before .before .before .loop .table) ≡ length (c .before .before .before .before .before .before .args .table .now) = ap length (c .before .before .before .loop .inv .2) ∙ length-stored _ _ _ _ in let r = table-long (c .before .before .before .before .before .before .pre) (c .before .before .before .loop .a) 1 (omega (arith, c .before .before .before .before .before .before .pre .level-is)) in omega arith
+
+mul-table : tie.Need-mul-table Inv-loop μ-loop
+mul-table c = let lt : length (c .before .before .before .loop .table) ≡ length (c .before .before .before .before .before .before .args .table .now) = ap length (c .before .before .before .loop .inv .2) ∙ length-stored _ _ _ _ in let r = table-long (c .before .before .before .before .before .before .pre) (c .before .before .before .loop .a) 1 (omega (arith, c .before .before .before .before .before .before .pre .level-is)) in omega arith
+
+slice-write-table : tie.Need-slice-write-table Inv-loop μ-loop
+slice-write-table c = let lt : length (c .before .before .before .loop .table) ≡ length (c .before .before .before .before .before .before .args .table .now) = ap length (c .before .before .before .loop .inv .2) ∙ length-stored _ _ _ _ in let r = table-long (c .before .before .before .before .before .before .pre) (c .before .before .before .loop .a) 1 (omega (arith, c .before .before .before .before .before .before .pre .level-is)) in omega arith
 
 add-a : tie.Need-add-a Inv-loop μ-loop
-add-a c = let f = c .before .before .smaller .ensures ∙ ap (min (c .before .before .before .before .before .args .n)) (c .before .before .before .less .ensures) in let s = static-in (c .before .before .before .before .before .args .n) (c .before .before .before .before .before .args .level) (c .before .before .before .before .before .args .from) (c .before .before .smaller .result) (c .before .loop .j) f (c .loop-test .taken) in omega (arith, c .before .before .before .before .before .pre .0 .level-is, c .before .before .before .before .before .pre .0 .short)
-
-less-requires-2 : tie.Need-less-requires-2 Inv-loop μ-loop
-less-requires-2 c κs = search needs
-
-mul-at : tie.Need-mul-at Inv-loop μ-loop
-mul-at c = let e = c .less2 .ensures in let r = block-room (c .before .before .before .before .before .before .pre .0) (c .less2 .result) 0 0 (omega arith) (omega arith) in omega arith
-
-add-at : tie.Need-add-at Inv-loop μ-loop
-add-at c = let e = c .less2 .ensures in let r = block-room (c .before .before .before .before .before .before .pre .0) (c .less2 .result) 0 0 (omega arith) (omega arith) in omega arith
-
-mul-start : tie.Need-mul-start Inv-loop μ-loop
-mul-start c = let f = c .before .before .before .before .before .smaller .ensures ∙ ap (min (c .before .before .before .before .before .before .before .before .args .n)) (c .before .before .before .before .before .before .less .ensures) in let s = static-in (c .before .before .before .before .before .before .before .before .args .n) (c .before .before .before .before .before .before .before .before .args .level) (c .before .before .before .before .before .before .before .before .args .from) (c .before .before .before .before .before .smaller .result) (c .before .before .before .before .loop .j) f (c .before .before .before .loop-test .taken) in omega (arith, c .before .before .before .before .before .before .before .before .pre .0 .level-is, c .before .before .before .before .before .before .before .before .pre .0 .short)
-
-cast-start : tie.Need-cast-start Inv-loop μ-loop
-cast-start c = let f = c .before .before .before .before .before .smaller .ensures ∙ ap (min (c .before .before .before .before .before .before .before .before .args .n)) (c .before .before .before .before .before .before .less .ensures) in let s = static-in (c .before .before .before .before .before .before .before .before .args .n) (c .before .before .before .before .before .before .before .before .args .level) (c .before .before .before .before .before .before .before .before .args .from) (c .before .before .before .before .before .smaller .result) (c .before .before .before .before .loop .j) f (c .before .before .before .loop-test .taken) in omega (arith, c .before .before .before .before .before .before .before .before .pre .0 .level-is, c .before .before .before .before .before .before .before .before .pre .0 .short)
-
-cast-start-2 : tie.Need-cast-start-2 Inv-loop μ-loop
-cast-start-2 c = let f = c .before .before .before .before .before .smaller .ensures ∙ ap (min (c .before .before .before .before .before .before .before .before .args .n)) (c .before .before .before .before .before .before .less .ensures) in let s = static-in (c .before .before .before .before .before .before .before .before .args .n) (c .before .before .before .before .before .before .before .before .args .level) (c .before .before .before .before .before .before .before .before .args .from) (c .before .before .before .before .before .smaller .result) (c .before .before .before .before .loop .j) f (c .before .before .before .loop-test .taken) in omega (arith, c .before .before .before .before .before .before .before .before .pre .0 .level-is, c .before .before .before .before .before .before .before .before .pre .0 .short)
-
-start-requires : tie.Need-start-requires Inv-loop μ-loop
-start-requires c κs =
-    let f = c .before .before .before .before .before .smaller .ensures ∙ ap (min (c .before .before .before .before .before .before .before .before .args .n)) (c .before .before .before .before .before .before .less .ensures) in let s = static-in (c .before .before .before .before .before .before .before .before .args .n) (c .before .before .before .before .before .before .before .before .args .level) (c .before .before .before .before .before .before .before .before .args .from) (c .before .before .before .before .before .smaller .result) (c .before .before .before .before .loop .j) f (c .before .before .before .loop-test .taken) in let at = few-at (c .before .before .before .before .before .before .before .before .args .base) (c .before .before .before .before .before .before .before .before .args .stride) (c .before .before .before .before .before .before .before .before .args .w) (c .before .before .before .before .before .before .before .before .args .from + c .before .before .before .before .loop .j) (c .before .before .less2 .result) (c .before .before .less2 .ensures) in
-    (omega (arith, c .before .before .before .before .before .before .before .before .pre .0 .short), free-room (c .before .before .before .before .before .before .before .before .pre .0) (c .before .before .before .before .before .before .before .before .args .from + c .before .before .before .before .loop .j) (c .before .before .before .before .loop .j) 1 _ at (omega arith), free-small (c .before .before .before .before .before .before .before .before .pre .0) (c .before .before .before .before .before .before .before .before .args .from + c .before .before .before .before .loop .j) (c .before .before .before .before .loop .j) 1 _ at (le-of-lt (s .1)) (omega arith) (λ l. le-refl _))
-
-add-j : tie.Need-add-j Inv-loop μ-loop
-add-j c = let f = c .before .before .before .before .before .before .smaller .ensures ∙ ap (min (c .before .before .before .before .before .before .before .before .before .args .n)) (c .before .before .before .before .before .before .before .less .ensures) in let s = static-in (c .before .before .before .before .before .before .before .before .before .args .n) (c .before .before .before .before .before .before .before .before .before .args .level) (c .before .before .before .before .before .before .before .before .before .args .from) (c .before .before .before .before .before .before .smaller .result) (c .before .before .before .before .before .loop .j) f (c .before .before .before .before .loop-test .taken) in omega (arith, c .before .before .before .before .before .before .before .before .before .pre .0 .level-is, c .before .before .before .before .before .before .before .before .before .pre .0 .short)
+add-a c = omega (arith, c .before .before .before .before .before .before .pre .level-is, c .before .before .before .before .before .before .pre .width)
 
 loop-less : tie.Need-loop-less Inv-loop μ-loop
 loop-less c = omega arith
 
 loop-again : tie.Need-loop-again Inv-loop μ-loop
 loop-again c =
-    let f = c .before .before .before .before .before .before .smaller .ensures ∙ ap (min (c .before .before .before .before .before .before .before .before .before .args .n)) (c .before .before .before .before .before .before .before .less .ensures) in let s = static-in (c .before .before .before .before .before .before .before .before .before .args .n) (c .before .before .before .before .before .before .before .before .before .args .level) (c .before .before .before .before .before .before .before .before .before .args .from) (c .before .before .before .before .before .before .smaller .result) (c .before .before .before .before .before .loop .j) f (c .before .before .before .before .loop-test .taken) in let at = few-at (c .before .before .before .before .before .before .before .before .before .args .base) (c .before .before .before .before .before .before .before .before .before .args .stride) (c .before .before .before .before .before .before .before .before .before .args .w) (c .before .before .before .before .before .before .before .before .before .args .from + c .before .before .before .before .before .loop .j) (c .before .before .before .less2 .result) (c .before .before .before .less2 .ensures) in
-    (omega arith, settled-start _ _ (c .before .before .before .before .before .loop .j) 1 (c .before .before .before .before .before .before .before .before .before .args .from + c .before .before .before .before .before .loop .j) _ (c .before .before .before .before .before .loop .inv .1) (c .start .ensures .0) (c .start .ensures .1) (omega (arith, c .before .before .before .before .before .before .before .before .before .pre .0 .short)) (λ i l. static-free (c .before .before .before .before .before .before .before .before .before .args .level) (c .before .before .before .before .before .before .before .before .before .args .from + c .before .before .before .before .before .loop .j) _ (s .1) (omega arith)) (λ i l. free-worth (c .before .before .before .before .before .before .before .before .before .pre .0) (c .before .before .before .before .before .before .before .before .before .args .from + c .before .before .before .before .before .loop .j) (c .before .before .before .before .before .loop .j) i _ at (le-of-lt (s .1)) (le-refl _)))
+    let read : getD (c .before .before .before .loop .work) (c .before .before .before .before .before .before .args .base + c .before .less .result * c .before .before .before .before .before .before .args .stride) 0 ≡ cells (c .before .before .before .before .before .before .args .work .now) (c .before .before .before .before .before .before .args .base) (c .before .before .before .before .before .before .args .stride) (c .before .before .before .before .before .before .args .w - c .before .before .before .loop .a) 0 = ap (λ (xs : List ℕ). getD xs (c .before .before .before .before .before .before .args .base + c .before .less .result * c .before .before .before .before .before .before .args .stride) 0) (c .before .before .before .loop .inv .1) ∙ stored-out _ _ _ _ _ (inr (let r = row-room (c .before .before .before .before .before .before .pre) 0 (c .before .before .before .loop .a) (omega (arith, c .before .before .before .before .before .before .pre .level-is)) in omega arith)) ∙ ap (λ (z : ℕ). getD (c .before .before .before .before .before .before .args .work .now) z 0) (few-entry (c .before .before .before .before .before .before .args .base) (c .before .before .before .before .before .before .args .stride) (c .before .before .before .before .before .before .args .w) (c .before .before .before .loop .a) (c .before .less .result) (c .before .less .ensures)) in
+    (omega arith, (λ k. set (c .before .before .before .loop .inv .1 k) (c .before .before .before .before .before .before .args .w * c .before .before .before .before .before .before .args .stride + c .before .before .before .loop .a) (10000 * c .before .before .before .loop .a + read k)) ∙ stored-next _ _ _ _, (λ k. set (c .before .before .before .loop .inv .2 k) (c .before .before .before .before .before .before .args .w * c .before .before .before .before .before .before .args .stride + c .before .before .before .loop .a) (c .before .before .before .loop .a)) ∙ stored-next _ _ _ _)
+
+same-length : tie.Need-same-length Inv-loop μ-loop
+same-length c = ap length (c .before .loop .inv .1) ∙ length-stored _ _ _ _
+
+same-length-2 : tie.Need-same-length-2 Inv-loop μ-loop
+same-length-2 c = ap length (c .before .loop .inv .2) ∙ length-stored _ _ _ _
 
 returns : tie.Need-returns Inv-loop μ-loop
-returns c = let f = c .before .before .smaller .ensures ∙ ap (min (c .before .before .before .before .before .args .n)) (c .before .before .before .less .ensures) in let e : c .before .loop .j ≡ c .before .before .smaller .result = omega arith in subst (Settled (λ i. static) (cells (c .before .before .before .before .before .args .work .now) (c .before .before .before .before .before .args .base) (c .before .before .before .before .before .args .stride)) (c .before .before .before .before .before .args .rate) (c .before .before .before .before .before .args .level) (c .before .before .before .before .before .args .w) (c .before .before .before .before .before .args .from) (c .before .loop .values) (c .before .loop .amounts)) (e ∙ f) (c .before .loop .inv .1)
+returns c = let e : c .before .loop .a ≡ c .before .before .before .before .args .level = omega arith in (rw (sym e) (c .before .loop .inv .1), rw (sym e) (c .before .loop .inv .2))
 
 pub static-few-spec : {M : Type 1} → statement M
 static-few-spec =
@@ -74,18 +97,26 @@ static-few-spec =
     (tie.spec
     Inv-loop
     μ-loop
-    less-requires
-    smaller-requires
+    mul-row
     loop-holds
+    mul-work
+    cast-work
+    less-requires
+    mul-work-2
+    add-work
+    mul-work-3
+    slice-read-work
+    add-work-2
+    add-work-3
+    mul-work-4
+    slice-write-work
+    cast-table
+    add-table
+    mul-table
+    slice-write-table
     add-a
-    less-requires-2
-    mul-at
-    add-at
-    mul-start
-    cast-start
-    cast-start-2
-    start-requires
-    add-j
     loop-less
     loop-again
+    same-length
+    same-length-2
     returns)

@@ -1,16 +1,15 @@
 -- `states::decide_layer` meets its contract. Assumes nothing.
-use Prim.Native.Nat.{ℕ, _+_, _-_, _*_, _≤_}
+use Prim.Native.Nat.{ℕ, _+_, _-_, _≤_}
 use borrow.Author.Needs.{needs}
-use lib.ListN.{length}
 use mathlib.Core.List.{List}
 use mathlib.Core.Path.{_≡_, sym, subst}
-use native.Mathlib.Nat.{le-refl, le-trans, le-of-eq, min-le-right}
+use native.Mathlib.Nat.{le-refl}
 use native.Mathlib.Omega.{arith}
 use Rattle.choose.specs.State.{bestValue, bestAmount}
 use Rattle.rules.specs.Operations.{behaviourOf}
 use Rattle.slices.specs.Decided.{Decided, decided-none, decided-row, decided-all}
 use Rattle.slices.specs.Rows.{cells}
-use Rattle.states.proofs.Laws.{next-row, value-row, amount-row}
+use Rattle.states.proofs.Laws.{below-most, next-row, value-row, amount-row}
 use Rattle.states.proofs.decide_layer.Statement.{statement}
 use Rattle.states.proofs.decide_layer.Tie as tie
 
@@ -41,7 +40,7 @@ decide-row-requires c κs =
     let h : c .before .before .before .loop .w - 1 + 1 ≤ c .before .before .before .before .before .before .before .before .before .args .n = omega arith in
     let x = subst (λ (k : ℕ). Decided (c .before .before .before .before .before .before .before .before .before .args .work .now) (c .before .before .before .loop .work) (c .before .before .before .before .before .before .before .before .before .args .stride) k (c .before .before .before .before .before .before .before .before .before .args .n) (bestValue (behaviourOf (c .before .before .before .before .before .before .before .before .before .args .behaviour)) (cells (c .before .before .before .before .before .before .before .before .before .args .work .now) (c .before .before .before .before .before .before .before .before .before .args .base) (c .before .before .before .before .before .before .before .before .before .args .stride)) (c .before .before .before .before .before .before .before .before .before .args .rate) (c .before .before .before .before .before .before .before .before .before .args .level))) up (c .before .before .before .loop .inv .1) in
     let y = subst (λ (k : ℕ). Decided (c .before .before .before .before .before .before .before .before .before .args .table .now) (c .before .before .before .loop .table) (c .before .before .before .before .before .before .before .before .before .args .stride) k (c .before .before .before .before .before .before .before .before .before .args .n) (bestAmount (behaviourOf (c .before .before .before .before .before .before .before .before .before .args .behaviour)) (cells (c .before .before .before .before .before .before .before .before .before .args .work .now) (c .before .before .before .before .before .before .before .before .before .args .base) (c .before .before .before .before .before .before .before .before .before .args .stride)) (c .before .before .before .before .before .before .before .before .before .args .rate) (c .before .before .before .before .before .before .before .before .before .args .level))) up (c .before .before .before .loop .inv .2) in
-    next-row (c .before .before .before .before .before .before .before .before .before .pre .0) (c .before .before .before .loop .w - 1) h x y (le-trans (le-of-eq (c .before .before .before .before .before .before .smaller .ensures)) (min-le-right _ _)) (c .before .before .before .before .rising .ensures)
+    next-row (c .before .before .before .before .before .before .before .before .before .pre .0) (c .before .before .before .loop .w - 1) h x y (below-most (c .before .before .before .before .before .before .before .before .before .args .level) (c .before .before .before .before .before .before .before .before .before .args .stride) (c .before .before .before .before .before .before .smaller .result) (c .before .before .before .before .before .before .before .before .before .pre .1) (c .before .before .before .before .before .before .smaller .ensures)) (c .before .before .before .before .rising .ensures)
 
 loop-less : tie.Need-loop-less Inv-loop μ-loop
 loop-less c = omega arith

@@ -1,74 +1,48 @@
 -- `states::decide_row` meets its contract. Assumes nothing.
-use Prim.Native.Nat.{ℕ, _+_, _-_, _*_, _≤_}
+use Prim.Native.Nat.{ℕ}
 use borrow.Author.Needs.{needs}
-use lib.ListN.{length}
-use mathlib.Core.List.{List}
-use mathlib.Core.Path.{_≡_, refl, ap, sym, _∙_, subst₂}
+use mathlib.Core.Path.{subst}
 use native.Mathlib.Omega.{arith}
-use Rattle.choose.specs.State.{bestValue, bestAmount}
 use Rattle.rules.specs.Operations.{behaviourOf}
-use Rattle.slices.specs.Rows.{cells}
-use Rattle.slices.specs.Stored.{stored, length-stored, stored-join}
-use Rattle.states.proofs.Laws.{sums-kept, row-on}
+use Rattle.states.proofs.Laws.{row-plain}
 use Rattle.states.specs.Row.{Row}
 use Rattle.states.proofs.decide_row.Statement.{statement}
 use Rattle.states.proofs.decide_row.Tie as tie
 
-abbrev Inv-loop : tie.InvT-loop
-Inv-loop behaviour work₀ table₀ base stride w level rate rising from₀ work table from = (from ≤ stride) × (work ≡ stored work₀ (w * stride) (bestValue (behaviourOf behaviour) (cells work₀ base stride) rate level w) from) × (table ≡ stored table₀ (w * stride) (bestAmount (behaviourOf behaviour) (cells work₀ base stride) rate level w) from)
+dynamic-row-requires : tie.Need-dynamic-row-requires
+dynamic-row-requires c κs = subst (λ (z : ℕ). Row z (c .before .before .before .before .before .args .work .now) (c .before .before .before .before .before .args .table .now) (c .before .before .before .before .before .args .base) (c .before .before .before .before .before .args .stride) (c .before .before .before .before .before .args .w) (c .before .before .before .before .before .args .level) (c .before .before .before .before .before .args .rate) (c .before .before .before .before .before .args .rising)) (c .before .before .if1 .taken) (c .before .before .before .before .before .pre)
 
-abbrev μ-loop : tie.MeasureT-loop
-μ-loop behaviour work₀ table₀ base stride w level rate rising from₀ work table from = stride - from
+plain-row-requires : tie.Need-plain-row-requires
+plain-row-requires c κs = (omega (arith, c .before .before .before .before .before .pre .known), row-plain (c .before .before .before .before .before .pre), c .before .before .before .before .before .pre .rate-is)
 
-loop-holds : tie.Need-loop-holds Inv-loop μ-loop
-unfolding stored
-loop-holds c = (omega arith, refl, refl)
+same-length : tie.Need-same-length
+same-length c = search needs
 
-sub-smaller : tie.Need-sub-smaller Inv-loop μ-loop
-sub-smaller c = omega arith
+same-length-2 : tie.Need-same-length-2
+same-length-2 c = search needs
 
-smaller-requires : tie.Need-smaller-requires Inv-loop μ-loop
-smaller-requires c κs = search needs
+returns : tie.Need-returns
+unfolding behaviourOf
+returns c = rw (c .before .before .before .before .before .before .before .if1 .taken) (c .before .before .before .before .dynamic-row .ensures)
 
-decide-run-requires : tie.Need-decide-run-requires Inv-loop μ-loop
-decide-run-requires c κs = let e = c .before .before .smaller .ensures in (subst₂ (λ (xs ys : List ℕ). Row (c .before .before .before .before .before .before .before .args .behaviour) xs ys (c .before .before .before .before .before .before .before .args .base) (c .before .before .before .before .before .before .before .args .stride) (c .before .before .before .before .before .before .before .args .w) (c .before .before .before .before .before .before .before .args .level) (c .before .before .before .before .before .before .before .args .rate) (c .before .before .before .before .before .before .before .args .rising)) (sym (c .before .before .before .before .loop .inv .1)) (sym (c .before .before .before .before .loop .inv .2)) (row-on (c .before .before .before .before .before .before .before .pre) _ _ (c .before .before .before .before .loop .from) (c .before .before .before .before .loop .inv .0)), omega arith, omega arith, omega arith)
+same-length-3 : tie.Need-same-length-3
+same-length-3 c = search needs
 
-add-from : tie.Need-add-from Inv-loop μ-loop
-add-from c = let e = c .before .before .before .before .before .before .before .smaller .ensures in omega (arith, c .before .before .before .before .before .before .before .before .before .before .before .before .pre .width)
+same-length-4 : tie.Need-same-length-4
+same-length-4 c = search needs
 
-loop-less : tie.Need-loop-less Inv-loop μ-loop
-loop-less c = let e = c .before .before .before .before .before .before .before .smaller .ensures in omega arith
-
-loop-again : tie.Need-loop-again Inv-loop μ-loop
-loop-again c =
-    let e = c .before .before .before .before .before .before .before .smaller .ensures in
-    let sums = ap (λ (xs : List ℕ). cells xs (c .before .before .before .before .before .before .before .before .before .before .before .before .args .base) (c .before .before .before .before .before .before .before .before .before .before .before .before .args .stride)) (c .before .before .before .before .before .before .before .before .before .loop .inv .1) ∙ sums-kept (c .before .before .before .before .before .before .before .before .before .before .before .before .pre) _ (λ x. x) (c .before .before .before .before .before .before .before .before .before .loop .from) (c .before .before .before .before .before .before .before .before .before .loop .inv .0) in
-    let value = ap (λ (xs : List ℕ). stored xs (c .before .before .before .before .before .before .before .before .before .before .before .before .args .w * c .before .before .before .before .before .before .before .before .before .before .before .before .args .stride + c .before .before .before .before .before .before .before .before .before .loop .from) (λ j. bestValue (behaviourOf (c .before .before .before .before .before .before .before .before .before .before .before .before .args .behaviour)) (cells (c .before .before .before .before .before .before .before .before .before .loop .work) (c .before .before .before .before .before .before .before .before .before .before .before .before .args .base) (c .before .before .before .before .before .before .before .before .before .before .before .before .args .stride)) (c .before .before .before .before .before .before .before .before .before .before .before .before .args .rate) (c .before .before .before .before .before .before .before .before .before .before .before .before .args .level) (c .before .before .before .before .before .before .before .before .before .before .before .before .args .w) (c .before .before .before .before .before .before .before .before .before .loop .from + j)) (c .before .before .before .before .before .before .before .smaller .result)) (c .before .before .before .before .before .before .before .before .before .loop .inv .1) in
-    let amount = ap (λ (xs : List ℕ). stored xs (c .before .before .before .before .before .before .before .before .before .before .before .before .args .w * c .before .before .before .before .before .before .before .before .before .before .before .before .args .stride + c .before .before .before .before .before .before .before .before .before .loop .from) (λ j. bestAmount (behaviourOf (c .before .before .before .before .before .before .before .before .before .before .before .before .args .behaviour)) (cells (c .before .before .before .before .before .before .before .before .before .loop .work) (c .before .before .before .before .before .before .before .before .before .before .before .before .args .base) (c .before .before .before .before .before .before .before .before .before .before .before .before .args .stride)) (c .before .before .before .before .before .before .before .before .before .before .before .before .args .rate) (c .before .before .before .before .before .before .before .before .before .before .before .before .args .level) (c .before .before .before .before .before .before .before .before .before .before .before .before .args .w) (c .before .before .before .before .before .before .before .before .before .loop .from + j)) (c .before .before .before .before .before .before .before .smaller .result)) (c .before .before .before .before .before .before .before .before .before .loop .inv .2) in
-    (omega arith, c .before .before .before .before .decide-run .ensures .0 ∙ value ∙ stored-join (c .before .before .before .before .before .before .before .before .before .before .before .before .args .work .now) (c .before .before .before .before .before .before .before .before .before .before .before .before .args .w * c .before .before .before .before .before .before .before .before .before .before .before .before .args .stride) _ _ (c .before .before .before .before .before .before .before .before .before .loop .from) (c .before .before .before .before .before .before .before .smaller .result) (λ j l. ap (λ (s : ℕ → ℕ → ℕ). bestValue (behaviourOf (c .before .before .before .before .before .before .before .before .before .before .before .before .args .behaviour)) s (c .before .before .before .before .before .before .before .before .before .before .before .before .args .rate) (c .before .before .before .before .before .before .before .before .before .before .before .before .args .level) (c .before .before .before .before .before .before .before .before .before .before .before .before .args .w) (c .before .before .before .before .before .before .before .before .before .loop .from + j)) sums), c .before .before .before .before .decide-run .ensures .1 ∙ amount ∙ stored-join (c .before .before .before .before .before .before .before .before .before .before .before .before .args .table .now) (c .before .before .before .before .before .before .before .before .before .before .before .before .args .w * c .before .before .before .before .before .before .before .before .before .before .before .before .args .stride) _ _ (c .before .before .before .before .before .before .before .before .before .loop .from) (c .before .before .before .before .before .before .before .smaller .result) (λ j l. ap (λ (s : ℕ → ℕ → ℕ). bestAmount (behaviourOf (c .before .before .before .before .before .before .before .before .before .before .before .before .args .behaviour)) s (c .before .before .before .before .before .before .before .before .before .before .before .before .args .rate) (c .before .before .before .before .before .before .before .before .before .before .before .before .args .level) (c .before .before .before .before .before .before .before .before .before .before .before .before .args .w) (c .before .before .before .before .before .before .before .before .before .loop .from + j)) sums))
-
-same-length : tie.Need-same-length Inv-loop μ-loop
-same-length c = ap length (c .before .loop .inv .1) ∙ length-stored _ _ _ _
-
-same-length-2 : tie.Need-same-length-2 Inv-loop μ-loop
-same-length-2 c = ap length (c .before .loop .inv .2) ∙ length-stored _ _ _ _
-
-returns : tie.Need-returns Inv-loop μ-loop
-returns c = let e : c .before .loop .from ≡ c .before .before .before .before .args .stride = omega arith in (c .before .loop .inv .1 ∙ ap (stored _ _ _) e, c .before .loop .inv .2 ∙ ap (stored _ _ _) e)
+returns-2 : tie.Need-returns-2
+returns-2 c = c .before .before .before .before .plain-row .ensures
 
 pub decide-row-spec : {M : Type 1} → statement M
 decide-row-spec =
     tie.close
     (tie.spec
-    Inv-loop
-    μ-loop
-    loop-holds
-    sub-smaller
-    smaller-requires
-    decide-run-requires
-    add-from
-    loop-less
-    loop-again
+    dynamic-row-requires
+    plain-row-requires
     same-length
     same-length-2
-    returns)
+    returns
+    same-length-3
+    same-length-4
+    returns-2)

@@ -1,0 +1,78 @@
+-- `choose::copy` meets its contract. Assumes nothing.
+use Prim.Native.Nat.{ℕ, _+_, _-_, _≤_}
+use lib.ListN.{length, getD, set}
+use mathlib.Core.List.{List}
+use mathlib.Core.Logic.{inr}
+use mathlib.Core.Path.{_≡_, refl, ap, sym, _∙_}
+use native.Mathlib.Omega.{arith}
+use Rattle.slices.specs.Stored.{stored, length-stored, stored-next, stored-out}
+use Rattle.choose.proofs.copy.Statement.{statement}
+use Rattle.choose.proofs.copy.Tie as tie
+
+abbrev Inv-loop : tie.InvT-loop
+Inv-loop work₀ to at n cash i₀ work i = (i ≤ n) × (work ≡ stored work₀ to (λ x. cash + getD work₀ (at + x) 0) i)
+
+abbrev μ-loop : tie.MeasureT-loop
+μ-loop work₀ to at n cash i₀ work i = n - i
+
+loop-holds : tie.Need-loop-holds Inv-loop μ-loop
+unfolding stored
+loop-holds c = (omega arith, refl)
+
+add-work : tie.Need-add-work Inv-loop μ-loop
+add-work c = omega (arith, c .before .before .pre .0, c .before .before .pre .1)
+
+mul-work : tie.Need-mul-work Inv-loop μ-loop
+mul-work c = let e : length (c .before .loop .work) ≡ length (c .before .before .args .work .now) = ap length (c .before .loop .inv .1) ∙ length-stored _ _ _ _ in omega (arith, c .before .before .pre .0, c .before .before .pre .1)
+
+slice-read-work : tie.Need-slice-read-work Inv-loop μ-loop
+slice-read-work c = let e : length (c .before .before .loop .work) ≡ length (c .before .before .before .args .work .now) = ap length (c .before .before .loop .inv .1) ∙ length-stored _ _ _ _ in omega (arith, c .before .before .before .pre .0, c .before .before .before .pre .1)
+
+add-work-2 : tie.Need-add-work-2 Inv-loop μ-loop
+add-work-2 c = let s = c .before .before .before .pre .2 (c .before .before .loop .i) (c .before .loop-test .taken) in let e = ap (λ (xs : List ℕ). getD xs (c .before .before .before .args .at + c .before .before .loop .i) 0) (c .before .before .loop .inv .1) ∙ stored-out _ _ _ _ (c .before .before .before .args .at + c .before .before .loop .i) (inr (omega (arith, c .before .before .before .pre .0))) in omega arith
+
+add-work-3 : tie.Need-add-work-3 Inv-loop μ-loop
+add-work-3 c = omega (arith, c .before .before .before .pre .0, c .before .before .before .pre .1)
+
+mul-work-2 : tie.Need-mul-work-2 Inv-loop μ-loop
+mul-work-2 c = let e : length (c .before .before .loop .work) ≡ length (c .before .before .before .args .work .now) = ap length (c .before .before .loop .inv .1) ∙ length-stored _ _ _ _ in omega (arith, c .before .before .before .pre .0, c .before .before .before .pre .1)
+
+slice-write-work : tie.Need-slice-write-work Inv-loop μ-loop
+slice-write-work c = let e : length (c .before .before .loop .work) ≡ length (c .before .before .before .args .work .now) = ap length (c .before .before .loop .inv .1) ∙ length-stored _ _ _ _ in omega (arith, c .before .before .before .pre .0, c .before .before .before .pre .1)
+
+add-i : tie.Need-add-i Inv-loop μ-loop
+add-i c = omega (arith, c .before .before .before .pre .0, c .before .before .before .pre .1)
+
+loop-less : tie.Need-loop-less Inv-loop μ-loop
+loop-less c = omega arith
+
+loop-again : tie.Need-loop-again Inv-loop μ-loop
+loop-again c =
+    let e = ap (λ (xs : List ℕ). c .before .before .before .args .cash + getD xs (c .before .before .before .args .at + c .before .before .loop .i) 0) (c .before .before .loop .inv .1) ∙ ap (λ (z : ℕ). c .before .before .before .args .cash + z) (stored-out (c .before .before .before .args .work .now) (c .before .before .before .args .to) _ (c .before .before .loop .i) (c .before .before .before .args .at + c .before .before .loop .i) (inr (omega (arith, c .before .before .before .pre .0)))) in
+    (omega arith, (λ k. set (c .before .before .loop .inv .1 k) (c .before .before .before .args .to + c .before .before .loop .i) (e k)) ∙ stored-next _ _ _ _)
+
+same-length : tie.Need-same-length Inv-loop μ-loop
+same-length c = ap length (c .before .loop .inv .1) ∙ length-stored _ _ _ _
+
+returns : tie.Need-returns Inv-loop μ-loop
+returns c = let e : c .before .loop .i ≡ c .before .before .args .n = omega arith in rw (sym e) (c .before .loop .inv .1)
+
+pub copy-spec : {M : Type 1} → statement M
+copy-spec =
+    tie.close
+    (tie.spec
+    Inv-loop
+    μ-loop
+    loop-holds
+    add-work
+    mul-work
+    slice-read-work
+    add-work-2
+    add-work-3
+    mul-work-2
+    slice-write-work
+    add-i
+    loop-less
+    loop-again
+    same-length
+    returns)

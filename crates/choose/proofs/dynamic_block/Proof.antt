@@ -1,0 +1,23 @@
+-- `choose::dynamic_block` meets its contract. Assumes nothing.
+use borrow.Author.Needs.{needs}
+use Rattle.choose.proofs.Entries.{leads-worth}
+use Rattle.choose.proofs.Settled.{leads-chosen}
+use Rattle.slices.specs.Rows.{cells}
+use Rattle.choose.proofs.dynamic_block.Statement.{statement}
+use Rattle.choose.proofs.dynamic_block.Tie as tie
+
+free-block-requires : tie.Need-free-block-requires
+free-block-requires c κs = (c .before .before .before .before .pre .0 .span, c .before .before .before .before .pre .0 .level-is, c .before .before .before .before .pre .4, c .before .before .before .before .pre .5)
+
+further-block-requires : tie.Need-further-block-requires
+further-block-requires c κs = (c .before .before .before .before .before .before .before .pre .0, c .before .before .before .before .before .before .before .pre .1, c .before .before .before .before .before .before .before .pre .2, leads-worth (cells (c .before .before .before .before .before .before .before .args .work .now) (c .before .before .before .before .before .before .before .args .base) (c .before .before .before .before .before .before .before .args .stride)) (c .before .before .before .before .before .before .before .args .rate) (c .before .before .before .before .before .before .before .args .level) (c .before .before .before .before .before .before .before .args .w) (c .before .before .before .before .before .before .before .args .from) (c .before .before .free-block .ensures))
+
+share-block-requires : tie.Need-share-block-requires
+share-block-requires c κs = search needs
+
+returns : tie.Need-returns
+returns c = leads-chosen (c .share-block .ensures)
+
+pub dynamic-block-spec : {M : Type 1} → statement M
+dynamic-block-spec =
+    tie.close (tie.spec free-block-requires further-block-requires share-block-requires returns)

@@ -1,0 +1,14 @@
+-- `choose::pick_amount` meets its contract. Assumes nothing.
+use borrow.Author.Tests.{lt-ltb, le-ltb}
+use mathlib.Core.Path.{sym}
+use Rattle.choose.proofs.pick_amount.Statement.{statement}
+use Rattle.choose.proofs.pick_amount.Tie as tie
+
+returns : tie.Need-returns
+returns c = sym (rw (lt-ltb _ _ (c .if1 .taken)))
+
+returns-2 : tie.Need-returns-2
+returns-2 c = sym (rw (le-ltb _ _ (c .if1 .left)))
+
+pub pick-amount-spec : {M : Type 1} → statement M
+pick-amount-spec = tie.close (tie.spec returns returns-2)

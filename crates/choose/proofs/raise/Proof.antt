@@ -1,0 +1,83 @@
+-- `choose::raise` meets its contract. Assumes nothing.
+use Prim.Native.Nat.{ℕ, _+_, _-_, _≤_}
+use borrow.Author.Needs.{needs}
+use lib.Dec.{ltb}
+use lib.ListN.{length, getD, set}
+use mathlib.Core.Bool.{cond}
+use mathlib.Core.List.{List}
+use mathlib.Core.Logic.{inr}
+use mathlib.Core.Path.{_≡_, refl, ap, sym, _∙_}
+use native.Mathlib.Nat.{le-refl}
+use native.Mathlib.Omega.{arith}
+use Rattle.slices.specs.Stored.{stored, length-stored, stored-next, stored-out}
+use Rattle.choose.proofs.raise.Statement.{statement}
+use Rattle.choose.proofs.raise.Tie as tie
+
+abbrev Inv-loop : tie.InvT-loop
+Inv-loop work₀ to n other i₀ work i = (i ≤ n) × (work ≡ stored work₀ to (λ x. cond (ltb (getD work₀ (to + x) 0) other) other (getD work₀ (to + x) 0)) i)
+
+abbrev μ-loop : tie.MeasureT-loop
+μ-loop work₀ to n other i₀ work i = n - i
+
+loop-holds : tie.Need-loop-holds Inv-loop μ-loop
+unfolding stored
+loop-holds c = (omega arith, refl)
+
+add-held : tie.Need-add-held Inv-loop μ-loop
+add-held c = omega (arith, c .before .before .before .pre)
+
+mul-held : tie.Need-mul-held Inv-loop μ-loop
+mul-held c = omega (arith, c .before .before .before .pre)
+
+slice-read-held : tie.Need-slice-read-held Inv-loop μ-loop
+slice-read-held c = let e : length (c .before .before .loop .work) ≡ length (c .before .before .before .before .args .work .now) = ap length (c .before .before .loop .inv .1) ∙ length-stored _ _ _ _ in omega (arith, c .before .before .before .before .pre)
+
+pick-requires : tie.Need-pick-requires Inv-loop μ-loop
+pick-requires c κs = search needs
+
+add-work : tie.Need-add-work Inv-loop μ-loop
+add-work c = omega (arith, c .before .before .before .before .before .pre)
+
+mul-work : tie.Need-mul-work Inv-loop μ-loop
+mul-work c = omega (arith, c .before .before .before .before .before .pre)
+
+slice-write-work : tie.Need-slice-write-work Inv-loop μ-loop
+slice-write-work c = let e : length (c .before .before .before .loop .work) ≡ length (c .before .before .before .before .before .args .work .now) = ap length (c .before .before .before .loop .inv .1) ∙ length-stored _ _ _ _ in omega (arith, c .before .before .before .before .before .pre)
+
+add-i : tie.Need-add-i Inv-loop μ-loop
+add-i c = omega (arith, c .before .before .before .before .before .pre)
+
+loop-less : tie.Need-loop-less Inv-loop μ-loop
+loop-less c = omega arith
+
+loop-again : tie.Need-loop-again Inv-loop μ-loop
+loop-again c =
+    let held = ap (λ (xs : List ℕ). getD xs (c .before .before .before .before .before .args .to + c .before .before .before .loop .i) 0) (c .before .before .before .loop .inv .1) ∙ stored-out _ _ _ _ (c .before .before .before .before .before .args .to + c .before .before .before .loop .i) (inr (le-refl _)) in
+    let e = c .pick .ensures ∙ ap (λ (z : ℕ). cond (ltb z (c .before .before .before .before .before .args .other)) (c .before .before .before .before .before .args .other) z) held in
+    (omega arith, (λ k. set (c .before .before .before .loop .inv .1 k) (c .before .before .before .before .before .args .to + c .before .before .before .loop .i) (e k)) ∙ stored-next _ _ _ _)
+
+same-length : tie.Need-same-length Inv-loop μ-loop
+same-length c = ap length (c .before .loop .inv .1) ∙ length-stored _ _ _ _
+
+returns : tie.Need-returns Inv-loop μ-loop
+returns c = let e : c .before .loop .i ≡ c .before .before .before .args .n = omega arith in rw (sym e) (c .before .loop .inv .1)
+
+pub raise-spec : {M : Type 1} → statement M
+raise-spec =
+    tie.close
+    (tie.spec
+    Inv-loop
+    μ-loop
+    loop-holds
+    add-held
+    mul-held
+    slice-read-held
+    pick-requires
+    add-work
+    mul-work
+    slice-write-work
+    add-i
+    loop-less
+    loop-again
+    same-length
+    returns)

@@ -1,0 +1,84 @@
+-- `choose::static_row` meets its contract. Assumes nothing.
+use Prim.Native.Nat.{ℕ, _+_, _-_, _*_}
+use borrow.Author.Needs.{needs}
+use lib.ListN.{length}
+use mathlib.Core.Path.{_≡_, ap, _∙_}
+use native.Mathlib.Nat.{sub-le}
+use native.Mathlib.Omega.{arith}
+use Rattle.choose.proofs.Settled.{row-room, row-long, table-long, sums-room, sum-small, static-read, static-work, static-table}
+use Rattle.slices.specs.Stored.{length-stored}
+use Rattle.choose.proofs.static_row.Statement.{statement}
+use Rattle.choose.proofs.static_row.Tie as tie
+
+static-few-requires : tie.Need-static-few-requires
+static-few-requires c κs = c .before .before .before .before .pre
+
+mul-to : tie.Need-mul-to
+mul-to c = let r = row-long (c .before .before .before .before .before .before .before .before .before .pre) (c .before .before .before .before .before .before .before .before .before .args .level) 0 (omega (arith, c .before .before .before .before .before .before .before .before .before .pre .level-is)) in omega arith
+
+add-to : tie.Need-add-to
+add-to c = let r = row-long (c .before .before .before .before .before .before .before .before .before .pre) (c .before .before .before .before .before .before .before .before .before .args .level) 0 (omega (arith, c .before .before .before .before .before .before .before .before .before .pre .level-is)) in omega arith
+
+less-requires : tie.Need-less-requires
+less-requires c κs = search needs
+
+mul-at : tie.Need-mul-at
+mul-at c = let e = c .less .ensures in let r = sums-room (c .before .before .before .before .before .before .before .before .before .before .pre) (c .less .result) 0 0 (omega arith) (omega arith) in omega arith
+
+add-at : tie.Need-add-at
+add-at c = let e = c .less .ensures in let r = sums-room (c .before .before .before .before .before .before .before .before .before .before .pre) (c .less .result) 0 0 (omega arith) (omega arith) in omega arith
+
+sub-copy : tie.Need-sub-copy
+sub-copy c = omega (arith, c .before .before .before .before .before .before .before .before .before .before .before .pre .level-is)
+
+mul-copy : tie.Need-mul-copy
+mul-copy c = omega (arith, c .before .before .before .before .before .before .before .before .before .before .before .pre .level-is, c .before .before .before .before .before .before .before .before .before .before .before .pre .width)
+
+cast-copy : tie.Need-cast-copy
+cast-copy c = omega (arith, c .before .before .before .before .before .before .before .before .before .before .before .pre .level-is, c .before .before .before .before .before .before .before .before .before .before .before .pre .width)
+
+copy-requires : tie.Need-copy-requires
+copy-requires c κs =
+    let at = ap (λ (z : ℕ). c .before .before .before .before .before .before .before .before .before .before .before .args .base + z * c .before .before .before .before .before .before .before .before .before .before .before .args .stride) (c .before .less .ensures) in let long : length (c .before .before .before .before .before .before .static-few .last .0) ≡ length (c .before .before .before .before .before .before .before .before .before .before .before .args .work .now) = ap length (c .before .before .before .before .before .before .static-few .ensures .0) ∙ length-stored _ _ _ _ in
+    let r = row-room (c .before .before .before .before .before .before .before .before .before .before .before .pre) (c .before .before .before .before .before .before .before .before .before .before .before .args .level) (c .before .before .before .before .before .before .before .before .before .before .before .args .stride - c .before .before .before .before .before .before .before .before .before .before .before .args .level) (omega (arith, c .before .before .before .before .before .before .before .before .before .before .before .pre .level-is)) in
+    let q = sums-room (c .before .before .before .before .before .before .before .before .before .before .before .pre) (c .before .before .before .before .before .before .before .before .before .before .before .args .w - c .before .before .before .before .before .before .before .before .before .before .before .args .level) 0 (c .before .before .before .before .before .before .before .before .before .before .before .args .stride - c .before .before .before .before .before .before .before .before .before .before .before .args .level) (sub-le _ _) (omega arith) in
+    (omega arith, omega arith, λ i l. let z = static-read (c .before .before .before .before .before .before .before .before .before .before .before .pre) _ (c .before .before .before .before .before .before .static-few .ensures .0) at i in let s = sum-small (c .before .before .before .before .before .before .before .before .before .before .before .pre) (c .before .before .before .before .before .before .before .before .before .before .before .args .w - c .before .before .before .before .before .before .before .before .before .before .before .args .level) i (c .before .before .before .before .before .before .before .before .before .before .before .args .level) (sub-le _ _) (omega (arith, c .before .before .before .before .before .before .before .before .before .before .before .pre .level-is)) (omega (arith, c .before .before .before .before .before .before .before .before .before .before .before .pre .level-is, c .before .before .before .before .before .before .before .before .before .before .before .pre .width)) in omega arith)
+
+sub-fill : tie.Need-sub-fill
+sub-fill c = omega (arith, c .before .before .before .before .before .before .before .before .before .before .before .before .before .before .before .pre .level-is)
+
+cast-fill : tie.Need-cast-fill
+cast-fill c = omega (arith, c .before .before .before .before .before .before .before .before .before .before .before .before .before .before .before .pre .level-is, c .before .before .before .before .before .before .before .before .before .before .before .before .before .before .before .pre .width)
+
+fill-requires : tie.Need-fill-requires
+fill-requires c κs = let long : length (c .before .before .before .before .before .before .before .before .before .before .static-few .last .1 .0) ≡ length (c .before .before .before .before .before .before .before .before .before .before .before .before .before .before .before .args .table .now) = ap length (c .before .before .before .before .before .before .before .before .before .before .static-few .ensures .1) ∙ length-stored _ _ _ _ in let r = table-long (c .before .before .before .before .before .before .before .before .before .before .before .before .before .before .before .pre) (c .before .before .before .before .before .before .before .before .before .before .before .before .before .before .before .args .level) (c .before .before .before .before .before .before .before .before .before .before .before .before .before .before .before .args .stride - c .before .before .before .before .before .before .before .before .before .before .before .before .before .before .before .args .level) (omega (arith, c .before .before .before .before .before .before .before .before .before .before .before .before .before .before .before .pre .level-is)) in omega arith
+
+same-length : tie.Need-same-length
+same-length c = ap length (c .before .before .before .before .before .before .copy .ensures) ∙ length-stored _ _ _ _ ∙ ap length (c .before .before .before .before .before .before .before .before .before .before .before .before .before .static-few .ensures .0) ∙ length-stored _ _ _ _
+
+same-length-2 : tie.Need-same-length-2
+same-length-2 c = ap length (c .before .before .fill .ensures) ∙ length-stored _ _ _ _ ∙ ap length (c .before .before .before .before .before .before .before .before .before .before .before .before .before .static-few .ensures .1) ∙ length-stored _ _ _ _
+
+returns : tie.Need-returns
+returns c = let at = ap (λ (z : ℕ). c .before .before .before .before .before .before .before .before .before .before .before .before .before .before .before .before .before .before .args .base + z * c .before .before .before .before .before .before .before .before .before .before .before .before .before .before .before .before .before .before .args .stride) (c .before .before .before .before .before .before .before .before .less .ensures) in (static-work (c .before .before .before .before .before .before .before .before .before .before .before .before .before .before .before .before .before .before .pre) _ (c .before .before .before .before .before .before .before .before .before .before .before .before .before .static-few .ensures .0) at (c .before .before .before .before .before .before .copy .ensures), static-table (c .before .before .before .before .before .before .before .before .before .before .before .before .before .before .before .before .before .before .pre) (c .before .before .before .before .before .before .before .before .before .before .before .before .before .static-few .ensures .1) (c .before .before .fill .ensures))
+
+pub static-row-spec : {M : Type 1} → statement M
+static-row-spec =
+    tie.close
+    (tie.spec
+    static-few-requires
+    mul-to
+    add-to
+    less-requires
+    mul-at
+    add-at
+    sub-copy
+    mul-copy
+    cast-copy
+    copy-requires
+    sub-fill
+    cast-fill
+    fill-requires
+    same-length
+    same-length-2
+    returns)
