@@ -89,7 +89,7 @@ module _ {work starts weights : List ℕ} {count discount to stride : ℕ} (r : 
   }
 
 -- the last n guarantees of a row
-pub row-run : {work starts weights : List ℕ} {count discount to : ℕ} (from n : ℕ) → Row work starts weights count discount to (from + n) → n ≤ 64
+pub row-run : {work starts weights : List ℕ} {count discount to : ℕ} (from n : ℕ) → Row work starts weights count discount to (from + n) → n ≤ 256
     → Run work starts weights count from n
 row-run from n r h = record {
   few = r .few;
@@ -99,9 +99,9 @@ row-run from n r h = record {
 }
 
 -- no returns yet
-pub summed-none : {work starts weights : List ℕ} (from n : ℕ) → n ≤ 64 → Summed work starts weights (replicate 64 0) from n 0
+pub summed-none : {work starts weights : List ℕ} (from n : ℕ) → n ≤ 256 → Summed work starts weights (replicate 256 0) from n 0
 unfolding sum
-summed-none from n h = record { long = h; each = λ j l. getD-replicate 64 j 0 0 (omega arith) }
+summed-none from n h = record { long = h; each = λ j l. getD-replicate 256 j 0 0 (omega arith) }
 
 -- ---- the row of one balance
 module _ {c : Terms} {work list weights : List ℕ} {count balance stride size : ℕ} (b : Balance c work list weights count balance stride size) where

@@ -27,7 +27,7 @@ term work starts weights a k = getD weights k 0 * getD work (getD starts k 0 + a
 -- n guarantees, from `from` on, in rows that the slice holds
 pub record Run (work starts weights : List ℕ) (count from n : ℕ) : Type 0 where
   pub few : count ≤ returnsMost
-  pub short : n ≤ 64
+  pub short : n ≤ 256
   pub light : (k : ℕ) → k < count → getD weights k 0 ≤ weightMost
   pub within : (k : ℕ) → k < count → getD starts k 0 + (from + n) ≤ length work
 

@@ -42,7 +42,7 @@ fn reached_sum(
 
 // Return k, for n guarantees.
 fn add_one(
-    sums: &mut [usize; 64],
+    sums: &mut [usize; 256],
     work: &[u32],
     starts: &[usize; 64],
     weights: &[u32; 64],
@@ -60,7 +60,7 @@ fn add_one(
 
 // Four returns at once: one load and one store of a sum for four products.
 fn add_four(
-    sums: &mut [usize; 64],
+    sums: &mut [usize; 256],
     work: &[u32],
     starts: &[usize; 64],
     weights: &[u32; 64],
@@ -83,7 +83,7 @@ fn add_four(
 
 // The next four returns, or one where fewer are left. Gives the number of the return after them.
 fn add_next(
-    sums: &mut [usize; 64],
+    sums: &mut [usize; 256],
     work: &[u32],
     starts: &[usize; 64],
     weights: &[u32; 64],
@@ -105,7 +105,7 @@ fn add_next(
 
 // The sums of n guarantees, from `from` on.
 fn add_all(
-    sums: &mut [usize; 64],
+    sums: &mut [usize; 256],
     work: &[u32],
     starts: &[usize; 64],
     weights: &[u32; 64],
@@ -122,8 +122,8 @@ fn add_all(
     }
 }
 
-fn store_sums(work: &mut [u32], sums: &[usize; 64], discount: usize, to: usize, n: usize)
-    requires { ⌜ (discount ≤ discountMost) × (n ≤ 64) × (to + n ≤ length (now work)) × ((j : ℕ) → j < n → getD (now sums) j 0 ≤ 42949672950000) ⌝ }
+fn store_sums(work: &mut [u32], sums: &[usize; 256], discount: usize, to: usize, n: usize)
+    requires { ⌜ (discount ≤ discountMost) × (n ≤ 256) × (to + n ≤ length (now work)) × ((j : ℕ) → j < n → getD (now sums) j 0 ≤ 42949672950000) ⌝ }
     ensures { λ _. ⌜ now (work .exit) ≡ stored (now (work .entry)) to (λ (j : ℕ). discounted discount (getD (now (sums .entry)) j 0)) n ⌝ }
 {
     for j in 0..n {
@@ -142,15 +142,15 @@ fn expect_run(
     from: usize,
     n: usize,
 )
-    requires { ⌜ Row (now work) (now starts) (now weights) count discount to (from + n) × (n ≤ 64) ⌝ }
+    requires { ⌜ Row (now work) (now starts) (now weights) count discount to (from + n) × (n ≤ 256) ⌝ }
     ensures { λ _. ⌜ now (work .exit) ≡ stored (now (work .entry)) (to + from) (λ (j : ℕ). discounted discount (sum (term (now (work .entry)) (now (starts .entry)) (now (weights .entry)) (from + j)) count)) n ⌝ }
 {
-    let mut sums = [0usize; 64];
+    let mut sums = [0usize; 256];
     add_all(&mut sums, &work[..], starts, weights, count, from, n);
     store_sums(work, &sums, discount, to + from, n);
 }
 
-// The row at `to`: the discounted sum of each guarantee, 64 at a time.
+// The row at `to`: the discounted sum of each guarantee, 256 at a time.
 fn expect_row(
     work: &mut [u32],
     starts: &[usize; 64],
@@ -165,7 +165,7 @@ fn expect_row(
 {
     let mut from: usize = 0;
     while from < stride {
-        let n = date::smaller(64, stride - from);
+        let n = date::smaller(256, stride - from);
         expect_run(work, starts, weights, count, discount, to, from, n);
         from += n;
     }
