@@ -25,7 +25,7 @@ pair-hi t a h = omega arith
 pair-out : (t a : ℕ) → a < t + 2 → min (t + 1) a ≡ min (t + 2) a
 pair-out t a h = omega arith
 
-pub none-behind : (s n j : ℕ) → s + (n - s) ≤ j → j < n → ⊥
+none-behind : (s n j : ℕ) → s + (n - s) ≤ j → j < n → ⊥
 none-behind s n j h l = omega arith
 
 pub pair-cash : (t v : ℕ) → 10000 * (t + 2) + v < 4294967296 → 10000 * (t + 1) + 10000 + v < 4294967296
@@ -103,7 +103,7 @@ module _ {work : List ℕ} {base stride w from n : ℕ} (b : Span work base stri
         out j l (inr k) = absurd (none-behind both n j k l)
 
   -- amount 0
-  pub start-at : base + (w * stride + from) ≡ base + ((w - 0) * stride + (from + 0 - 0))
+  start-at : base + (w * stride + from) ≡ base + ((w - 0) * stride + (from + 0 - 0))
   start-at = let z : w - 0 ≡ w = omega arith in rw z (omega arith)
 
   pub start-worth : (j : ℕ) → j < n → freeAt (cells work base stride) w from j 0 ≡ getD work (base + (w * stride + from) + j) 0

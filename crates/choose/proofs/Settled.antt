@@ -36,32 +36,32 @@ module _ (e : ℕ → ℕ → ℕ) (rate level w a : ℕ) where
   pub static-amount : freeAmount level a ≡ bestAmount static e rate level w a
   static-amount = state-found static e rate level w a _ _ static-held .1
 
-pub few-value : (e : ℕ → ℕ → ℕ) (level w a : ℕ) → a < level → 10000 * a + e (w - a) 0 ≡ staticValue e level w a
+few-value : (e : ℕ → ℕ → ℕ) (level w a : ℕ) → a < level → 10000 * a + e (w - a) 0 ≡ staticValue e level w a
 unfolding staticValue freeAmount
 few-value e level w a h =
     let m : min level a ≡ a = omega arith in
     let z : a - a ≡ 0 = omega arith in
     rw (m, z)
 
-pub few-amount : (level a : ℕ) → a < level → a ≡ freeAmount level a
+few-amount : (level a : ℕ) → a < level → a ≡ freeAmount level a
 unfolding freeAmount
 few-amount level a h = omega arith
 
-pub level-value : (e : ℕ → ℕ → ℕ) (level w i : ℕ) → 10000 * level + e (w - level) i ≡ staticValue e level w (level + i)
+level-value : (e : ℕ → ℕ → ℕ) (level w i : ℕ) → 10000 * level + e (w - level) i ≡ staticValue e level w (level + i)
 unfolding staticValue freeAmount
 level-value e level w i =
     let m : min level (level + i) ≡ level = omega arith in
     let z : level + i - level ≡ i = omega arith in
     rw (m, z)
 
-pub level-amount : (level i : ℕ) → level ≡ freeAmount level (level + i)
+level-amount : (level i : ℕ) → level ≡ freeAmount level (level + i)
 unfolding freeAmount
 level-amount level i = omega arith
 
 pub few-entry : (base stride w a x : ℕ) → x ≡ w - a → base + x * stride ≡ base + ((w - a) * stride + 0)
 few-entry base stride w a x e = rw e (omega arith)
 
-pub level-entry : (base stride w level at i : ℕ) → at ≡ base + (w - level) * stride → at + i ≡ base + ((w - level) * stride + i)
+level-entry : (base stride w level at i : ℕ) → at ≡ base + (w - level) * stride → at + i ≡ base + ((w - level) * stride + i)
 level-entry base stride w level at i e = omega arith
 
 -- the guarantees below the level and the account
@@ -162,7 +162,7 @@ settled-static {e} {rate} {level} {w} {at} {n} work table fits enters ev ea = re
 
 module _ {e : ℕ → ℕ → ℕ} {rate level w : ℕ} {work table : List ℕ} {at n : ℕ} where
   -- what a row stores once it is settled
-  pub settled-stored : {b : Behaviour} {work' table' : List ℕ} → Settled (λ a. b) e rate level w work table work' table' at n → at + n ≤ length work → at + n ≤ length table
+  settled-stored : {b : Behaviour} {work' table' : List ℕ} → Settled (λ a. b) e rate level w work table work' table' at n → at + n ≤ length work → at + n ≤ length table
       → (work' ≡ stored work at (bestValue b e rate level w) n) × (table' ≡ stored table at (bestAmount b e rate level w) n)
   settled-stored {b} {work'} {table'} x fits enters = (
     is-stored work work' at (bestValue b e rate level w) n (x .work-long) fits (λ a l. state-found b e rate level w a _ _ (x .each a l) .0) (x .work-out),
@@ -247,7 +247,7 @@ mixed-none {e} {rate} {level} {w} {at} {work' = work'} {table' = table'} x = rec
 }
 
 -- ---- a row stored over another
-pub stored-over : (l : List ℕ) (at : ℕ) (f g : ℕ → ℕ) (n : ℕ) → at + n ≤ length l → stored (stored l at f n) at g n ≡ stored l at g n
+stored-over : (l : List ℕ) (at : ℕ) (f g : ℕ → ℕ) (n : ℕ) → at + n ≤ length l → stored (stored l at f n) at g n ≡ stored l at g n
 stored-over l at f g n fits =
     is-stored l (stored (stored l at f n) at g n) at g n (length-stored (stored l at f n) at g n ∙ length-stored l at f n) fits
     (λ k h. stored-in (stored l at f n) at g n k (le-trans fits (le-of-eq (sym (length-stored l at f n)))) h)

@@ -54,7 +54,7 @@ module _ {work : List ℕ} {base stride w from n level rate : ℕ} (b : Block wo
         let e = left-is i l in
         omega arith
 
-    pub share-value : (i : ℕ) → i < end - low
+    share-value : (i : ℕ) → i < end - low
         → worthAt (cells work base stride) rate level w from (low + i) (t + 1) ≡ k + getD work (base + (w - (t + 1)) * stride + (from + low + i) * ((w - (t + 1)) * inverse) / 1099511627776) 0
     share-value i l =
         let a : from + (low + i) ≡ from + low + i = omega arith in

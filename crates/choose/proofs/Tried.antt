@@ -30,13 +30,13 @@ module _ (level w from : ℕ) where
 
   -- ---- within a run
   module _ (low end t : ℕ) where
-    pub run-before : (j : ℕ) → j < low → triedRun level w from low end t j ≡ max w (freeAmount level (from + j))
+    run-before : (j : ℕ) → j < low → triedRun level w from low end t j ≡ max w (freeAmount level (from + j))
     run-before j h = rw (lt-ltb j low h)
 
     pub run-in : (j : ℕ) → low ≤ j → j < end → triedRun level w from low end t j ≡ t
     run-in j h l = rw (le-ltb j low h, lt-ltb j end l)
 
-    pub run-after : (j : ℕ) → low ≤ j → end ≤ j → triedRun level w from low end t j ≡ freeAmount level (from + j)
+    run-after : (j : ℕ) → low ≤ j → end ≤ j → triedRun level w from low end t j ≡ freeAmount level (from + j)
     run-after j h l = rw (le-ltb j low h, le-ltb j end l)
 
   -- outside it all is as it was

@@ -1,6 +1,6 @@
-// The value and the recorded amount of the states of a date, from the layer of discounted sums: a block of states at a time,
-// up to 64 guarantees of one account in order, with the best value and amount of each in arrays, so that the loops along the
-// guarantee can be widened.
+// The value and the recorded amount of the states of one account, from the layer of discounted sums. The dynamic behaviour takes
+// a block of states at a time, up to 64 guarantees in order, with the best value and amount of each in arrays, so that the loops
+// along the guarantee can be widened. Static and mixed go along the row itself.
 ghost use mathlib.Core.Bool.{true, cond};
 ghost use mathlib.Core.Path.{_≡_};
 ghost use Prim.Native.Nat.{ℕ, _+_, _-_, _*_, _/_, _≤_, _<_, min, max};
@@ -268,6 +268,7 @@ fn further_block(
     }
 }
 
+// No more than any of n values from state `low` on.
 fn least(values: &[u32; 64], low: usize, n: usize) -> u32
     requires { ⌜ low + n ≤ 64 ⌝ }
     ensures { λ r. ⌜ ((i : ℕ) → i < n → r ≤ getD (now (values .entry)) (low + i) 0) ⌝ }
@@ -280,7 +281,7 @@ fn least(values: &[u32; 64], low: usize, n: usize) -> u32
     r
 }
 
-// Amount t where the guarantee falls in proportion: the entry of guarantee a is the high part of a × step. A branch here: the
+// Amount t where the guarantee falls in proportion: what is left of guarantee a is the high part of a × step. A branch here: the
 // loop looks up single entries, so it is not widened, and an amount seldom gains.
 fn offer_share(
     values: &mut [u32; 64],
@@ -484,7 +485,7 @@ pub fn dynamic_block(
     );
 }
 
-// Static and mixed go along the row itself, in loops with one store each, so that they can be widened.
+// A row in loops with one store each, so that they can be widened.
 fn pick_amount(held: u32, other: u32, old: u16, new: u16) -> u16
     ensures { λ r. ⌜ r ≡ cond (ltb held other) new old ⌝ }
 {
@@ -654,7 +655,7 @@ fn falls(work: &[u32], at: usize, n: usize) -> u32
     r
 }
 
-// Whether each of n rows rises with the guarantee. The rules do not say so: it is looked up.
+// Whether each of n rows rises with the guarantee. The rules do not say so, so it is tested.
 pub fn rises(work: &[u32], base: usize, stride: usize, n: usize) -> bool
     requires { ⌜ (n ≤ 4001) × (stride ≤ 4001) × (base + n * stride ≤ length (now work)) ⌝ }
     ensures { λ r. ⌜ (r ≡ true → Rising (cells (now (work .entry)) base stride) stride n) ⌝ }
