@@ -36,14 +36,6 @@ staticValue e level w a =
     10000 * m + e (w - m) (a - m)
 
 -- ---- what the functions hand to each other
--- a state, and room for the rows of its balances
-pub record State (work : List ℕ) (base stride w a m : ℕ) : Type 0 where
-  pub account : w ≤ topMost
-  pub guarantee : a ≤ topMost
-  pub free : m ≤ a
-  pub column : a < stride
-  pub rows : base + (w + 1) * stride ≤ length work
-
 -- a block: n states of account w, from guarantee `from` on, whose sums leave room for cash
 pub record Span (work : List ℕ) (base stride w from n : ℕ) : Type 0 where
   pub account : w ≤ topMost

@@ -26,12 +26,12 @@ use Rattle.laws.specs.Date.{dynamic-is, guarantee-le}
 use Rattle.laws.specs.Accepted.{Valid, andThen, parts-accepted, parts-refused}
 use Rattle.laws.specs.Bounds.{cash-le, table-value-le, value-room}
 use Rattle.expect.specs.Expected.{expected, reachedSum, Listing, expected-le, expected-same}
-use Rattle.choose.specs.State.{worthOver, worth-same, State}
+use Rattle.choose.specs.State.{worthOver, worth-same}
 use Rattle.dates.specs.Back.{at}
 use Rattle.valuing.specs.declared.Answer as declared
 use Rattle.valuing.specs.Answered.{answerOf, refusal, Settled}
 use Rattle.valuing.specs.First.{First, first-layer, first-mature}
-use Rattle.supplied.specs.Followed.{followed, Following, OneDate, Back, tableOn, Starting, Answered}
+use Rattle.supplied.specs.Followed.{State, followed, Following, OneDate, Back, tableOn, Starting, Answered}
 
 -- the entry of a state that a withdrawal leads to
 pub place : {xs : List ℕ} {base stride w a m : ℕ} → State xs base stride w a m → (x y : ℕ) → x ≤ w → y ≤ a → base + (x * stride + y) < length xs

@@ -8,7 +8,7 @@ use Rattle.decision.specs.Index.{first}
 use Rattle.decision.specs.Process.{tableValue}
 use Rattle.decision.specs.Layers.{lookup}
 use Rattle.slices.specs.Rows.{cells}
-use Rattle.rules.specs.Contract.{Terms, Returns, rateMost}
+use Rattle.rules.specs.Contract.{Terms, Returns, topMost, rateMost}
 use Rattle.rules.specs.Date.{dynamic, freeAmount, admits, maturityValue}
 use Rattle.rules.specs.Product.{suppliedValue, suppliedLayer}
 use Rattle.rules.specs.FixedTerm.{layerSize, layoutOf, processOf, fixedTerm}
@@ -19,6 +19,14 @@ use Rattle.choose.specs.State.{worthOver}
 use Rattle.dates.specs.Back.{at}
 use Rattle.valuing.specs.declared.Answer as declared
 use Rattle.valuing.specs.Answered.{answerOf}
+
+-- a state, and room for the rows of its balances
+pub record State (work : List ℕ) (base stride w a m : ℕ) : Type 0 where
+  pub account : w ≤ topMost
+  pub guarantee : a ≤ topMost
+  pub free : m ≤ a
+  pub column : a < stride
+  pub rows : base + (w + 1) * stride ≤ length work
 
 -- what the amounts in t are worth over the discounted sums e
 abbrev pub followed : (ℕ → ℕ → ℕ) → (ℕ → ℕ → ℕ) → ℕ → ℕ → ℕ → ℕ → ℕ

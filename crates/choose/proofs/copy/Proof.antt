@@ -23,22 +23,46 @@ add-work : tie.Need-add-work Inv-loop μ-loop
 add-work c = omega (arith, c .before .before .pre .0, c .before .before .pre .1)
 
 mul-work : tie.Need-mul-work Inv-loop μ-loop
-mul-work c = let e : length (c .before .loop .work) ≡ length (c .before .before .args .work .now) = ap length (c .before .loop .inv .1) ∙ length-stored _ _ _ _ in omega (arith, c .before .before .pre .0, c .before .before .pre .1)
+mul-work c =
+    let args = c .before .before .args in
+    let pre = c .before .before .pre in
+    let e : length (c .before .loop .work) ≡ length (args .work .now) = ap length (c .before .loop .inv .1) ∙ length-stored _ _ _ _ in
+    omega (arith, pre .0, pre .1)
 
 slice-read-work : tie.Need-slice-read-work Inv-loop μ-loop
-slice-read-work c = let e : length (c .before .before .loop .work) ≡ length (c .before .before .before .args .work .now) = ap length (c .before .before .loop .inv .1) ∙ length-stored _ _ _ _ in omega (arith, c .before .before .before .pre .0, c .before .before .before .pre .1)
+slice-read-work c =
+    let args = c .before .before .before .args in
+    let pre = c .before .before .before .pre in
+    let loop = c .before .before .loop in
+    let e : length (loop .work) ≡ length (args .work .now) = ap length (loop .inv .1) ∙ length-stored _ _ _ _ in omega (arith, pre .0, pre .1)
 
 add-work-2 : tie.Need-add-work-2 Inv-loop μ-loop
-add-work-2 c = let s = c .before .before .before .pre .2 (c .before .before .loop .i) (c .before .loop-test .taken) in let e = ap (λ (xs : List ℕ). getD xs (c .before .before .before .args .at + c .before .before .loop .i) 0) (c .before .before .loop .inv .1) ∙ stored-out _ _ _ _ (c .before .before .before .args .at + c .before .before .loop .i) (inr (omega (arith, c .before .before .before .pre .0))) in omega arith
+add-work-2 c =
+    let args = c .before .before .before .args in
+    let at₀ = args .at in
+    let pre = c .before .before .before .pre in
+    let loop = c .before .before .loop in
+    let i' = loop .i in
+    let s = pre .2 i' (c .before .loop-test .taken) in
+    let e = ap (λ (xs : List ℕ). getD xs (at₀ + i') 0) (loop .inv .1) ∙ stored-out _ _ _ _ (at₀ + i') (inr (omega (arith, pre .0))) in
+    omega arith
 
 add-work-3 : tie.Need-add-work-3 Inv-loop μ-loop
 add-work-3 c = omega (arith, c .before .before .before .pre .0, c .before .before .before .pre .1)
 
 mul-work-2 : tie.Need-mul-work-2 Inv-loop μ-loop
-mul-work-2 c = let e : length (c .before .before .loop .work) ≡ length (c .before .before .before .args .work .now) = ap length (c .before .before .loop .inv .1) ∙ length-stored _ _ _ _ in omega (arith, c .before .before .before .pre .0, c .before .before .before .pre .1)
+mul-work-2 c =
+    let args = c .before .before .before .args in
+    let pre = c .before .before .before .pre in
+    let loop = c .before .before .loop in
+    let e : length (loop .work) ≡ length (args .work .now) = ap length (loop .inv .1) ∙ length-stored _ _ _ _ in omega (arith, pre .0, pre .1)
 
 slice-write-work : tie.Need-slice-write-work Inv-loop μ-loop
-slice-write-work c = let e : length (c .before .before .loop .work) ≡ length (c .before .before .before .args .work .now) = ap length (c .before .before .loop .inv .1) ∙ length-stored _ _ _ _ in omega (arith, c .before .before .before .pre .0, c .before .before .before .pre .1)
+slice-write-work c =
+    let args = c .before .before .before .args in
+    let pre = c .before .before .before .pre in
+    let loop = c .before .before .loop in
+    let e : length (loop .work) ≡ length (args .work .now) = ap length (loop .inv .1) ∙ length-stored _ _ _ _ in omega (arith, pre .0, pre .1)
 
 add-i : tie.Need-add-i Inv-loop μ-loop
 add-i c = omega (arith, c .before .before .before .pre .0, c .before .before .before .pre .1)
@@ -48,8 +72,17 @@ loop-less c = omega arith
 
 loop-again : tie.Need-loop-again Inv-loop μ-loop
 loop-again c =
-    let e = ap (λ (xs : List ℕ). c .before .before .before .args .cash + getD xs (c .before .before .before .args .at + c .before .before .loop .i) 0) (c .before .before .loop .inv .1) ∙ ap (λ (z : ℕ). c .before .before .before .args .cash + z) (stored-out (c .before .before .before .args .work .now) (c .before .before .before .args .to) _ (c .before .before .loop .i) (c .before .before .before .args .at + c .before .before .loop .i) (inr (omega (arith, c .before .before .before .pre .0)))) in
-    (omega arith, (λ k. set (c .before .before .loop .inv .1 k) (c .before .before .before .args .to + c .before .before .loop .i) (e k)) ∙ stored-next _ _ _ _)
+    let args = c .before .before .before .args in
+    let cash₀ = args .cash in
+    let at₀ = args .at in
+    let to₀ = args .to in
+    let pre = c .before .before .before .pre in
+    let loop = c .before .before .loop in
+    let i' = loop .i in
+    let e =
+    ap (λ (xs : List ℕ). cash₀ + getD xs (at₀ + i') 0) (loop .inv .1)
+    ∙ ap (λ (z : ℕ). cash₀ + z) (stored-out (args .work .now) to₀ _ i' (at₀ + i') (inr (omega (arith, pre .0)))) in
+    (omega arith, (λ k. set (loop .inv .1 k) (to₀ + i') (e k)) ∙ stored-next _ _ _ _)
 
 same-length : tie.Need-same-length Inv-loop μ-loop
 same-length c = ap length (c .before .loop .inv .1) ∙ length-stored _ _ _ _

@@ -10,7 +10,15 @@ free-block-requires : tie.Need-free-block-requires
 free-block-requires c κs = (c .before .before .before .before .pre .0 .span, c .before .before .before .before .pre .0 .level-is, c .before .before .before .before .pre .4, c .before .before .before .before .pre .5)
 
 further-block-requires : tie.Need-further-block-requires
-further-block-requires c κs = (c .before .before .before .before .before .before .before .pre .0, c .before .before .before .before .before .before .before .pre .1, c .before .before .before .before .before .before .before .pre .2, leads-worth (cells (c .before .before .before .before .before .before .before .args .work .now) (c .before .before .before .before .before .before .before .args .base) (c .before .before .before .before .before .before .before .args .stride)) (c .before .before .before .before .before .before .before .args .rate) (c .before .before .before .before .before .before .before .args .level) (c .before .before .before .before .before .before .before .args .w) (c .before .before .before .before .before .before .before .args .from) (c .before .before .free-block .ensures))
+further-block-requires c κs =
+    let args = c .before .before .before .before .before .before .before .args in
+    let pre = c .before .before .before .before .before .before .before .pre in
+    let free-block = c .before .before .free-block in (
+      pre .0,
+      pre .1,
+      pre .2,
+      leads-worth (cells (args .work .now) (args .base) (args .stride)) (args .rate) (args .level) (args .w) (args .from) (free-block .ensures),
+    )
 
 share-block-requires : tie.Need-share-block-requires
 share-block-requires c κs = search needs

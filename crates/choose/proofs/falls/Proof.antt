@@ -42,7 +42,14 @@ pick-requires : tie.Need-pick-requires Inv-loop μ-loop
 pick-requires c κs = search needs
 
 add-r : tie.Need-add-r Inv-loop μ-loop
-add-r c = let p = falls-one (getD (c .before .before .before .before .before .before .args .work .now) (c .before .before .before .before .before .before .args .at + c .before .before .before .before .loop .i + 1) 0) (getD (c .before .before .before .before .before .before .args .work .now) (c .before .before .before .before .before .before .args .at + c .before .before .before .before .loop .i) 0) (c .pick .result) (c .pick .ensures) in omega (arith, c .before .before .before .before .before .before .pre .0)
+add-r c =
+    let args = c .before .before .before .before .before .before .args in
+    let work₀ = args .work .now in
+    let at₀ = args .at in
+    let pre = c .before .before .before .before .before .before .pre in
+    let loop = c .before .before .before .before .loop in
+    let i' = loop .i in
+    let p = falls-one (getD work₀ (at₀ + i' + 1) 0) (getD work₀ (at₀ + i') 0) (c .pick .result) (c .pick .ensures) in omega (arith, pre .0)
 
 add-i : tie.Need-add-i Inv-loop μ-loop
 add-i c = let p = c .before .before .before .before .before .before .pre .1 (c .before .before .before .before .loop .i) (c .before .before .before .loop-test .taken) in omega arith
@@ -51,7 +58,17 @@ loop-less : tie.Need-loop-less Inv-loop μ-loop
 loop-less c = omega arith
 
 loop-again : tie.Need-loop-again Inv-loop μ-loop
-loop-again c = let p = falls-one (getD (c .before .before .before .before .before .before .args .work .now) (c .before .before .before .before .before .before .args .at + c .before .before .before .before .loop .i + 1) 0) (getD (c .before .before .before .before .before .before .args .work .now) (c .before .before .before .before .before .before .args .at + c .before .before .before .before .loop .i) 0) (c .pick .result) (c .pick .ensures) in (omega arith, omega arith, falls-next (λ k. getD (c .before .before .before .before .before .before .args .work .now) (c .before .before .before .before .before .before .args .at + k) 0) (λ k. getD (c .before .before .before .before .before .before .args .work .now) (c .before .before .before .before .before .before .args .at + k + 1) 0) (c .before .before .before .before .loop .i) (c .before .before .before .before .loop .r) (c .pick .result) (c .pick .ensures) (c .before .before .before .before .loop .inv .2))
+loop-again c =
+    let args = c .before .before .before .before .before .before .args in
+    let work₀ = args .work .now in
+    let at₀ = args .at in
+    let loop = c .before .before .before .before .loop in
+    let i' = loop .i in
+    let p = falls-one (getD work₀ (at₀ + i' + 1) 0) (getD work₀ (at₀ + i') 0) (c .pick .result) (c .pick .ensures) in (
+      omega arith,
+      omega arith,
+      falls-next (λ k. getD work₀ (at₀ + k) 0) (λ k. getD work₀ (at₀ + k + 1) 0) i' (loop .r) (c .pick .result) (c .pick .ensures) (loop .inv .2),
+    )
 
 returns : tie.Need-returns Inv-loop μ-loop
 returns c = (omega arith, λ z k l. c .before .loop .inv .2 z k (omega arith))

@@ -20,27 +20,44 @@ abbrev μ-loop : tie.MeasureT-loop
 μ-loop values₀ amounts₀ work base stride w from n level t₀ values amounts t = level - t
 
 mul-start-block : tie.Need-mul-start-block Inv-loop μ-loop
-mul-start-block c = let p = block-room (c .before .before .before .pre .0) (c .before .before .before .args .w) (c .before .before .before .args .from) (c .before .before .before .args .n) (omega arith) (c .before .before .before .pre .0 .columns) in omega arith
+mul-start-block c =
+    let args = c .before .before .before .args in
+    let pre = c .before .before .before .pre in
+    let p = block-room (pre .0) (args .w) (args .from) (args .n) (omega arith) (pre .0 .columns) in omega arith
 
 add-start-block : tie.Need-add-start-block Inv-loop μ-loop
-add-start-block c = let p = block-room (c .before .before .before .pre .0) (c .before .before .before .args .w) (c .before .before .before .args .from) (c .before .before .before .args .n) (omega arith) (c .before .before .before .pre .0 .columns) in omega arith
+add-start-block c =
+    let args = c .before .before .before .args in
+    let pre = c .before .before .before .pre in
+    let p = block-room (pre .0) (args .w) (args .from) (args .n) (omega arith) (pre .0 .columns) in omega arith
 
 add-start-block-2 : tie.Need-add-start-block-2 Inv-loop μ-loop
-add-start-block-2 c = let p = block-room (c .before .before .before .pre .0) (c .before .before .before .args .w) (c .before .before .before .args .from) (c .before .before .before .args .n) (omega arith) (c .before .before .before .pre .0 .columns) in omega arith
+add-start-block-2 c =
+    let args = c .before .before .before .args in
+    let pre = c .before .before .before .pre in
+    let p = block-room (pre .0) (args .w) (args .from) (args .n) (omega arith) (pre .0 .columns) in omega arith
 
 start-block-requires : tie.Need-start-block-requires Inv-loop μ-loop
-start-block-requires c κs = (c .before .before .before .pre .0 .short, block-room (c .before .before .before .pre .0) (c .before .before .before .args .w) (c .before .before .before .args .from) (c .before .before .before .args .n) (omega arith) (c .before .before .before .pre .0 .columns))
+start-block-requires c κs =
+    let args = c .before .before .before .args in
+    let pre = c .before .before .before .pre in
+    (pre .0 .short, block-room (pre .0) (args .w) (args .from) (args .n) (omega arith) (pre .0 .columns))
 
 loop-holds : tie.Need-loop-holds Inv-loop μ-loop
 loop-holds c =
-    let first = leads-start (c .before .before .before .before .args .values .now) _ (c .before .before .before .before .args .amounts .now) _ (c .before .before .before .before .args .n) _ (c .before .before .before .before .pre .2) (c .before .before .before .before .pre .3) (c .before .before .before .before .pre .0 .short) (c .start-block .ensures .0) (c .start-block .ensures .1) (start-worth (c .before .before .before .before .pre .0)) in
-    (omega arith, leads-as first _ (λ j l. let z : 0 ≡ min 0 (c .before .before .before .before .args .from + j) = omega arith in z))
+    let args = c .before .before .before .before .args in
+    let pre = c .before .before .before .before .pre in
+    let first = leads-start (args .values .now) _ (args .amounts .now) _ (args .n) _ (pre .2) (pre .3) (pre .0 .short) (c .start-block .ensures .0) (c .start-block .ensures .1) (start-worth (pre .0)) in
+    (omega arith, leads-as first _ (λ j l. let z : 0 ≡ min 0 (args .from + j) = omega arith in z))
 
 add-loop : tie.Need-add-loop Inv-loop μ-loop
 add-loop c = omega (arith, c .before .before .before .before .before .pre .1)
 
 offer-pair-requires : tie.Need-offer-pair-requires Inv-loop μ-loop
-offer-pair-requires c κs = (c .before .before .before .before .before .before .before .before .pre .0, c .before .before .before .loop .inv .1, omega (arith, c .before .before .before .before .before .before .before .before .pre .1))
+offer-pair-requires c κs =
+    let pre = c .before .before .before .before .before .before .before .before .pre in
+    let loop = c .before .before .before .loop in
+    (pre .0, loop .inv .1, omega (arith, pre .1))
 
 add-t : tie.Need-add-t Inv-loop μ-loop
 add-t c = omega (arith, c .before .before .before .before .before .before .before .before .before .pre .1)
@@ -52,15 +69,25 @@ loop-again : tie.Need-loop-again Inv-loop μ-loop
 loop-again c = (omega arith, c .offer-pair .ensures)
 
 offer-free-requires : tie.Need-offer-free-requires Inv-loop μ-loop
-offer-free-requires c κs = (c .before .before .before .before .before .before .before .before .before .pre .0, c .before .before .before .before .loop .inv .1, omega (arith, c .before .before .before .before .before .before .before .before .before .pre .1), le-refl _)
+offer-free-requires c κs =
+    let pre = c .before .before .before .before .before .before .before .before .before .pre in
+    let loop = c .before .before .before .before .loop in
+    (pre .0, loop .inv .1, omega (arith, pre .1), le-refl _)
 
 returns : tie.Need-returns Inv-loop μ-loop
 unfolding freeAmount
-returns c = let e : c .before .before .before .before .before .loop .t + 1 ≡ c .before .before .before .before .before .before .before .before .before .before .args .level = omega arith in leads-as (c .offer-free .ensures) _ (λ j l. rw (lt-ltb j (c .before .before .before .before .before .before .before .before .before .before .args .n) l) (ap (λ (z : ℕ). min z (c .before .before .before .before .before .before .before .before .before .before .args .from + j)) e))
+returns c =
+    let args = c .before .before .before .before .before .before .before .before .before .before .args in
+    let loop = c .before .before .before .before .before .loop in
+    let e : loop .t + 1 ≡ args .level = omega arith in
+    leads-as (c .offer-free .ensures) _ (λ j l. rw (lt-ltb j (args .n) l) (ap (λ (z : ℕ). min z (args .from + j)) e))
 
 returns-2 : tie.Need-returns-2 Inv-loop μ-loop
 unfolding freeAmount
-returns-2 c = let e : c .before .before .loop .t ≡ c .before .before .before .before .before .before .before .args .level = omega arith in leads-as (c .before .before .loop .inv .1) _ (λ j l. ap (λ (z : ℕ). min z (c .before .before .before .before .before .before .before .args .from + j)) e)
+returns-2 c =
+    let args = c .before .before .before .before .before .before .before .args in
+    let loop = c .before .before .loop in
+    let e : loop .t ≡ args .level = omega arith in leads-as (loop .inv .1) _ (λ j l. ap (λ (z : ℕ). min z (args .from + j)) e)
 
 pub free-block-spec : {M : Type 1} → statement M
 free-block-spec =

@@ -32,76 +32,345 @@ smaller-requires : tie.Need-smaller-requires
 smaller-requires c κs = search needs
 
 sub-at : tie.Need-sub-at
-sub-at c = let low = c .before .before .before .less .ensures in let end = c .before .smaller .ensures ∙ ap (min (c .before .before .before .before .before .before .before .before .before .args .n)) (c .before .before .less2 .ensures) in let h = c .if1 .taken in let above = run-above (c .before .before .before .before .before .before .before .before .before .args .n) (c .before .before .before .before .before .before .before .before .before .args .level) (c .before .before .before .before .before .before .before .before .before .args .w) (c .before .before .before .before .before .before .before .before .before .args .from) (c .before .before .before .less .result) (c .before .smaller .result) low end h in let some = run-some (c .before .before .before .before .before .before .before .before .before .args .n) (c .before .before .before .before .before .before .before .before .before .args .level) (c .before .before .before .before .before .before .before .before .before .args .w) (c .before .before .before .before .before .before .before .before .before .args .from) (c .before .before .before .less .result) (c .before .smaller .result) low end h in let fits = run-fits (c .before .before .before .before .before .before .before .before .before .args .n) (c .before .before .before .before .before .before .before .before .before .args .level) (c .before .before .before .before .before .before .before .before .before .args .w) (c .before .before .before .before .before .before .before .before .before .args .from) (c .before .before .before .less .result) (c .before .smaller .result) low end h in omega (arith, c .before .before .before .before .before .before .before .before .before .pre .0 .span .account, c .before .before .before .before .before .before .before .before .before .pre .0 .rate-is, c .before .before .before .before .before .before .before .before .before .pre .0 .span .short, c .before .before .before .before .before .before .before .before .before .pre .0 .span .columns, c .before .before .before .before .before .before .before .before .before .pre .0 .span .width)
+sub-at c =
+    let args = c .before .before .before .before .before .before .before .before .before .args in
+    let level₀ = args .level in
+    let from₀ = args .from in
+    let n₀ = args .n in
+    let w₀ = args .w in
+    let pre = c .before .before .before .before .before .before .before .before .before .pre in
+    let less = c .before .before .before .less in
+    let less2 = c .before .before .less2 in
+    let smaller = c .before .smaller in
+    let low = less .ensures in
+    let end = smaller .ensures ∙ ap (min n₀) (less2 .ensures) in
+    let h = c .if1 .taken in
+    let above = run-above n₀ level₀ w₀ from₀ (less .result) (smaller .result) low end h in
+    let some = run-some n₀ level₀ w₀ from₀ (less .result) (smaller .result) low end h in
+    let fits = run-fits n₀ level₀ w₀ from₀ (less .result) (smaller .result) low end h in
+    omega (arith, pre .0 .span .account, pre .0 .rate-is, pre .0 .span .short, pre .0 .span .columns, pre .0 .span .width)
 
 sub-at-2 : tie.Need-sub-at-2
-sub-at-2 c = let low = c .before .before .before .less .ensures in let end = c .before .smaller .ensures ∙ ap (min (c .before .before .before .before .before .before .before .before .before .args .n)) (c .before .before .less2 .ensures) in let h = c .if1 .taken in let above = run-above (c .before .before .before .before .before .before .before .before .before .args .n) (c .before .before .before .before .before .before .before .before .before .args .level) (c .before .before .before .before .before .before .before .before .before .args .w) (c .before .before .before .before .before .before .before .before .before .args .from) (c .before .before .before .less .result) (c .before .smaller .result) low end h in let some = run-some (c .before .before .before .before .before .before .before .before .before .args .n) (c .before .before .before .before .before .before .before .before .before .args .level) (c .before .before .before .before .before .before .before .before .before .args .w) (c .before .before .before .before .before .before .before .before .before .args .from) (c .before .before .before .less .result) (c .before .smaller .result) low end h in let fits = run-fits (c .before .before .before .before .before .before .before .before .before .args .n) (c .before .before .before .before .before .before .before .before .before .args .level) (c .before .before .before .before .before .before .before .before .before .args .w) (c .before .before .before .before .before .before .before .before .before .args .from) (c .before .before .before .less .result) (c .before .smaller .result) low end h in omega (arith, c .before .before .before .before .before .before .before .before .before .pre .0 .span .account, c .before .before .before .before .before .before .before .before .before .pre .0 .rate-is, c .before .before .before .before .before .before .before .before .before .pre .0 .span .short, c .before .before .before .before .before .before .before .before .before .pre .0 .span .columns, c .before .before .before .before .before .before .before .before .before .pre .0 .span .width)
+sub-at-2 c =
+    let args = c .before .before .before .before .before .before .before .before .before .args in
+    let level₀ = args .level in
+    let from₀ = args .from in
+    let n₀ = args .n in
+    let w₀ = args .w in
+    let pre = c .before .before .before .before .before .before .before .before .before .pre in
+    let less = c .before .before .before .less in
+    let less2 = c .before .before .less2 in
+    let smaller = c .before .smaller in
+    let low = less .ensures in
+    let end = smaller .ensures ∙ ap (min n₀) (less2 .ensures) in
+    let h = c .if1 .taken in
+    let above = run-above n₀ level₀ w₀ from₀ (less .result) (smaller .result) low end h in
+    let some = run-some n₀ level₀ w₀ from₀ (less .result) (smaller .result) low end h in
+    let fits = run-fits n₀ level₀ w₀ from₀ (less .result) (smaller .result) low end h in
+    omega (arith, pre .0 .span .account, pre .0 .rate-is, pre .0 .span .short, pre .0 .span .columns, pre .0 .span .width)
 
 mul-at : tie.Need-mul-at
 mul-at c =
-    let low = c .before .before .before .less .ensures in let end = c .before .smaller .ensures ∙ ap (min (c .before .before .before .before .before .before .before .before .before .args .n)) (c .before .before .less2 .ensures) in let h = c .if1 .taken in let above = run-above (c .before .before .before .before .before .before .before .before .before .args .n) (c .before .before .before .before .before .before .before .before .before .args .level) (c .before .before .before .before .before .before .before .before .before .args .w) (c .before .before .before .before .before .before .before .before .before .args .from) (c .before .before .before .less .result) (c .before .smaller .result) low end h in let some = run-some (c .before .before .before .before .before .before .before .before .before .args .n) (c .before .before .before .before .before .before .before .before .before .args .level) (c .before .before .before .before .before .before .before .before .before .args .w) (c .before .before .before .before .before .before .before .before .before .args .from) (c .before .before .before .less .result) (c .before .smaller .result) low end h in let fits = run-fits (c .before .before .before .before .before .before .before .before .before .args .n) (c .before .before .before .before .before .before .before .before .before .args .level) (c .before .before .before .before .before .before .before .before .before .args .w) (c .before .before .before .before .before .before .before .before .before .args .from) (c .before .before .before .less .result) (c .before .smaller .result) low end h in
-    let r = further-room (c .before .before .before .before .before .before .before .before .before .args .stride) (c .before .before .before .before .before .before .before .before .before .args .w) (c .before .before .before .before .before .before .before .before .before .args .level) (c .before .before .before .before .before .before .before .before .before .args .from + c .before .before .before .less .result - (c .before .before .before .before .before .before .before .before .before .args .level + 1)) (c .before .smaller .result - c .before .before .before .less .result) some (behind (c .before .before .before .before .before .before .before .before .before .args .from) (c .before .before .before .less .result) (c .before .before .before .before .before .before .before .before .before .args .level + 1) (c .before .smaller .result - c .before .before .before .less .result) (c .before .before .before .before .before .before .before .before .before .args .n) (c .before .before .before .before .before .before .before .before .before .args .stride) fits (c .before .before .before .before .before .before .before .before .before .pre .0 .span .columns)) in
-    let q = rows-step (c .before .before .before .before .before .before .before .before .before .args .stride) (c .before .before .before .before .before .before .before .before .before .args .w) in omega (arith, c .before .before .before .before .before .before .before .before .before .pre .0 .span .rows)
+    let args = c .before .before .before .before .before .before .before .before .before .args in
+    let stride₀ = args .stride in
+    let level₀ = args .level in
+    let from₀ = args .from in
+    let n₀ = args .n in
+    let w₀ = args .w in
+    let pre = c .before .before .before .before .before .before .before .before .before .pre in
+    let less = c .before .before .before .less in
+    let less2 = c .before .before .less2 in
+    let smaller = c .before .smaller in
+    let low = less .ensures in
+    let end = smaller .ensures ∙ ap (min n₀) (less2 .ensures) in
+    let h = c .if1 .taken in
+    let above = run-above n₀ level₀ w₀ from₀ (less .result) (smaller .result) low end h in
+    let some = run-some n₀ level₀ w₀ from₀ (less .result) (smaller .result) low end h in
+    let fits = run-fits n₀ level₀ w₀ from₀ (less .result) (smaller .result) low end h in
+    let r = further-room stride₀ w₀ level₀ (from₀ + less .result - (level₀ + 1)) (smaller .result - less .result) some (behind from₀ (less .result) (level₀ + 1) (smaller .result - less .result) n₀ stride₀ fits (pre .0 .span .columns)) in
+    let q = rows-step stride₀ w₀ in
+    omega (arith, pre .0 .span .rows)
 
 add-at : tie.Need-add-at
-add-at c = let low = c .before .before .before .less .ensures in let end = c .before .smaller .ensures ∙ ap (min (c .before .before .before .before .before .before .before .before .before .args .n)) (c .before .before .less2 .ensures) in let h = c .if1 .taken in let above = run-above (c .before .before .before .before .before .before .before .before .before .args .n) (c .before .before .before .before .before .before .before .before .before .args .level) (c .before .before .before .before .before .before .before .before .before .args .w) (c .before .before .before .before .before .before .before .before .before .args .from) (c .before .before .before .less .result) (c .before .smaller .result) low end h in let some = run-some (c .before .before .before .before .before .before .before .before .before .args .n) (c .before .before .before .before .before .before .before .before .before .args .level) (c .before .before .before .before .before .before .before .before .before .args .w) (c .before .before .before .before .before .before .before .before .before .args .from) (c .before .before .before .less .result) (c .before .smaller .result) low end h in let fits = run-fits (c .before .before .before .before .before .before .before .before .before .args .n) (c .before .before .before .before .before .before .before .before .before .args .level) (c .before .before .before .before .before .before .before .before .before .args .w) (c .before .before .before .before .before .before .before .before .before .args .from) (c .before .before .before .less .result) (c .before .smaller .result) low end h in omega (arith, c .before .before .before .before .before .before .before .before .before .pre .0 .span .account, c .before .before .before .before .before .before .before .before .before .pre .0 .rate-is, c .before .before .before .before .before .before .before .before .before .pre .0 .span .short, c .before .before .before .before .before .before .before .before .before .pre .0 .span .columns, c .before .before .before .before .before .before .before .before .before .pre .0 .span .width)
+add-at c =
+    let args = c .before .before .before .before .before .before .before .before .before .args in
+    let level₀ = args .level in
+    let from₀ = args .from in
+    let n₀ = args .n in
+    let w₀ = args .w in
+    let pre = c .before .before .before .before .before .before .before .before .before .pre in
+    let less = c .before .before .before .less in
+    let less2 = c .before .before .less2 in
+    let smaller = c .before .smaller in
+    let low = less .ensures in
+    let end = smaller .ensures ∙ ap (min n₀) (less2 .ensures) in
+    let h = c .if1 .taken in
+    let above = run-above n₀ level₀ w₀ from₀ (less .result) (smaller .result) low end h in
+    let some = run-some n₀ level₀ w₀ from₀ (less .result) (smaller .result) low end h in
+    let fits = run-fits n₀ level₀ w₀ from₀ (less .result) (smaller .result) low end h in
+    omega (arith, pre .0 .span .account, pre .0 .rate-is, pre .0 .span .short, pre .0 .span .columns, pre .0 .span .width)
 
 add-at-2 : tie.Need-add-at-2
-add-at-2 c = let low = c .before .before .before .less .ensures in let end = c .before .smaller .ensures ∙ ap (min (c .before .before .before .before .before .before .before .before .before .args .n)) (c .before .before .less2 .ensures) in let h = c .if1 .taken in let above = run-above (c .before .before .before .before .before .before .before .before .before .args .n) (c .before .before .before .before .before .before .before .before .before .args .level) (c .before .before .before .before .before .before .before .before .before .args .w) (c .before .before .before .before .before .before .before .before .before .args .from) (c .before .before .before .less .result) (c .before .smaller .result) low end h in let some = run-some (c .before .before .before .before .before .before .before .before .before .args .n) (c .before .before .before .before .before .before .before .before .before .args .level) (c .before .before .before .before .before .before .before .before .before .args .w) (c .before .before .before .before .before .before .before .before .before .args .from) (c .before .before .before .less .result) (c .before .smaller .result) low end h in let fits = run-fits (c .before .before .before .before .before .before .before .before .before .args .n) (c .before .before .before .before .before .before .before .before .before .args .level) (c .before .before .before .before .before .before .before .before .before .args .w) (c .before .before .before .before .before .before .before .before .before .args .from) (c .before .before .before .less .result) (c .before .smaller .result) low end h in omega (arith, c .before .before .before .before .before .before .before .before .before .pre .0 .span .account, c .before .before .before .before .before .before .before .before .before .pre .0 .rate-is, c .before .before .before .before .before .before .before .before .before .pre .0 .span .short, c .before .before .before .before .before .before .before .before .before .pre .0 .span .columns, c .before .before .before .before .before .before .before .before .before .pre .0 .span .width)
+add-at-2 c =
+    let args = c .before .before .before .before .before .before .before .before .before .args in
+    let level₀ = args .level in
+    let from₀ = args .from in
+    let n₀ = args .n in
+    let w₀ = args .w in
+    let pre = c .before .before .before .before .before .before .before .before .before .pre in
+    let less = c .before .before .before .less in
+    let less2 = c .before .before .less2 in
+    let smaller = c .before .smaller in
+    let low = less .ensures in
+    let end = smaller .ensures ∙ ap (min n₀) (less2 .ensures) in
+    let h = c .if1 .taken in
+    let above = run-above n₀ level₀ w₀ from₀ (less .result) (smaller .result) low end h in
+    let some = run-some n₀ level₀ w₀ from₀ (less .result) (smaller .result) low end h in
+    let fits = run-fits n₀ level₀ w₀ from₀ (less .result) (smaller .result) low end h in
+    omega (arith, pre .0 .span .account, pre .0 .rate-is, pre .0 .span .short, pre .0 .span .columns, pre .0 .span .width)
 
 sub-at-3 : tie.Need-sub-at-3
-sub-at-3 c = let low = c .before .before .before .less .ensures in let end = c .before .smaller .ensures ∙ ap (min (c .before .before .before .before .before .before .before .before .before .args .n)) (c .before .before .less2 .ensures) in let h = c .if1 .taken in let above = run-above (c .before .before .before .before .before .before .before .before .before .args .n) (c .before .before .before .before .before .before .before .before .before .args .level) (c .before .before .before .before .before .before .before .before .before .args .w) (c .before .before .before .before .before .before .before .before .before .args .from) (c .before .before .before .less .result) (c .before .smaller .result) low end h in let some = run-some (c .before .before .before .before .before .before .before .before .before .args .n) (c .before .before .before .before .before .before .before .before .before .args .level) (c .before .before .before .before .before .before .before .before .before .args .w) (c .before .before .before .before .before .before .before .before .before .args .from) (c .before .before .before .less .result) (c .before .smaller .result) low end h in let fits = run-fits (c .before .before .before .before .before .before .before .before .before .args .n) (c .before .before .before .before .before .before .before .before .before .args .level) (c .before .before .before .before .before .before .before .before .before .args .w) (c .before .before .before .before .before .before .before .before .before .args .from) (c .before .before .before .less .result) (c .before .smaller .result) low end h in omega (arith, c .before .before .before .before .before .before .before .before .before .pre .0 .span .account, c .before .before .before .before .before .before .before .before .before .pre .0 .rate-is, c .before .before .before .before .before .before .before .before .before .pre .0 .span .short, c .before .before .before .before .before .before .before .before .before .pre .0 .span .columns, c .before .before .before .before .before .before .before .before .before .pre .0 .span .width)
+sub-at-3 c =
+    let args = c .before .before .before .before .before .before .before .before .before .args in
+    let level₀ = args .level in
+    let from₀ = args .from in
+    let n₀ = args .n in
+    let w₀ = args .w in
+    let pre = c .before .before .before .before .before .before .before .before .before .pre in
+    let less = c .before .before .before .less in
+    let less2 = c .before .before .less2 in
+    let smaller = c .before .smaller in
+    let low = less .ensures in
+    let end = smaller .ensures ∙ ap (min n₀) (less2 .ensures) in
+    let h = c .if1 .taken in
+    let above = run-above n₀ level₀ w₀ from₀ (less .result) (smaller .result) low end h in
+    let some = run-some n₀ level₀ w₀ from₀ (less .result) (smaller .result) low end h in
+    let fits = run-fits n₀ level₀ w₀ from₀ (less .result) (smaller .result) low end h in
+    omega (arith, pre .0 .span .account, pre .0 .rate-is, pre .0 .span .short, pre .0 .span .columns, pre .0 .span .width)
 
 add-at-3 : tie.Need-add-at-3
 add-at-3 c =
-    let low = c .before .before .before .less .ensures in let end = c .before .smaller .ensures ∙ ap (min (c .before .before .before .before .before .before .before .before .before .args .n)) (c .before .before .less2 .ensures) in let h = c .if1 .taken in let above = run-above (c .before .before .before .before .before .before .before .before .before .args .n) (c .before .before .before .before .before .before .before .before .before .args .level) (c .before .before .before .before .before .before .before .before .before .args .w) (c .before .before .before .before .before .before .before .before .before .args .from) (c .before .before .before .less .result) (c .before .smaller .result) low end h in let some = run-some (c .before .before .before .before .before .before .before .before .before .args .n) (c .before .before .before .before .before .before .before .before .before .args .level) (c .before .before .before .before .before .before .before .before .before .args .w) (c .before .before .before .before .before .before .before .before .before .args .from) (c .before .before .before .less .result) (c .before .smaller .result) low end h in let fits = run-fits (c .before .before .before .before .before .before .before .before .before .args .n) (c .before .before .before .before .before .before .before .before .before .args .level) (c .before .before .before .before .before .before .before .before .before .args .w) (c .before .before .before .before .before .before .before .before .before .args .from) (c .before .before .before .less .result) (c .before .smaller .result) low end h in
-    let r = further-room (c .before .before .before .before .before .before .before .before .before .args .stride) (c .before .before .before .before .before .before .before .before .before .args .w) (c .before .before .before .before .before .before .before .before .before .args .level) (c .before .before .before .before .before .before .before .before .before .args .from + c .before .before .before .less .result - (c .before .before .before .before .before .before .before .before .before .args .level + 1)) (c .before .smaller .result - c .before .before .before .less .result) some (behind (c .before .before .before .before .before .before .before .before .before .args .from) (c .before .before .before .less .result) (c .before .before .before .before .before .before .before .before .before .args .level + 1) (c .before .smaller .result - c .before .before .before .less .result) (c .before .before .before .before .before .before .before .before .before .args .n) (c .before .before .before .before .before .before .before .before .before .args .stride) fits (c .before .before .before .before .before .before .before .before .before .pre .0 .span .columns)) in
-    let q = rows-step (c .before .before .before .before .before .before .before .before .before .args .stride) (c .before .before .before .before .before .before .before .before .before .args .w) in omega (arith, c .before .before .before .before .before .before .before .before .before .pre .0 .span .rows)
+    let args = c .before .before .before .before .before .before .before .before .before .args in
+    let stride₀ = args .stride in
+    let level₀ = args .level in
+    let from₀ = args .from in
+    let n₀ = args .n in
+    let w₀ = args .w in
+    let pre = c .before .before .before .before .before .before .before .before .before .pre in
+    let less = c .before .before .before .less in
+    let less2 = c .before .before .less2 in
+    let smaller = c .before .smaller in
+    let low = less .ensures in
+    let end = smaller .ensures ∙ ap (min n₀) (less2 .ensures) in
+    let h = c .if1 .taken in
+    let above = run-above n₀ level₀ w₀ from₀ (less .result) (smaller .result) low end h in
+    let some = run-some n₀ level₀ w₀ from₀ (less .result) (smaller .result) low end h in
+    let fits = run-fits n₀ level₀ w₀ from₀ (less .result) (smaller .result) low end h in
+    let r = further-room stride₀ w₀ level₀ (from₀ + less .result - (level₀ + 1)) (smaller .result - less .result) some (behind from₀ (less .result) (level₀ + 1) (smaller .result - less .result) n₀ stride₀ fits (pre .0 .span .columns)) in
+    let q = rows-step stride₀ w₀ in
+    omega (arith, pre .0 .span .rows)
 
 mul-cash : tie.Need-mul-cash
-mul-cash c = let low = c .before .before .before .less .ensures in let end = c .before .smaller .ensures ∙ ap (min (c .before .before .before .before .before .before .before .before .before .args .n)) (c .before .before .less2 .ensures) in let h = c .if1 .taken in let above = run-above (c .before .before .before .before .before .before .before .before .before .args .n) (c .before .before .before .before .before .before .before .before .before .args .level) (c .before .before .before .before .before .before .before .before .before .args .w) (c .before .before .before .before .before .before .before .before .before .args .from) (c .before .before .before .less .result) (c .before .smaller .result) low end h in let some = run-some (c .before .before .before .before .before .before .before .before .before .args .n) (c .before .before .before .before .before .before .before .before .before .args .level) (c .before .before .before .before .before .before .before .before .before .args .w) (c .before .before .before .before .before .before .before .before .before .args .from) (c .before .before .before .less .result) (c .before .smaller .result) low end h in let fits = run-fits (c .before .before .before .before .before .before .before .before .before .args .n) (c .before .before .before .before .before .before .before .before .before .args .level) (c .before .before .before .before .before .before .before .before .before .args .w) (c .before .before .before .before .before .before .before .before .before .args .from) (c .before .before .before .less .result) (c .before .smaller .result) low end h in omega (arith, c .before .before .before .before .before .before .before .before .before .pre .0 .span .account, c .before .before .before .before .before .before .before .before .before .pre .0 .rate-is, c .before .before .before .before .before .before .before .before .before .pre .0 .span .short, c .before .before .before .before .before .before .before .before .before .pre .0 .span .columns, c .before .before .before .before .before .before .before .before .before .pre .0 .span .width)
+mul-cash c =
+    let args = c .before .before .before .before .before .before .before .before .before .args in
+    let level₀ = args .level in
+    let from₀ = args .from in
+    let n₀ = args .n in
+    let w₀ = args .w in
+    let pre = c .before .before .before .before .before .before .before .before .before .pre in
+    let less = c .before .before .before .less in
+    let less2 = c .before .before .less2 in
+    let smaller = c .before .smaller in
+    let low = less .ensures in
+    let end = smaller .ensures ∙ ap (min n₀) (less2 .ensures) in
+    let h = c .if1 .taken in
+    let above = run-above n₀ level₀ w₀ from₀ (less .result) (smaller .result) low end h in
+    let some = run-some n₀ level₀ w₀ from₀ (less .result) (smaller .result) low end h in
+    let fits = run-fits n₀ level₀ w₀ from₀ (less .result) (smaller .result) low end h in
+    omega (arith, pre .0 .span .account, pre .0 .rate-is, pre .0 .span .short, pre .0 .span .columns, pre .0 .span .width)
 
 sub-cash : tie.Need-sub-cash
-sub-cash c = let low = c .before .before .before .less .ensures in let end = c .before .smaller .ensures ∙ ap (min (c .before .before .before .before .before .before .before .before .before .args .n)) (c .before .before .less2 .ensures) in let h = c .if1 .taken in let above = run-above (c .before .before .before .before .before .before .before .before .before .args .n) (c .before .before .before .before .before .before .before .before .before .args .level) (c .before .before .before .before .before .before .before .before .before .args .w) (c .before .before .before .before .before .before .before .before .before .args .from) (c .before .before .before .less .result) (c .before .smaller .result) low end h in let some = run-some (c .before .before .before .before .before .before .before .before .before .args .n) (c .before .before .before .before .before .before .before .before .before .args .level) (c .before .before .before .before .before .before .before .before .before .args .w) (c .before .before .before .before .before .before .before .before .before .args .from) (c .before .before .before .less .result) (c .before .smaller .result) low end h in let fits = run-fits (c .before .before .before .before .before .before .before .before .before .args .n) (c .before .before .before .before .before .before .before .before .before .args .level) (c .before .before .before .before .before .before .before .before .before .args .w) (c .before .before .before .before .before .before .before .before .before .args .from) (c .before .before .before .less .result) (c .before .smaller .result) low end h in omega (arith, c .before .before .before .before .before .before .before .before .before .pre .0 .span .account, c .before .before .before .before .before .before .before .before .before .pre .0 .rate-is, c .before .before .before .before .before .before .before .before .before .pre .0 .span .short, c .before .before .before .before .before .before .before .before .before .pre .0 .span .columns, c .before .before .before .before .before .before .before .before .before .pre .0 .span .width)
+sub-cash c =
+    let args = c .before .before .before .before .before .before .before .before .before .args in
+    let level₀ = args .level in
+    let from₀ = args .from in
+    let n₀ = args .n in
+    let w₀ = args .w in
+    let pre = c .before .before .before .before .before .before .before .before .before .pre in
+    let less = c .before .before .before .less in
+    let less2 = c .before .before .less2 in
+    let smaller = c .before .smaller in
+    let low = less .ensures in
+    let end = smaller .ensures ∙ ap (min n₀) (less2 .ensures) in
+    let h = c .if1 .taken in
+    let above = run-above n₀ level₀ w₀ from₀ (less .result) (smaller .result) low end h in
+    let some = run-some n₀ level₀ w₀ from₀ (less .result) (smaller .result) low end h in
+    let fits = run-fits n₀ level₀ w₀ from₀ (less .result) (smaller .result) low end h in
+    omega (arith, pre .0 .span .account, pre .0 .rate-is, pre .0 .span .short, pre .0 .span .columns, pre .0 .span .width)
 
 add-cash : tie.Need-add-cash
-add-cash c = let low = c .before .before .before .less .ensures in let end = c .before .smaller .ensures ∙ ap (min (c .before .before .before .before .before .before .before .before .before .args .n)) (c .before .before .less2 .ensures) in let h = c .if1 .taken in let above = run-above (c .before .before .before .before .before .before .before .before .before .args .n) (c .before .before .before .before .before .before .before .before .before .args .level) (c .before .before .before .before .before .before .before .before .before .args .w) (c .before .before .before .before .before .before .before .before .before .args .from) (c .before .before .before .less .result) (c .before .smaller .result) low end h in let some = run-some (c .before .before .before .before .before .before .before .before .before .args .n) (c .before .before .before .before .before .before .before .before .before .args .level) (c .before .before .before .before .before .before .before .before .before .args .w) (c .before .before .before .before .before .before .before .before .before .args .from) (c .before .before .before .less .result) (c .before .smaller .result) low end h in let fits = run-fits (c .before .before .before .before .before .before .before .before .before .args .n) (c .before .before .before .before .before .before .before .before .before .args .level) (c .before .before .before .before .before .before .before .before .before .args .w) (c .before .before .before .before .before .before .before .before .before .args .from) (c .before .before .before .less .result) (c .before .smaller .result) low end h in omega (arith, c .before .before .before .before .before .before .before .before .before .pre .0 .span .account, c .before .before .before .before .before .before .before .before .before .pre .0 .rate-is, c .before .before .before .before .before .before .before .before .before .pre .0 .span .short, c .before .before .before .before .before .before .before .before .before .pre .0 .span .columns, c .before .before .before .before .before .before .before .before .before .pre .0 .span .width)
+add-cash c =
+    let args = c .before .before .before .before .before .before .before .before .before .args in
+    let level₀ = args .level in
+    let from₀ = args .from in
+    let n₀ = args .n in
+    let w₀ = args .w in
+    let pre = c .before .before .before .before .before .before .before .before .before .pre in
+    let less = c .before .before .before .less in
+    let less2 = c .before .before .less2 in
+    let smaller = c .before .smaller in
+    let low = less .ensures in
+    let end = smaller .ensures ∙ ap (min n₀) (less2 .ensures) in
+    let h = c .if1 .taken in
+    let above = run-above n₀ level₀ w₀ from₀ (less .result) (smaller .result) low end h in
+    let some = run-some n₀ level₀ w₀ from₀ (less .result) (smaller .result) low end h in
+    let fits = run-fits n₀ level₀ w₀ from₀ (less .result) (smaller .result) low end h in
+    omega (arith, pre .0 .span .account, pre .0 .rate-is, pre .0 .span .short, pre .0 .span .columns, pre .0 .span .width)
 
 cast-cash : tie.Need-cast-cash
-cast-cash c = let low = c .before .before .before .less .ensures in let end = c .before .smaller .ensures ∙ ap (min (c .before .before .before .before .before .before .before .before .before .args .n)) (c .before .before .less2 .ensures) in let h = c .if1 .taken in let above = run-above (c .before .before .before .before .before .before .before .before .before .args .n) (c .before .before .before .before .before .before .before .before .before .args .level) (c .before .before .before .before .before .before .before .before .before .args .w) (c .before .before .before .before .before .before .before .before .before .args .from) (c .before .before .before .less .result) (c .before .smaller .result) low end h in let some = run-some (c .before .before .before .before .before .before .before .before .before .args .n) (c .before .before .before .before .before .before .before .before .before .args .level) (c .before .before .before .before .before .before .before .before .before .args .w) (c .before .before .before .before .before .before .before .before .before .args .from) (c .before .before .before .less .result) (c .before .smaller .result) low end h in let fits = run-fits (c .before .before .before .before .before .before .before .before .before .args .n) (c .before .before .before .before .before .before .before .before .before .args .level) (c .before .before .before .before .before .before .before .before .before .args .w) (c .before .before .before .before .before .before .before .before .before .args .from) (c .before .before .before .less .result) (c .before .smaller .result) low end h in omega (arith, c .before .before .before .before .before .before .before .before .before .pre .0 .span .account, c .before .before .before .before .before .before .before .before .before .pre .0 .rate-is, c .before .before .before .before .before .before .before .before .before .pre .0 .span .short, c .before .before .before .before .before .before .before .before .before .pre .0 .span .columns, c .before .before .before .before .before .before .before .before .before .pre .0 .span .width)
+cast-cash c =
+    let args = c .before .before .before .before .before .before .before .before .before .args in
+    let level₀ = args .level in
+    let from₀ = args .from in
+    let n₀ = args .n in
+    let w₀ = args .w in
+    let pre = c .before .before .before .before .before .before .before .before .before .pre in
+    let less = c .before .before .before .less in
+    let less2 = c .before .before .less2 in
+    let smaller = c .before .smaller in
+    let low = less .ensures in
+    let end = smaller .ensures ∙ ap (min n₀) (less2 .ensures) in
+    let h = c .if1 .taken in
+    let above = run-above n₀ level₀ w₀ from₀ (less .result) (smaller .result) low end h in
+    let some = run-some n₀ level₀ w₀ from₀ (less .result) (smaller .result) low end h in
+    let fits = run-fits n₀ level₀ w₀ from₀ (less .result) (smaller .result) low end h in
+    omega (arith, pre .0 .span .account, pre .0 .rate-is, pre .0 .span .short, pre .0 .span .columns, pre .0 .span .width)
 
 sub-offer-further : tie.Need-sub-offer-further
-sub-offer-further c = let low = c .before .before .before .before .before .less .ensures in let end = c .before .before .before .smaller .ensures ∙ ap (min (c .before .before .before .before .before .before .before .before .before .before .before .args .n)) (c .before .before .before .before .less2 .ensures) in let h = c .before .before .if1 .taken in let above = run-above (c .before .before .before .before .before .before .before .before .before .before .before .args .n) (c .before .before .before .before .before .before .before .before .before .before .before .args .level) (c .before .before .before .before .before .before .before .before .before .before .before .args .w) (c .before .before .before .before .before .before .before .before .before .before .before .args .from) (c .before .before .before .before .before .less .result) (c .before .before .before .smaller .result) low end h in let some = run-some (c .before .before .before .before .before .before .before .before .before .before .before .args .n) (c .before .before .before .before .before .before .before .before .before .before .before .args .level) (c .before .before .before .before .before .before .before .before .before .before .before .args .w) (c .before .before .before .before .before .before .before .before .before .before .before .args .from) (c .before .before .before .before .before .less .result) (c .before .before .before .smaller .result) low end h in let fits = run-fits (c .before .before .before .before .before .before .before .before .before .before .before .args .n) (c .before .before .before .before .before .before .before .before .before .before .before .args .level) (c .before .before .before .before .before .before .before .before .before .before .before .args .w) (c .before .before .before .before .before .before .before .before .before .before .before .args .from) (c .before .before .before .before .before .less .result) (c .before .before .before .smaller .result) low end h in omega (arith, c .before .before .before .before .before .before .before .before .before .before .before .pre .0 .span .account, c .before .before .before .before .before .before .before .before .before .before .before .pre .0 .rate-is, c .before .before .before .before .before .before .before .before .before .before .before .pre .0 .span .short, c .before .before .before .before .before .before .before .before .before .before .before .pre .0 .span .columns, c .before .before .before .before .before .before .before .before .before .before .before .pre .0 .span .width)
+sub-offer-further c =
+    let args = c .before .before .before .before .before .before .before .before .before .before .before .args in
+    let level₀ = args .level in
+    let from₀ = args .from in
+    let n₀ = args .n in
+    let w₀ = args .w in
+    let pre = c .before .before .before .before .before .before .before .before .before .before .before .pre in
+    let less = c .before .before .before .before .before .less in
+    let less2 = c .before .before .before .before .less2 in
+    let smaller = c .before .before .before .smaller in
+    let if1 = c .before .before .if1 in
+    let low = less .ensures in
+    let end = smaller .ensures ∙ ap (min n₀) (less2 .ensures) in
+    let h = if1 .taken in
+    let above = run-above n₀ level₀ w₀ from₀ (less .result) (smaller .result) low end h in
+    let some = run-some n₀ level₀ w₀ from₀ (less .result) (smaller .result) low end h in
+    let fits = run-fits n₀ level₀ w₀ from₀ (less .result) (smaller .result) low end h in
+    omega (arith, pre .0 .span .account, pre .0 .rate-is, pre .0 .span .short, pre .0 .span .columns, pre .0 .span .width)
 
 add-offer-further : tie.Need-add-offer-further
-add-offer-further c = let low = c .before .before .before .before .before .less .ensures in let end = c .before .before .before .smaller .ensures ∙ ap (min (c .before .before .before .before .before .before .before .before .before .before .before .args .n)) (c .before .before .before .before .less2 .ensures) in let h = c .before .before .if1 .taken in let above = run-above (c .before .before .before .before .before .before .before .before .before .before .before .args .n) (c .before .before .before .before .before .before .before .before .before .before .before .args .level) (c .before .before .before .before .before .before .before .before .before .before .before .args .w) (c .before .before .before .before .before .before .before .before .before .before .before .args .from) (c .before .before .before .before .before .less .result) (c .before .before .before .smaller .result) low end h in let some = run-some (c .before .before .before .before .before .before .before .before .before .before .before .args .n) (c .before .before .before .before .before .before .before .before .before .before .before .args .level) (c .before .before .before .before .before .before .before .before .before .before .before .args .w) (c .before .before .before .before .before .before .before .before .before .before .before .args .from) (c .before .before .before .before .before .less .result) (c .before .before .before .smaller .result) low end h in let fits = run-fits (c .before .before .before .before .before .before .before .before .before .before .before .args .n) (c .before .before .before .before .before .before .before .before .before .before .before .args .level) (c .before .before .before .before .before .before .before .before .before .before .before .args .w) (c .before .before .before .before .before .before .before .before .before .before .before .args .from) (c .before .before .before .before .before .less .result) (c .before .before .before .smaller .result) low end h in omega (arith, c .before .before .before .before .before .before .before .before .before .before .before .pre .0 .span .account, c .before .before .before .before .before .before .before .before .before .before .before .pre .0 .rate-is, c .before .before .before .before .before .before .before .before .before .before .before .pre .0 .span .short, c .before .before .before .before .before .before .before .before .before .before .before .pre .0 .span .columns, c .before .before .before .before .before .before .before .before .before .before .before .pre .0 .span .width)
+add-offer-further c =
+    let args = c .before .before .before .before .before .before .before .before .before .before .before .args in
+    let level₀ = args .level in
+    let from₀ = args .from in
+    let n₀ = args .n in
+    let w₀ = args .w in
+    let pre = c .before .before .before .before .before .before .before .before .before .before .before .pre in
+    let less = c .before .before .before .before .before .less in
+    let less2 = c .before .before .before .before .less2 in
+    let smaller = c .before .before .before .smaller in
+    let if1 = c .before .before .if1 in
+    let low = less .ensures in
+    let end = smaller .ensures ∙ ap (min n₀) (less2 .ensures) in
+    let h = if1 .taken in
+    let above = run-above n₀ level₀ w₀ from₀ (less .result) (smaller .result) low end h in
+    let some = run-some n₀ level₀ w₀ from₀ (less .result) (smaller .result) low end h in
+    let fits = run-fits n₀ level₀ w₀ from₀ (less .result) (smaller .result) low end h in
+    omega (arith, pre .0 .span .account, pre .0 .rate-is, pre .0 .span .short, pre .0 .span .columns, pre .0 .span .width)
 
 cast-offer-further : tie.Need-cast-offer-further
-cast-offer-further c = let low = c .before .before .before .before .before .less .ensures in let end = c .before .before .before .smaller .ensures ∙ ap (min (c .before .before .before .before .before .before .before .before .before .before .before .args .n)) (c .before .before .before .before .less2 .ensures) in let h = c .before .before .if1 .taken in let above = run-above (c .before .before .before .before .before .before .before .before .before .before .before .args .n) (c .before .before .before .before .before .before .before .before .before .before .before .args .level) (c .before .before .before .before .before .before .before .before .before .before .before .args .w) (c .before .before .before .before .before .before .before .before .before .before .before .args .from) (c .before .before .before .before .before .less .result) (c .before .before .before .smaller .result) low end h in let some = run-some (c .before .before .before .before .before .before .before .before .before .before .before .args .n) (c .before .before .before .before .before .before .before .before .before .before .before .args .level) (c .before .before .before .before .before .before .before .before .before .before .before .args .w) (c .before .before .before .before .before .before .before .before .before .before .before .args .from) (c .before .before .before .before .before .less .result) (c .before .before .before .smaller .result) low end h in let fits = run-fits (c .before .before .before .before .before .before .before .before .before .before .before .args .n) (c .before .before .before .before .before .before .before .before .before .before .before .args .level) (c .before .before .before .before .before .before .before .before .before .before .before .args .w) (c .before .before .before .before .before .before .before .before .before .before .before .args .from) (c .before .before .before .before .before .less .result) (c .before .before .before .smaller .result) low end h in omega (arith, c .before .before .before .before .before .before .before .before .before .before .before .pre .0 .span .account, c .before .before .before .before .before .before .before .before .before .before .before .pre .0 .rate-is, c .before .before .before .before .before .before .before .before .before .before .before .pre .0 .span .short, c .before .before .before .before .before .before .before .before .before .before .before .pre .0 .span .columns, c .before .before .before .before .before .before .before .before .before .before .before .pre .0 .span .width)
+cast-offer-further c =
+    let args = c .before .before .before .before .before .before .before .before .before .before .before .args in
+    let level₀ = args .level in
+    let from₀ = args .from in
+    let n₀ = args .n in
+    let w₀ = args .w in
+    let pre = c .before .before .before .before .before .before .before .before .before .before .before .pre in
+    let less = c .before .before .before .before .before .less in
+    let less2 = c .before .before .before .before .less2 in
+    let smaller = c .before .before .before .smaller in
+    let if1 = c .before .before .if1 in
+    let low = less .ensures in
+    let end = smaller .ensures ∙ ap (min n₀) (less2 .ensures) in
+    let h = if1 .taken in
+    let above = run-above n₀ level₀ w₀ from₀ (less .result) (smaller .result) low end h in
+    let some = run-some n₀ level₀ w₀ from₀ (less .result) (smaller .result) low end h in
+    let fits = run-fits n₀ level₀ w₀ from₀ (less .result) (smaller .result) low end h in
+    omega (arith, pre .0 .span .account, pre .0 .rate-is, pre .0 .span .short, pre .0 .span .columns, pre .0 .span .width)
 
 offer-further-requires : tie.Need-offer-further-requires
 offer-further-requires c κs =
-    let low = c .before .before .before .before .before .less .ensures in let end = c .before .before .before .smaller .ensures ∙ ap (min (c .before .before .before .before .before .before .before .before .before .before .before .args .n)) (c .before .before .before .before .less2 .ensures) in let h = c .before .before .if1 .taken in let above = run-above (c .before .before .before .before .before .before .before .before .before .before .before .args .n) (c .before .before .before .before .before .before .before .before .before .before .before .args .level) (c .before .before .before .before .before .before .before .before .before .before .before .args .w) (c .before .before .before .before .before .before .before .before .before .before .before .args .from) (c .before .before .before .before .before .less .result) (c .before .before .before .smaller .result) low end h in let some = run-some (c .before .before .before .before .before .before .before .before .before .before .before .args .n) (c .before .before .before .before .before .before .before .before .before .before .before .args .level) (c .before .before .before .before .before .before .before .before .before .before .before .args .w) (c .before .before .before .before .before .before .before .before .before .before .before .args .from) (c .before .before .before .before .before .less .result) (c .before .before .before .smaller .result) low end h in let fits = run-fits (c .before .before .before .before .before .before .before .before .before .before .before .args .n) (c .before .before .before .before .before .before .before .before .before .before .before .args .level) (c .before .before .before .before .before .before .before .before .before .before .before .args .w) (c .before .before .before .before .before .before .before .before .before .before .before .args .from) (c .before .before .before .before .before .less .result) (c .before .before .before .smaller .result) low end h in
-    let r = further-room (c .before .before .before .before .before .before .before .before .before .before .before .args .stride) (c .before .before .before .before .before .before .before .before .before .before .before .args .w) (c .before .before .before .before .before .before .before .before .before .before .before .args .level) (c .before .before .before .before .before .before .before .before .before .before .before .args .from + c .before .before .before .before .before .less .result - (c .before .before .before .before .before .before .before .before .before .before .before .args .level + 1)) (c .before .before .before .smaller .result - c .before .before .before .before .before .less .result) some (behind (c .before .before .before .before .before .before .before .before .before .before .before .args .from) (c .before .before .before .before .before .less .result) (c .before .before .before .before .before .before .before .before .before .before .before .args .level + 1) (c .before .before .before .smaller .result - c .before .before .before .before .before .less .result) (c .before .before .before .before .before .before .before .before .before .before .before .args .n) (c .before .before .before .before .before .before .before .before .before .before .before .args .stride) fits (c .before .before .before .before .before .before .before .before .before .before .before .pre .0 .span .columns)) in
-    let q = rows-step (c .before .before .before .before .before .before .before .before .before .before .before .args .stride) (c .before .before .before .before .before .before .before .before .before .before .before .args .w) in
-    (le-trans fits (c .before .before .before .before .before .before .before .before .before .before .before .pre .0 .span .short), le-trans r (let z : c .before .before .before .before .before .before .before .before .before .before .before .args .w * c .before .before .before .before .before .before .before .before .before .before .before .args .stride ≤ length (c .before .before .before .before .before .before .before .before .before .before .before .args .work .now) = omega (arith, c .before .before .before .before .before .before .before .before .before .before .before .pre .0 .span .rows) in z), le-trans r (c .before .before .before .before .before .before .before .before .before .before .before .pre .1), further-small (c .before .before .before .before .before .before .before .before .before .before .before .pre .0) (c .before .before .before .before .before .before .before .before .before .before .before .pre .2) (c .before .before .before .before .before .before .before .before .before .before .before .pre .1) (c .before .before .before .before .before .before .before .before .before .before .before .args .level) (c .before .before .before .before .before .less .result) (c .before .before .before .smaller .result - c .before .before .before .before .before .less .result) _ some fits (λ i l. run-free (c .before .before .before .before .before .before .before .before .before .before .before .args .level) (c .before .before .before .before .before .before .before .before .before .before .before .args .from) (c .before .before .before .before .before .less .result) i above) (run-under (c .before .before .before .before .before .before .before .before .before .before .before .args .n) (c .before .before .before .before .before .before .before .before .before .before .before .args .level) (c .before .before .before .before .before .before .before .before .before .before .before .args .w) (c .before .before .before .before .before .before .before .before .before .before .before .args .from) (c .before .before .before .before .before .less .result) (c .before .before .before .smaller .result) low end) (λ i l. run-place (c .before .before .before .before .before .before .before .before .before .before .before .args .w) (c .before .before .before .before .before .before .before .before .before .before .before .args .stride) (c .before .before .before .before .before .before .before .before .before .before .before .args .from) (c .before .before .before .before .before .before .before .before .before .before .before .args .level) (c .before .before .before .before .before .less .result) i above), omega (arith, c .before .before .before .before .before .before .before .before .before .before .before .pre .0 .level-is))
+    let args = c .before .before .before .before .before .before .before .before .before .before .before .args in
+    let stride₀ = args .stride in
+    let level₀ = args .level in
+    let from₀ = args .from in
+    let n₀ = args .n in
+    let w₀ = args .w in
+    let pre = c .before .before .before .before .before .before .before .before .before .before .before .pre in
+    let less = c .before .before .before .before .before .less in
+    let less2 = c .before .before .before .before .less2 in
+    let smaller = c .before .before .before .smaller in
+    let if1 = c .before .before .if1 in
+    let low = less .ensures in
+    let end = smaller .ensures ∙ ap (min n₀) (less2 .ensures) in
+    let h = if1 .taken in
+    let above = run-above n₀ level₀ w₀ from₀ (less .result) (smaller .result) low end h in
+    let some = run-some n₀ level₀ w₀ from₀ (less .result) (smaller .result) low end h in
+    let fits = run-fits n₀ level₀ w₀ from₀ (less .result) (smaller .result) low end h in
+    let r = further-room stride₀ w₀ level₀ (from₀ + less .result - (level₀ + 1)) (smaller .result - less .result) some (behind from₀ (less .result) (level₀ + 1) (smaller .result - less .result) n₀ stride₀ fits (pre .0 .span .columns)) in
+    let q = rows-step stride₀ w₀ in (
+      le-trans fits (pre .0 .span .short),
+      le-trans r (let z : w₀ * stride₀ ≤ length (args .work .now) = omega (arith, pre .0 .span .rows) in z),
+      le-trans r (pre .1),
+      further-small (pre .0) (pre .2) (pre .1) level₀ (less .result) (smaller .result - less .result) _ some fits (λ i l. run-free level₀ from₀ (less .result) i above) (run-under n₀ level₀ w₀ from₀ (less .result) (smaller .result) low end) (λ i l. run-place w₀ stride₀ from₀ level₀ (less .result) i above),
+      omega (arith, pre .0 .level-is),
+    )
 
 returns : tie.Need-returns
 returns c =
-    let low = c .before .before .before .before .before .before .less .ensures in let end = c .before .before .before .before .smaller .ensures ∙ ap (min (c .before .before .before .before .before .before .before .before .before .before .before .before .args .n)) (c .before .before .before .before .before .less2 .ensures) in let h = c .before .before .before .if1 .taken in let above = run-above (c .before .before .before .before .before .before .before .before .before .before .before .before .args .n) (c .before .before .before .before .before .before .before .before .before .before .before .before .args .level) (c .before .before .before .before .before .before .before .before .before .before .before .before .args .w) (c .before .before .before .before .before .before .before .before .before .before .before .before .args .from) (c .before .before .before .before .before .before .less .result) (c .before .before .before .before .smaller .result) low end h in let some = run-some (c .before .before .before .before .before .before .before .before .before .before .before .before .args .n) (c .before .before .before .before .before .before .before .before .before .before .before .before .args .level) (c .before .before .before .before .before .before .before .before .before .before .before .before .args .w) (c .before .before .before .before .before .before .before .before .before .before .before .before .args .from) (c .before .before .before .before .before .before .less .result) (c .before .before .before .before .smaller .result) low end h in let fits = run-fits (c .before .before .before .before .before .before .before .before .before .before .before .before .args .n) (c .before .before .before .before .before .before .before .before .before .before .before .before .args .level) (c .before .before .before .before .before .before .before .before .before .before .before .before .args .w) (c .before .before .before .before .before .before .before .before .before .before .before .before .args .from) (c .before .before .before .before .before .before .less .result) (c .before .before .before .before .smaller .result) low end h in
-    let few = few-before (c .before .before .before .before .before .before .before .before .before .before .before .before .args .n) (c .before .before .before .before .before .before .before .before .before .before .before .before .args .level) (c .before .before .before .before .before .before .before .before .before .before .before .before .args .w) (c .before .before .before .before .before .before .before .before .before .before .before .before .args .from) (c .before .before .before .before .before .before .less .result) (c .before .before .before .before .smaller .result) low end h in
-    let stand : ℕ → Type 0 = λ z. Leads (worthAt (cells (c .before .before .before .before .before .before .before .before .before .before .before .before .args .work .now) (c .before .before .before .before .before .before .before .before .before .before .before .before .args .base) (c .before .before .before .before .before .before .before .before .before .before .before .before .args .stride)) (c .before .before .before .before .before .before .before .before .before .before .before .before .args .rate) (c .before .before .before .before .before .before .before .before .before .before .before .before .args .level) (c .before .before .before .before .before .before .before .before .before .before .before .before .args .w) (c .before .before .before .before .before .before .before .before .before .before .before .before .args .from)) (c .before .before .before .before .before .before .before .further-few .last .0) (c .before .before .before .before .before .before .before .further-few .last .1 .0) (c .before .before .before .before .before .before .before .before .before .before .before .before .args .n) (triedBelow (c .before .before .before .before .before .before .before .before .before .before .before .before .args .level) (c .before .before .before .before .before .before .before .before .before .before .before .before .args .w) (c .before .before .before .before .before .before .before .before .before .before .before .before .args .from) z) in
-    let done = further-run (c .before .before .before .before .before .before .before .before .before .before .before .before .pre .0) (c .before .before .before .before .before .before .before .before .before .before .before .before .pre .2) (c .before .before .before .before .before .before .before .before .before .before .before .before .pre .1) (c .before .before .before .before .before .before .before .before .before .before .before .before .args .level) (c .before .before .before .before .before .before .less .result) (c .before .before .before .before .smaller .result - c .before .before .before .before .before .before .less .result) _ some fits (λ i l. run-free (c .before .before .before .before .before .before .before .before .before .before .before .before .args .level) (c .before .before .before .before .before .before .before .before .before .before .before .before .args .from) (c .before .before .before .before .before .before .less .result) i above) (run-under (c .before .before .before .before .before .before .before .before .before .before .before .before .args .n) (c .before .before .before .before .before .before .before .before .before .before .before .before .args .level) (c .before .before .before .before .before .before .before .before .before .before .before .before .args .w) (c .before .before .before .before .before .before .before .before .before .before .before .before .args .from) (c .before .before .before .before .before .before .less .result) (c .before .before .before .before .smaller .result) low end) (λ i l. run-place (c .before .before .before .before .before .before .before .before .before .before .before .before .args .w) (c .before .before .before .before .before .before .before .before .before .before .before .before .args .stride) (c .before .before .before .before .before .before .before .before .before .before .before .before .args .from) (c .before .before .before .before .before .before .before .before .before .before .before .before .args .level) (c .before .before .before .before .before .before .less .result) i above) (subst stand few (c .before .before .before .before .before .before .before .further-few .ensures)) (c .offer-further .ensures) in
-    let to = run-to (c .before .before .before .before .before .before .less .result) (c .before .before .before .before .smaller .result) h in
-    subst (λ (z : ℕ). Leads (worthAt (cells (c .before .before .before .before .before .before .before .before .before .before .before .before .args .work .now) (c .before .before .before .before .before .before .before .before .before .before .before .before .args .base) (c .before .before .before .before .before .before .before .before .before .before .before .before .args .stride)) (c .before .before .before .before .before .before .before .before .before .before .before .before .args .rate) (c .before .before .before .before .before .before .before .before .before .before .before .before .args .level) (c .before .before .before .before .before .before .before .before .before .before .before .before .args .w) (c .before .before .before .before .before .before .before .before .before .before .before .before .args .from)) (c .offer-further .last .0) (c .offer-further .last .1 .0) (c .before .before .before .before .before .before .before .before .before .before .before .before .args .n) (triedBelow (c .before .before .before .before .before .before .before .before .before .before .before .before .args .level) (c .before .before .before .before .before .before .before .before .before .before .before .before .args .w) (c .before .before .before .before .before .before .before .before .before .before .before .before .args .from) z)) (to ∙ end) done
+    let args = c .before .before .before .before .before .before .before .before .before .before .before .before .args in
+    let work₀ = args .work .now in
+    let stride₀ = args .stride in
+    let level₀ = args .level in
+    let from₀ = args .from in
+    let base₀ = args .base in
+    let rate₀ = args .rate in
+    let n₀ = args .n in
+    let w₀ = args .w in
+    let pre = c .before .before .before .before .before .before .before .before .before .before .before .before .pre in
+    let further-few = c .before .before .before .before .before .before .before .further-few in
+    let less = c .before .before .before .before .before .before .less in
+    let less2 = c .before .before .before .before .before .less2 in
+    let smaller = c .before .before .before .before .smaller in
+    let if1 = c .before .before .before .if1 in
+    let low = less .ensures in let end = smaller .ensures ∙ ap (min n₀) (less2 .ensures) in let h = if1 .taken in let above = run-above n₀ level₀ w₀ from₀ (less .result) (smaller .result) low end h in let some = run-some n₀ level₀ w₀ from₀ (less .result) (smaller .result) low end h in let fits = run-fits n₀ level₀ w₀ from₀ (less .result) (smaller .result) low end h in let few = few-before n₀ level₀ w₀ from₀ (less .result) (smaller .result) low end h in let stand : ℕ → Type 0 = λ z. Leads (worthAt (cells work₀ base₀ stride₀) rate₀ level₀ w₀ from₀) (further-few .last .0) (further-few .last .1 .0) n₀ (triedBelow level₀ w₀ from₀ z) in let done = further-run (pre .0) (pre .2) (pre .1) level₀ (less .result) (smaller .result - less .result) _ some fits (λ i l. run-free level₀ from₀ (less .result) i above) (run-under n₀ level₀ w₀ from₀ (less .result) (smaller .result) low end) (λ i l. run-place w₀ stride₀ from₀ level₀ (less .result) i above) (subst stand few (further-few .ensures)) (c .offer-further .ensures) in let to = run-to (less .result) (smaller .result) h in subst (λ (z : ℕ). Leads (worthAt (cells work₀ base₀ stride₀) rate₀ level₀ w₀ from₀) (c .offer-further .last .0) (c .offer-further .last .1 .0) n₀ (triedBelow level₀ w₀ from₀ z)) (to ∙ end) done
 
 returns-2 : tie.Need-returns-2
 returns-2 c =
-    let low = c .before .before .before .less .ensures in let end = c .before .smaller .ensures ∙ ap (min (c .before .before .before .before .before .before .before .before .before .args .n)) (c .before .before .less2 .ensures) in let h = c .if1 .left in
-    let all = few-all (c .before .before .before .before .before .before .before .before .before .args .n) (c .before .before .before .before .before .before .before .before .before .args .level) (c .before .before .before .before .before .before .before .before .before .args .w) (c .before .before .before .before .before .before .before .before .before .args .from) (c .before .before .before .less .result) (c .before .smaller .result) low end h in
-    let rest = rest-free (c .before .before .before .before .before .before .before .before .before .args .n) (c .before .before .before .before .before .before .before .before .before .args .level) (c .before .before .before .before .before .before .before .before .before .args .w) (c .before .before .before .before .before .before .before .before .before .args .from) (c .before .before .before .less .result) (c .before .smaller .result) low end h in
-    let done = leads-as (c .before .before .before .before .further-few .ensures) (triedBelow (c .before .before .before .before .before .before .before .before .before .args .level) (c .before .before .before .before .before .before .before .before .before .args .w) (c .before .before .before .before .before .before .before .before .before .args .from) (c .before .smaller .result)) (λ j l. below-same (c .before .before .before .before .before .before .before .before .before .args .level) (c .before .before .before .before .before .before .before .before .before .args .w) (c .before .before .before .before .before .before .before .before .before .args .from) _ (c .before .smaller .result) j all (rest j)) in
-    leads-as done _ (λ j l. ap (λ (z : ℕ). triedBelow (c .before .before .before .before .before .before .before .before .before .args .level) (c .before .before .before .before .before .before .before .before .before .args .w) (c .before .before .before .before .before .before .before .before .before .args .from) z j) end)
+    let args = c .before .before .before .before .before .before .before .before .before .args in
+    let level₀ = args .level in
+    let from₀ = args .from in
+    let n₀ = args .n in
+    let w₀ = args .w in
+    let further-few = c .before .before .before .before .further-few in
+    let less = c .before .before .before .less in
+    let less2 = c .before .before .less2 in
+    let smaller = c .before .smaller in
+    let low = less .ensures in
+    let end = smaller .ensures ∙ ap (min n₀) (less2 .ensures) in
+    let h = c .if1 .left in
+    let all = few-all n₀ level₀ w₀ from₀ (less .result) (smaller .result) low end h in
+    let rest = rest-free n₀ level₀ w₀ from₀ (less .result) (smaller .result) low end h in
+    let done = leads-as (further-few .ensures) (triedBelow level₀ w₀ from₀ (smaller .result)) (λ j l. below-same level₀ w₀ from₀ _ (smaller .result) j all (rest j)) in
+    leads-as done _ (λ j l. ap (λ (z : ℕ). triedBelow level₀ w₀ from₀ z j) end)
 
 pub further-block-spec : {M : Type 1} → statement M
 further-block-spec =

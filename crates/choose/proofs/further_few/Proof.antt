@@ -31,54 +31,227 @@ smaller-requires-2 : tie.Need-smaller-requires-2 Inv-loop μ-loop
 smaller-requires-2 c κs = search needs
 
 loop-holds : tie.Need-loop-holds Inv-loop μ-loop
-loop-holds c = (omega arith, leads-as (c .before .before .before .before .before .pre .3) _ (λ j l. sym (below-free (c .before .before .before .before .before .args .level) (c .before .before .before .before .before .args .w) (c .before .before .before .before .before .args .from) 0 j (omega arith))))
+loop-holds c =
+    let args = c .before .before .before .before .before .args in
+    let pre = c .before .before .before .before .before .pre in
+    (omega arith, leads-as (pre .3) _ (λ j l. sym (below-free (args .level) (args .w) (args .from) 0 j (omega arith))))
 
 add-a : tie.Need-add-a Inv-loop μ-loop
-add-a c = let few = c .before .before .smaller2 .ensures ∙ ap (min (c .before .before .before .before .before .before .before .args .n)) (c .before .before .before .less .ensures ∙ ap (λ (z : ℕ). z - c .before .before .before .before .before .before .before .args .from) (c .before .before .before .before .smaller .ensures)) in let s = few-in (c .before .before .before .before .before .before .before .args .n) (c .before .before .before .before .before .before .before .args .level) (c .before .before .before .before .before .before .before .args .w) (c .before .before .before .before .before .before .before .args .from) (c .before .before .smaller2 .result) (c .before .loop .j) few (c .loop-test .taken) in omega (arith, c .before .before .before .before .before .before .before .pre .0 .span .account, c .before .before .before .before .before .before .before .pre .0 .rate-is, c .before .before .before .before .before .before .before .pre .0 .span .short)
+add-a c =
+    let args = c .before .before .before .before .before .before .before .args in
+    let from₀ = args .from in
+    let n₀ = args .n in
+    let pre = c .before .before .before .before .before .before .before .pre in
+    let smaller = c .before .before .before .before .smaller in
+    let less = c .before .before .before .less in
+    let smaller2 = c .before .before .smaller2 in
+    let few = smaller2 .ensures ∙ ap (min n₀) (less .ensures ∙ ap (λ (z : ℕ). z - from₀) (smaller .ensures)) in
+    let s = few-in n₀ (args .level) (args .w) from₀ (smaller2 .result) (c .before .loop .j) few (c .loop-test .taken) in
+    omega (arith, pre .0 .span .account, pre .0 .rate-is, pre .0 .span .short)
 
 sub-at : tie.Need-sub-at Inv-loop μ-loop
-sub-at c = let few = c .before .before .smaller2 .ensures ∙ ap (min (c .before .before .before .before .before .before .before .args .n)) (c .before .before .before .less .ensures ∙ ap (λ (z : ℕ). z - c .before .before .before .before .before .before .before .args .from) (c .before .before .before .before .smaller .ensures)) in let s = few-in (c .before .before .before .before .before .before .before .args .n) (c .before .before .before .before .before .before .before .args .level) (c .before .before .before .before .before .before .before .args .w) (c .before .before .before .before .before .before .before .args .from) (c .before .before .smaller2 .result) (c .before .loop .j) few (c .loop-test .taken) in omega (arith, c .before .before .before .before .before .before .before .pre .0 .span .account, c .before .before .before .before .before .before .before .pre .0 .rate-is, c .before .before .before .before .before .before .before .pre .0 .span .short)
+sub-at c =
+    let args = c .before .before .before .before .before .before .before .args in
+    let from₀ = args .from in
+    let n₀ = args .n in
+    let pre = c .before .before .before .before .before .before .before .pre in
+    let smaller = c .before .before .before .before .smaller in
+    let less = c .before .before .before .less in
+    let smaller2 = c .before .before .smaller2 in
+    let few = smaller2 .ensures ∙ ap (min n₀) (less .ensures ∙ ap (λ (z : ℕ). z - from₀) (smaller .ensures)) in
+    let s = few-in n₀ (args .level) (args .w) from₀ (smaller2 .result) (c .before .loop .j) few (c .loop-test .taken) in
+    omega (arith, pre .0 .span .account, pre .0 .rate-is, pre .0 .span .short)
 
 sub-at-2 : tie.Need-sub-at-2 Inv-loop μ-loop
-sub-at-2 c = let few = c .before .before .smaller2 .ensures ∙ ap (min (c .before .before .before .before .before .before .before .args .n)) (c .before .before .before .less .ensures ∙ ap (λ (z : ℕ). z - c .before .before .before .before .before .before .before .args .from) (c .before .before .before .before .smaller .ensures)) in let s = few-in (c .before .before .before .before .before .before .before .args .n) (c .before .before .before .before .before .before .before .args .level) (c .before .before .before .before .before .before .before .args .w) (c .before .before .before .before .before .before .before .args .from) (c .before .before .smaller2 .result) (c .before .loop .j) few (c .loop-test .taken) in omega (arith, c .before .before .before .before .before .before .before .pre .0 .span .account, c .before .before .before .before .before .before .before .pre .0 .rate-is, c .before .before .before .before .before .before .before .pre .0 .span .short)
+sub-at-2 c =
+    let args = c .before .before .before .before .before .before .before .args in
+    let from₀ = args .from in
+    let n₀ = args .n in
+    let pre = c .before .before .before .before .before .before .before .pre in
+    let smaller = c .before .before .before .before .smaller in
+    let less = c .before .before .before .less in
+    let smaller2 = c .before .before .smaller2 in
+    let few = smaller2 .ensures ∙ ap (min n₀) (less .ensures ∙ ap (λ (z : ℕ). z - from₀) (smaller .ensures)) in
+    let s = few-in n₀ (args .level) (args .w) from₀ (smaller2 .result) (c .before .loop .j) few (c .loop-test .taken) in
+    omega (arith, pre .0 .span .account, pre .0 .rate-is, pre .0 .span .short)
 
 mul-at : tie.Need-mul-at Inv-loop μ-loop
-mul-at c = let few = c .before .before .smaller2 .ensures ∙ ap (min (c .before .before .before .before .before .before .before .args .n)) (c .before .before .before .less .ensures ∙ ap (λ (z : ℕ). z - c .before .before .before .before .before .before .before .args .from) (c .before .before .before .before .smaller .ensures)) in let s = few-in (c .before .before .before .before .before .before .before .args .n) (c .before .before .before .before .before .before .before .args .level) (c .before .before .before .before .before .before .before .args .w) (c .before .before .before .before .before .before .before .args .from) (c .before .before .smaller2 .result) (c .before .loop .j) few (c .loop-test .taken) in let r = further-room (c .before .before .before .before .before .before .before .args .stride) (c .before .before .before .before .before .before .before .args .w) (c .before .before .before .before .before .before .before .args .from + c .before .loop .j) 0 0 (s .1) (omega arith) in let q = rows-step (c .before .before .before .before .before .before .before .args .stride) (c .before .before .before .before .before .before .before .args .w) in omega (arith, c .before .before .before .before .before .before .before .pre .0 .span .rows)
+mul-at c =
+    let args = c .before .before .before .before .before .before .before .args in
+    let stride₀ = args .stride in
+    let from₀ = args .from in
+    let n₀ = args .n in
+    let w₀ = args .w in
+    let pre = c .before .before .before .before .before .before .before .pre in
+    let smaller = c .before .before .before .before .smaller in
+    let less = c .before .before .before .less in
+    let smaller2 = c .before .before .smaller2 in
+    let few = smaller2 .ensures ∙ ap (min n₀) (less .ensures ∙ ap (λ (z : ℕ). z - from₀) (smaller .ensures)) in
+    let s = few-in n₀ (args .level) w₀ from₀ (smaller2 .result) (c .before .loop .j) few (c .loop-test .taken) in
+    let r = further-room stride₀ w₀ (from₀ + c .before .loop .j) 0 0 (s .1) (omega arith) in
+    let q = rows-step stride₀ w₀ in
+    omega (arith, pre .0 .span .rows)
 
 mul-cash : tie.Need-mul-cash Inv-loop μ-loop
-mul-cash c = let few = c .before .before .smaller2 .ensures ∙ ap (min (c .before .before .before .before .before .before .before .args .n)) (c .before .before .before .less .ensures ∙ ap (λ (z : ℕ). z - c .before .before .before .before .before .before .before .args .from) (c .before .before .before .before .smaller .ensures)) in let s = few-in (c .before .before .before .before .before .before .before .args .n) (c .before .before .before .before .before .before .before .args .level) (c .before .before .before .before .before .before .before .args .w) (c .before .before .before .before .before .before .before .args .from) (c .before .before .smaller2 .result) (c .before .loop .j) few (c .loop-test .taken) in omega (arith, c .before .before .before .before .before .before .before .pre .0 .span .account, c .before .before .before .before .before .before .before .pre .0 .rate-is, c .before .before .before .before .before .before .before .pre .0 .span .short)
+mul-cash c =
+    let args = c .before .before .before .before .before .before .before .args in
+    let from₀ = args .from in
+    let n₀ = args .n in
+    let pre = c .before .before .before .before .before .before .before .pre in
+    let smaller = c .before .before .before .before .smaller in
+    let less = c .before .before .before .less in
+    let smaller2 = c .before .before .smaller2 in
+    let few = smaller2 .ensures ∙ ap (min n₀) (less .ensures ∙ ap (λ (z : ℕ). z - from₀) (smaller .ensures)) in
+    let s = few-in n₀ (args .level) (args .w) from₀ (smaller2 .result) (c .before .loop .j) few (c .loop-test .taken) in
+    omega (arith, pre .0 .span .account, pre .0 .rate-is, pre .0 .span .short)
 
 sub-cash : tie.Need-sub-cash Inv-loop μ-loop
-sub-cash c = let few = c .before .before .smaller2 .ensures ∙ ap (min (c .before .before .before .before .before .before .before .args .n)) (c .before .before .before .less .ensures ∙ ap (λ (z : ℕ). z - c .before .before .before .before .before .before .before .args .from) (c .before .before .before .before .smaller .ensures)) in let s = few-in (c .before .before .before .before .before .before .before .args .n) (c .before .before .before .before .before .before .before .args .level) (c .before .before .before .before .before .before .before .args .w) (c .before .before .before .before .before .before .before .args .from) (c .before .before .smaller2 .result) (c .before .loop .j) few (c .loop-test .taken) in omega (arith, c .before .before .before .before .before .before .before .pre .0 .span .account, c .before .before .before .before .before .before .before .pre .0 .rate-is, c .before .before .before .before .before .before .before .pre .0 .span .short)
+sub-cash c =
+    let args = c .before .before .before .before .before .before .before .args in
+    let from₀ = args .from in
+    let n₀ = args .n in
+    let pre = c .before .before .before .before .before .before .before .pre in
+    let smaller = c .before .before .before .before .smaller in
+    let less = c .before .before .before .less in
+    let smaller2 = c .before .before .smaller2 in
+    let few = smaller2 .ensures ∙ ap (min n₀) (less .ensures ∙ ap (λ (z : ℕ). z - from₀) (smaller .ensures)) in
+    let s = few-in n₀ (args .level) (args .w) from₀ (smaller2 .result) (c .before .loop .j) few (c .loop-test .taken) in
+    omega (arith, pre .0 .span .account, pre .0 .rate-is, pre .0 .span .short)
 
 add-cash : tie.Need-add-cash Inv-loop μ-loop
-add-cash c = let few = c .before .before .smaller2 .ensures ∙ ap (min (c .before .before .before .before .before .before .before .args .n)) (c .before .before .before .less .ensures ∙ ap (λ (z : ℕ). z - c .before .before .before .before .before .before .before .args .from) (c .before .before .before .before .smaller .ensures)) in let s = few-in (c .before .before .before .before .before .before .before .args .n) (c .before .before .before .before .before .before .before .args .level) (c .before .before .before .before .before .before .before .args .w) (c .before .before .before .before .before .before .before .args .from) (c .before .before .smaller2 .result) (c .before .loop .j) few (c .loop-test .taken) in omega (arith, c .before .before .before .before .before .before .before .pre .0 .span .account, c .before .before .before .before .before .before .before .pre .0 .rate-is, c .before .before .before .before .before .before .before .pre .0 .span .short)
+add-cash c =
+    let args = c .before .before .before .before .before .before .before .args in
+    let from₀ = args .from in
+    let n₀ = args .n in
+    let pre = c .before .before .before .before .before .before .before .pre in
+    let smaller = c .before .before .before .before .smaller in
+    let less = c .before .before .before .less in
+    let smaller2 = c .before .before .smaller2 in
+    let few = smaller2 .ensures ∙ ap (min n₀) (less .ensures ∙ ap (λ (z : ℕ). z - from₀) (smaller .ensures)) in
+    let s = few-in n₀ (args .level) (args .w) from₀ (smaller2 .result) (c .before .loop .j) few (c .loop-test .taken) in
+    omega (arith, pre .0 .span .account, pre .0 .rate-is, pre .0 .span .short)
 
 cast-cash : tie.Need-cast-cash Inv-loop μ-loop
-cast-cash c = let few = c .before .before .smaller2 .ensures ∙ ap (min (c .before .before .before .before .before .before .before .args .n)) (c .before .before .before .less .ensures ∙ ap (λ (z : ℕ). z - c .before .before .before .before .before .before .before .args .from) (c .before .before .before .before .smaller .ensures)) in let s = few-in (c .before .before .before .before .before .before .before .args .n) (c .before .before .before .before .before .before .before .args .level) (c .before .before .before .before .before .before .before .args .w) (c .before .before .before .before .before .before .before .args .from) (c .before .before .smaller2 .result) (c .before .loop .j) few (c .loop-test .taken) in omega (arith, c .before .before .before .before .before .before .before .pre .0 .span .account, c .before .before .before .before .before .before .before .pre .0 .rate-is, c .before .before .before .before .before .before .before .pre .0 .span .short)
+cast-cash c =
+    let args = c .before .before .before .before .before .before .before .args in
+    let from₀ = args .from in
+    let n₀ = args .n in
+    let pre = c .before .before .before .before .before .before .before .pre in
+    let smaller = c .before .before .before .before .smaller in
+    let less = c .before .before .before .less in
+    let smaller2 = c .before .before .smaller2 in
+    let few = smaller2 .ensures ∙ ap (min n₀) (less .ensures ∙ ap (λ (z : ℕ). z - from₀) (smaller .ensures)) in
+    let s = few-in n₀ (args .level) (args .w) from₀ (smaller2 .result) (c .before .loop .j) few (c .loop-test .taken) in
+    omega (arith, pre .0 .span .account, pre .0 .rate-is, pre .0 .span .short)
 
 add-offer-further : tie.Need-add-offer-further Inv-loop μ-loop
-add-offer-further c = let few = c .before .before .before .before .smaller2 .ensures ∙ ap (min (c .before .before .before .before .before .before .before .before .before .args .n)) (c .before .before .before .before .before .less .ensures ∙ ap (λ (z : ℕ). z - c .before .before .before .before .before .before .before .before .before .args .from) (c .before .before .before .before .before .before .smaller .ensures)) in let s = few-in (c .before .before .before .before .before .before .before .before .before .args .n) (c .before .before .before .before .before .before .before .before .before .args .level) (c .before .before .before .before .before .before .before .before .before .args .w) (c .before .before .before .before .before .before .before .before .before .args .from) (c .before .before .before .before .smaller2 .result) (c .before .before .before .loop .j) few (c .before .before .loop-test .taken) in omega (arith, c .before .before .before .before .before .before .before .before .before .pre .0 .span .account, c .before .before .before .before .before .before .before .before .before .pre .0 .rate-is, c .before .before .before .before .before .before .before .before .before .pre .0 .span .short)
+add-offer-further c =
+    let args = c .before .before .before .before .before .before .before .before .before .args in
+    let from₀ = args .from in
+    let n₀ = args .n in
+    let pre = c .before .before .before .before .before .before .before .before .before .pre in
+    let smaller = c .before .before .before .before .before .before .smaller in
+    let less = c .before .before .before .before .before .less in
+    let smaller2 = c .before .before .before .before .smaller2 in
+    let loop = c .before .before .before .loop in
+    let loop-test = c .before .before .loop-test in
+    let few = smaller2 .ensures ∙ ap (min n₀) (less .ensures ∙ ap (λ (z : ℕ). z - from₀) (smaller .ensures)) in
+    let s = few-in n₀ (args .level) (args .w) from₀ (smaller2 .result) (loop .j) few (loop-test .taken) in
+    omega (arith, pre .0 .span .account, pre .0 .rate-is, pre .0 .span .short)
 
 cast-offer-further : tie.Need-cast-offer-further Inv-loop μ-loop
-cast-offer-further c = let few = c .before .before .before .before .smaller2 .ensures ∙ ap (min (c .before .before .before .before .before .before .before .before .before .args .n)) (c .before .before .before .before .before .less .ensures ∙ ap (λ (z : ℕ). z - c .before .before .before .before .before .before .before .before .before .args .from) (c .before .before .before .before .before .before .smaller .ensures)) in let s = few-in (c .before .before .before .before .before .before .before .before .before .args .n) (c .before .before .before .before .before .before .before .before .before .args .level) (c .before .before .before .before .before .before .before .before .before .args .w) (c .before .before .before .before .before .before .before .before .before .args .from) (c .before .before .before .before .smaller2 .result) (c .before .before .before .loop .j) few (c .before .before .loop-test .taken) in omega (arith, c .before .before .before .before .before .before .before .before .before .pre .0 .span .account, c .before .before .before .before .before .before .before .before .before .pre .0 .rate-is, c .before .before .before .before .before .before .before .before .before .pre .0 .span .short)
+cast-offer-further c =
+    let args = c .before .before .before .before .before .before .before .before .before .args in
+    let from₀ = args .from in
+    let n₀ = args .n in
+    let pre = c .before .before .before .before .before .before .before .before .before .pre in
+    let smaller = c .before .before .before .before .before .before .smaller in
+    let less = c .before .before .before .before .before .less in
+    let smaller2 = c .before .before .before .before .smaller2 in
+    let loop = c .before .before .before .loop in
+    let loop-test = c .before .before .loop-test in
+    let few = smaller2 .ensures ∙ ap (min n₀) (less .ensures ∙ ap (λ (z : ℕ). z - from₀) (smaller .ensures)) in
+    let s = few-in n₀ (args .level) (args .w) from₀ (smaller2 .result) (loop .j) few (loop-test .taken) in
+    omega (arith, pre .0 .span .account, pre .0 .rate-is, pre .0 .span .short)
 
 offer-further-requires : tie.Need-offer-further-requires Inv-loop μ-loop
 offer-further-requires c κs =
-    let few = c .before .before .before .before .smaller2 .ensures ∙ ap (min (c .before .before .before .before .before .before .before .before .before .args .n)) (c .before .before .before .before .before .less .ensures ∙ ap (λ (z : ℕ). z - c .before .before .before .before .before .before .before .before .before .args .from) (c .before .before .before .before .before .before .smaller .ensures)) in let s = few-in (c .before .before .before .before .before .before .before .before .before .args .n) (c .before .before .before .before .before .before .before .before .before .args .level) (c .before .before .before .before .before .before .before .before .before .args .w) (c .before .before .before .before .before .before .before .before .before .args .from) (c .before .before .before .before .smaller2 .result) (c .before .before .before .loop .j) few (c .before .before .loop-test .taken) in let r = further-room (c .before .before .before .before .before .before .before .before .before .args .stride) (c .before .before .before .before .before .before .before .before .before .args .w) (c .before .before .before .before .before .before .before .before .before .args .from + c .before .before .before .loop .j) 0 1 (s .1) (omega (arith, c .before .before .before .before .before .before .before .before .before .pre .0 .span .columns)) in let q = rows-step (c .before .before .before .before .before .before .before .before .before .args .stride) (c .before .before .before .before .before .before .before .before .before .args .w) in
-    (omega (arith, c .before .before .before .before .before .before .before .before .before .pre .0 .span .short), omega (arith, c .before .before .before .before .before .before .before .before .before .pre .0 .span .rows), omega (arith, c .before .before .before .before .before .before .before .before .before .pre .1), further-small (c .before .before .before .before .before .before .before .before .before .pre .0) (c .before .before .before .before .before .before .before .before .before .pre .2) (c .before .before .before .before .before .before .before .before .before .pre .1) (c .before .before .before .before .before .before .before .before .before .args .from + c .before .before .before .loop .j) (c .before .before .before .loop .j) 1 _ (s .1) (omega arith) (λ i l. (let z : c .before .before .before .before .before .before .before .before .before .args .from + (c .before .before .before .loop .j + i) ≡ c .before .before .before .before .before .before .before .before .before .args .from + c .before .before .before .loop .j = omega arith in ap (freeAmount (c .before .before .before .before .before .before .before .before .before .args .level)) z ∙ few-free (c .before .before .before .before .before .before .before .before .before .args .level) (c .before .before .before .before .before .before .before .before .before .args .from + c .before .before .before .loop .j) (s .2))) (λ i l. omega arith) (λ i l. few-place (c .before .before .before .before .before .before .before .before .before .args .w) (c .before .before .before .before .before .before .before .before .before .args .stride) (c .before .before .before .before .before .before .before .before .before .args .from) (c .before .before .before .loop .j) i l), omega (arith, c .before .before .before .before .before .before .before .before .before .pre .0 .span .account))
+    let args = c .before .before .before .before .before .before .before .before .before .args in
+    let stride₀ = args .stride in
+    let level₀ = args .level in
+    let from₀ = args .from in
+    let n₀ = args .n in
+    let w₀ = args .w in
+    let pre = c .before .before .before .before .before .before .before .before .before .pre in
+    let smaller = c .before .before .before .before .before .before .smaller in
+    let less = c .before .before .before .before .before .less in
+    let smaller2 = c .before .before .before .before .smaller2 in
+    let loop = c .before .before .before .loop in
+    let j' = loop .j in
+    let loop-test = c .before .before .loop-test in
+    let few = smaller2 .ensures ∙ ap (min n₀) (less .ensures ∙ ap (λ (z : ℕ). z - from₀) (smaller .ensures)) in
+    let s = few-in n₀ level₀ w₀ from₀ (smaller2 .result) j' few (loop-test .taken) in
+    let r = further-room stride₀ w₀ (from₀ + j') 0 1 (s .1) (omega (arith, pre .0 .span .columns)) in
+    let q = rows-step stride₀ w₀ in (
+      omega (arith, pre .0 .span .short),
+      omega (arith, pre .0 .span .rows),
+      omega (arith, pre .1),
+      further-small (pre .0) (pre .2) (pre .1) (from₀ + j') j' 1 _ (s .1) (omega arith) (λ i l. (let z : from₀ + (j' + i) ≡ from₀ + j' = omega arith in ap (freeAmount level₀) z ∙ few-free level₀ (from₀ + j') (s .2))) (λ i l. omega arith) (λ i l. few-place w₀ stride₀ from₀ j' i l),
+      omega (arith, pre .0 .span .account),
+    )
 
 add-j : tie.Need-add-j Inv-loop μ-loop
-add-j c = let few = c .before .before .before .before .before .smaller2 .ensures ∙ ap (min (c .before .before .before .before .before .before .before .before .before .before .args .n)) (c .before .before .before .before .before .before .less .ensures ∙ ap (λ (z : ℕ). z - c .before .before .before .before .before .before .before .before .before .before .args .from) (c .before .before .before .before .before .before .before .smaller .ensures)) in let s = few-in (c .before .before .before .before .before .before .before .before .before .before .args .n) (c .before .before .before .before .before .before .before .before .before .before .args .level) (c .before .before .before .before .before .before .before .before .before .before .args .w) (c .before .before .before .before .before .before .before .before .before .before .args .from) (c .before .before .before .before .before .smaller2 .result) (c .before .before .before .before .loop .j) few (c .before .before .before .loop-test .taken) in omega (arith, c .before .before .before .before .before .before .before .before .before .before .pre .0 .span .account, c .before .before .before .before .before .before .before .before .before .before .pre .0 .rate-is, c .before .before .before .before .before .before .before .before .before .before .pre .0 .span .short)
+add-j c =
+    let args = c .before .before .before .before .before .before .before .before .before .before .args in
+    let from₀ = args .from in
+    let n₀ = args .n in
+    let pre = c .before .before .before .before .before .before .before .before .before .before .pre in
+    let smaller = c .before .before .before .before .before .before .before .smaller in
+    let less = c .before .before .before .before .before .before .less in
+    let smaller2 = c .before .before .before .before .before .smaller2 in
+    let loop = c .before .before .before .before .loop in
+    let loop-test = c .before .before .before .loop-test in
+    let few = smaller2 .ensures ∙ ap (min n₀) (less .ensures ∙ ap (λ (z : ℕ). z - from₀) (smaller .ensures)) in
+    let s = few-in n₀ (args .level) (args .w) from₀ (smaller2 .result) (loop .j) few (loop-test .taken) in
+    omega (arith, pre .0 .span .account, pre .0 .rate-is, pre .0 .span .short)
 
 loop-less : tie.Need-loop-less Inv-loop μ-loop
 loop-less c = omega arith
 
 loop-again : tie.Need-loop-again Inv-loop μ-loop
-loop-again c = let few = c .before .before .before .before .before .smaller2 .ensures ∙ ap (min (c .before .before .before .before .before .before .before .before .before .before .args .n)) (c .before .before .before .before .before .before .less .ensures ∙ ap (λ (z : ℕ). z - c .before .before .before .before .before .before .before .before .before .before .args .from) (c .before .before .before .before .before .before .before .smaller .ensures)) in let s = few-in (c .before .before .before .before .before .before .before .before .before .before .args .n) (c .before .before .before .before .before .before .before .before .before .before .args .level) (c .before .before .before .before .before .before .before .before .before .before .args .w) (c .before .before .before .before .before .before .before .before .before .before .args .from) (c .before .before .before .before .before .smaller2 .result) (c .before .before .before .before .loop .j) few (c .before .before .before .loop-test .taken) in (omega arith, further-run (c .before .before .before .before .before .before .before .before .before .before .pre .0) (c .before .before .before .before .before .before .before .before .before .before .pre .2) (c .before .before .before .before .before .before .before .before .before .before .pre .1) (c .before .before .before .before .before .before .before .before .before .before .args .from + c .before .before .before .before .loop .j) (c .before .before .before .before .loop .j) 1 _ (s .1) (omega arith) (λ i l. (let z : c .before .before .before .before .before .before .before .before .before .before .args .from + (c .before .before .before .before .loop .j + i) ≡ c .before .before .before .before .before .before .before .before .before .before .args .from + c .before .before .before .before .loop .j = omega arith in ap (freeAmount (c .before .before .before .before .before .before .before .before .before .before .args .level)) z ∙ few-free (c .before .before .before .before .before .before .before .before .before .before .args .level) (c .before .before .before .before .before .before .before .before .before .before .args .from + c .before .before .before .before .loop .j) (s .2))) (λ i l. omega arith) (λ i l. few-place (c .before .before .before .before .before .before .before .before .before .before .args .w) (c .before .before .before .before .before .before .before .before .before .before .args .stride) (c .before .before .before .before .before .before .before .before .before .before .args .from) (c .before .before .before .before .loop .j) i l) (c .before .before .before .before .loop .inv .1) (c .offer-further .ensures))
+loop-again c =
+    let args = c .before .before .before .before .before .before .before .before .before .before .args in
+    let level₀ = args .level in
+    let from₀ = args .from in
+    let n₀ = args .n in
+    let w₀ = args .w in
+    let pre = c .before .before .before .before .before .before .before .before .before .before .pre in
+    let smaller = c .before .before .before .before .before .before .before .smaller in
+    let less = c .before .before .before .before .before .before .less in
+    let smaller2 = c .before .before .before .before .before .smaller2 in
+    let loop = c .before .before .before .before .loop in
+    let j' = loop .j in
+    let loop-test = c .before .before .before .loop-test in
+    let few = smaller2 .ensures ∙ ap (min n₀) (less .ensures ∙ ap (λ (z : ℕ). z - from₀) (smaller .ensures)) in
+    let s = few-in n₀ level₀ w₀ from₀ (smaller2 .result) j' few (loop-test .taken) in (
+      omega arith,
+      further-run (pre .0) (pre .2) (pre .1) (from₀ + j') j' 1 _ (s .1) (omega arith) (λ i l. (let z : from₀ + (j' + i) ≡ from₀ + j' = omega arith in ap (freeAmount level₀) z ∙ few-free level₀ (from₀ + j') (s .2))) (λ i l. omega arith) (λ i l. few-place w₀ (args .stride) from₀ j' i l) (loop .inv .1) (c .offer-further .ensures),
+    )
 
 returns : tie.Need-returns Inv-loop μ-loop
-returns c = let few = c .before .before .smaller2 .ensures ∙ ap (min (c .before .before .before .before .before .before .before .args .n)) (c .before .before .before .less .ensures ∙ ap (λ (z : ℕ). z - c .before .before .before .before .before .before .before .args .from) (c .before .before .before .before .smaller .ensures)) in let end : c .before .loop .j ≡ c .before .before .smaller2 .result = omega arith in subst (λ (z : ℕ). Leads (worthAt (cells (c .before .before .before .before .before .before .before .args .work .now) (c .before .before .before .before .before .before .before .args .base) (c .before .before .before .before .before .before .before .args .stride)) (c .before .before .before .before .before .before .before .args .rate) (c .before .before .before .before .before .before .before .args .level) (c .before .before .before .before .before .before .before .args .w) (c .before .before .before .before .before .before .before .args .from)) (c .before .loop .values) (c .before .loop .amounts) (c .before .before .before .before .before .before .before .args .n) (triedBelow (c .before .before .before .before .before .before .before .args .level) (c .before .before .before .before .before .before .before .args .w) (c .before .before .before .before .before .before .before .args .from) z)) (end ∙ few) (c .before .loop .inv .1)
+returns c =
+    let args = c .before .before .before .before .before .before .before .args in
+    let level₀ = args .level in
+    let from₀ = args .from in
+    let n₀ = args .n in
+    let w₀ = args .w in
+    let smaller = c .before .before .before .before .smaller in
+    let less = c .before .before .before .less in
+    let smaller2 = c .before .before .smaller2 in
+    let loop = c .before .loop in
+    let few = smaller2 .ensures ∙ ap (min n₀) (less .ensures ∙ ap (λ (z : ℕ). z - from₀) (smaller .ensures)) in
+    let end : loop .j ≡ smaller2 .result = omega arith in
+    subst (λ (z : ℕ). Leads (worthAt (cells (args .work .now) (args .base) (args .stride)) (args .rate) level₀ w₀ from₀) (loop .values) (loop .amounts) n₀ (triedBelow level₀ w₀ from₀ z)) (end ∙ few) (loop .inv .1)
 
 pub further-few-spec : {M : Type 1} → statement M
 further-few-spec =

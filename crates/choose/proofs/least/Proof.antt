@@ -36,7 +36,12 @@ loop-less : tie.Need-loop-less Inv-loop μ-loop
 loop-less c = omega arith
 
 loop-again : tie.Need-loop-again Inv-loop μ-loop
-loop-again c = (omega arith, least-next (λ k. getD (c .before .before .before .before .args .values .now) (c .before .before .before .before .args .low + k) 0) (c .before .before .before .loop .i) (c .before .before .before .loop .r) (c .pick .result) (c .pick .ensures) (c .before .before .before .loop .inv .1))
+loop-again c =
+    let args = c .before .before .before .before .args in
+    let loop = c .before .before .before .loop in (
+      omega arith,
+      least-next (λ k. getD (args .values .now) (args .low + k) 0) (loop .i) (loop .r) (c .pick .result) (c .pick .ensures) (loop .inv .1),
+    )
 
 returns : tie.Need-returns Inv-loop μ-loop
 returns c = let e : c .before .loop .i ≡ c .before .before .args .n = omega arith in λ k l. c .before .loop .inv .1 k (omega arith)

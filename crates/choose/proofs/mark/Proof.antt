@@ -39,7 +39,11 @@ mul-pick-amount-2 : tie.Need-mul-pick-amount-2 Inv-loop μ-loop
 mul-pick-amount-2 c = omega (arith, c .before .before .before .before .before .pre .0, c .before .before .before .before .before .pre .1)
 
 slice-read-pick-amount : tie.Need-slice-read-pick-amount Inv-loop μ-loop
-slice-read-pick-amount c = let e : length (c .before .before .before .loop .table) ≡ length (c .before .before .before .before .before .before .args .table .now) = ap length (c .before .before .before .loop .inv .1) ∙ length-stored _ _ _ _ in omega (arith, c .before .before .before .before .before .before .pre .1)
+slice-read-pick-amount c =
+    let args = c .before .before .before .before .before .before .args in
+    let pre = c .before .before .before .before .before .before .pre in
+    let loop = c .before .before .before .loop in
+    let e : length (loop .table) ≡ length (args .table .now) = ap length (loop .inv .1) ∙ length-stored _ _ _ _ in omega (arith, pre .1)
 
 pick-amount-requires : tie.Need-pick-amount-requires Inv-loop μ-loop
 pick-amount-requires c κs = search needs
@@ -51,7 +55,11 @@ mul-table : tie.Need-mul-table Inv-loop μ-loop
 mul-table c = omega (arith, c .before .before .before .before .before .before .before .pre .0, c .before .before .before .before .before .before .before .pre .1)
 
 slice-write-table : tie.Need-slice-write-table Inv-loop μ-loop
-slice-write-table c = let e : length (c .before .before .before .before .loop .table) ≡ length (c .before .before .before .before .before .before .before .args .table .now) = ap length (c .before .before .before .before .loop .inv .1) ∙ length-stored _ _ _ _ in omega (arith, c .before .before .before .before .before .before .before .pre .1)
+slice-write-table c =
+    let args = c .before .before .before .before .before .before .before .args in
+    let pre = c .before .before .before .before .before .before .before .pre in
+    let loop = c .before .before .before .before .loop in
+    let e : length (loop .table) ≡ length (args .table .now) = ap length (loop .inv .1) ∙ length-stored _ _ _ _ in omega (arith, pre .1)
 
 add-i : tie.Need-add-i Inv-loop μ-loop
 add-i c = omega (arith, c .before .before .before .before .before .before .before .pre .0, c .before .before .before .before .before .before .before .pre .1)
@@ -61,9 +69,13 @@ loop-less c = omega arith
 
 loop-again : tie.Need-loop-again Inv-loop μ-loop
 loop-again c =
-    let kept = ap (λ (xs : List ℕ). getD xs (c .before .before .before .before .before .before .before .args .to + c .before .before .before .before .loop .i) 0) (c .before .before .before .before .loop .inv .1) ∙ stored-out _ _ _ _ (c .before .before .before .before .before .before .before .args .to + c .before .before .before .before .loop .i) (inr (le-refl _)) in
-    let e = c .pick-amount .ensures ∙ ap (λ (z : ℕ). cond (ltb (getD (c .before .before .before .before .before .before .before .args .work .now) (c .before .before .before .before .before .before .before .args .to + c .before .before .before .before .loop .i) 0) (c .before .before .before .before .before .before .before .args .other)) (c .before .before .before .before .before .before .before .args .t) z) kept in
-    (omega arith, (λ k. set (c .before .before .before .before .loop .inv .1 k) (c .before .before .before .before .before .before .before .args .to + c .before .before .before .before .loop .i) (e k)) ∙ stored-next _ _ _ _)
+    let args = c .before .before .before .before .before .before .before .args in
+    let to₀ = args .to in
+    let loop = c .before .before .before .before .loop in
+    let i' = loop .i in
+    let kept = ap (λ (xs : List ℕ). getD xs (to₀ + i') 0) (loop .inv .1) ∙ stored-out _ _ _ _ (to₀ + i') (inr (le-refl _)) in
+    let e = c .pick-amount .ensures ∙ ap (λ (z : ℕ). cond (ltb (getD (args .work .now) (to₀ + i') 0) (args .other)) (args .t) z) kept in
+    (omega arith, (λ k. set (loop .inv .1 k) (to₀ + i') (e k)) ∙ stored-next _ _ _ _)
 
 same-length : tie.Need-same-length Inv-loop μ-loop
 same-length c = ap length (c .before .loop .inv .1) ∙ length-stored _ _ _ _

@@ -27,49 +27,95 @@ mul-at : tie.Need-mul-at
 mul-at c = let e = c .less2 .ensures in let p = block-room (c .before .before .before .before .pre .0) (c .less2 .result) 0 0 (omega arith) (omega arith) in omega arith
 
 add-less-3 : tie.Need-add-less-3
-add-less-3 c = omega (arith, c .before .before .before .before .pre .2, c .before .before .before .before .pre .0 .columns, c .before .before .before .before .pre .0 .width, c .before .before .before .before .pre .0 .short)
+add-less-3 c =
+    let pre = c .before .before .before .before .pre in
+    omega (arith, pre .2, pre .0 .columns, pre .0 .width, pre .0 .short)
 
 add-less-4 : tie.Need-add-less-4
-add-less-4 c = omega (arith, c .before .before .before .before .pre .2, c .before .before .before .before .pre .0 .columns, c .before .before .before .before .pre .0 .width, c .before .before .before .before .pre .0 .short)
+add-less-4 c =
+    let pre = c .before .before .before .before .pre in
+    omega (arith, pre .2, pre .0 .columns, pre .0 .width, pre .0 .short)
 
 less-requires-3 : tie.Need-less-requires-3
 less-requires-3 c κs = search needs
 
 add-at : tie.Need-add-at
-add-at c = let e = c .before .less2 .ensures in let f = c .before .before .smaller .ensures in let g = c .less3 .ensures in let p = block-room (c .before .before .before .before .before .pre .0) (c .before .less2 .result) (c .less3 .result) 0 (omega arith) (omega (arith, c .before .before .before .before .before .pre .0 .columns)) in omega arith
+add-at c =
+    let pre = c .before .before .before .before .before .pre in
+    let smaller = c .before .before .smaller in
+    let e = c .before .less2 .ensures in
+    let f = smaller .ensures in
+    let g = c .less3 .ensures in
+    let p = block-room (pre .0) (c .before .less2 .result) (c .less3 .result) 0 (omega arith) (omega (arith, pre .0 .columns)) in
+    omega arith
 
 add-at-2 : tie.Need-add-at-2
-add-at-2 c = let e = c .before .less2 .ensures in let f = c .before .before .smaller .ensures in let g = c .less3 .ensures in let p = block-room (c .before .before .before .before .before .pre .0) (c .before .less2 .result) (c .less3 .result) 0 (omega arith) (omega (arith, c .before .before .before .before .before .pre .0 .columns)) in omega arith
+add-at-2 c =
+    let pre = c .before .before .before .before .before .pre in
+    let smaller = c .before .before .smaller in
+    let e = c .before .less2 .ensures in
+    let f = smaller .ensures in
+    let g = c .less3 .ensures in
+    let p = block-room (pre .0) (c .before .less2 .result) (c .less3 .result) 0 (omega arith) (omega (arith, pre .0 .columns)) in
+    omega arith
 
 sub-offer : tie.Need-sub-offer
 sub-offer c = let f = c .before .before .before .before .smaller .ensures in omega arith
 
 add-offer : tie.Need-add-offer
-add-offer c = omega (arith, c .before .before .before .before .before .before .before .pre .2, c .before .before .before .before .before .before .before .pre .0 .columns, c .before .before .before .before .before .before .before .pre .0 .width, c .before .before .before .before .before .before .before .pre .0 .short)
+add-offer c =
+    let pre = c .before .before .before .before .before .before .before .pre in
+    omega (arith, pre .2, pre .0 .columns, pre .0 .width, pre .0 .short)
 
 mul-offer : tie.Need-mul-offer
-mul-offer c = omega (arith, c .before .before .before .before .before .before .before .pre .2, c .before .before .before .before .before .before .before .pre .0 .columns, c .before .before .before .before .before .before .before .pre .0 .width, c .before .before .before .before .before .before .before .pre .0 .short)
+mul-offer c =
+    let pre = c .before .before .before .before .before .before .before .pre in
+    omega (arith, pre .2, pre .0 .columns, pre .0 .width, pre .0 .short)
 
 cast-offer : tie.Need-cast-offer
-cast-offer c = omega (arith, c .before .before .before .before .before .before .before .pre .2, c .before .before .before .before .before .before .before .pre .0 .columns, c .before .before .before .before .before .before .before .pre .0 .width, c .before .before .before .before .before .before .before .pre .0 .short)
+cast-offer c =
+    let pre = c .before .before .before .before .before .before .before .pre in
+    omega (arith, pre .2, pre .0 .columns, pre .0 .width, pre .0 .short)
 
 add-offer-2 : tie.Need-add-offer-2
-add-offer-2 c = omega (arith, c .before .before .before .before .before .before .before .pre .2, c .before .before .before .before .before .before .before .pre .0 .columns, c .before .before .before .before .before .before .before .pre .0 .width, c .before .before .before .before .before .before .before .pre .0 .short)
+add-offer-2 c =
+    let pre = c .before .before .before .before .before .before .before .pre in
+    omega (arith, pre .2, pre .0 .columns, pre .0 .width, pre .0 .short)
 
 cast-offer-2 : tie.Need-cast-offer-2
-cast-offer-2 c = omega (arith, c .before .before .before .before .before .before .before .pre .2, c .before .before .before .before .before .before .before .pre .0 .columns, c .before .before .before .before .before .before .before .pre .0 .width, c .before .before .before .before .before .before .before .pre .0 .short)
+cast-offer-2 c =
+    let pre = c .before .before .before .before .before .before .before .pre in
+    omega (arith, pre .2, pre .0 .columns, pre .0 .width, pre .0 .short)
 
 offer-requires : tie.Need-offer-requires
 offer-requires c κs =
-    let f = c .before .before .before .before .smaller .ensures ∙ ap (min (c .before .before .before .before .before .before .before .args .end)) (c .before .before .before .before .before .less .ensures) in
-    let at = ap₂ (λ (x y : ℕ). c .before .before .before .before .before .before .before .args .base + (x * c .before .before .before .before .before .before .before .args .stride + y)) (c .before .before .before .less2 .ensures) (c .before .before .less3 .ensures) in
-    (omega (arith, c .before .before .before .before .before .before .before .pre .0 .short), free-room (c .before .before .before .before .before .before .before .pre .0) (c .before .before .before .before .before .before .before .args .t + 1) (c .before .before .before .before .smaller .result) (c .before .before .before .before .before .before .before .args .end - c .before .before .before .before .smaller .result) _ at (omega arith), free-small (c .before .before .before .before .before .before .before .pre .0) (c .before .before .before .before .before .before .before .args .t + 1) (c .before .before .before .before .smaller .result) (c .before .before .before .before .before .before .before .args .end - c .before .before .before .before .smaller .result) _ at (omega (arith, c .before .before .before .before .before .before .before .pre .2)) (omega arith) (λ l. reached (c .before .before .before .before .before .before .before .pre .0) (c .before .before .before .before .before .before .before .args .t + 1) (c .before .before .before .before .smaller .result) (c .before .before .before .before .before .before .before .args .end) 0 f l))
+    let args = c .before .before .before .before .before .before .before .args in
+    let end₀ = args .end in
+    let t₀ = args .t in
+    let pre = c .before .before .before .before .before .before .before .pre in
+    let less = c .before .before .before .before .before .less in
+    let smaller = c .before .before .before .before .smaller in
+    let less2 = c .before .before .before .less2 in
+    let less3 = c .before .before .less3 in
+    let f = smaller .ensures ∙ ap (min end₀) (less .ensures) in
+    let at = ap₂ (λ (x y : ℕ). args .base + (x * args .stride + y)) (less2 .ensures) (less3 .ensures) in (
+      omega (arith, pre .0 .short),
+      free-room (pre .0) (t₀ + 1) (smaller .result) (end₀ - smaller .result) _ at (omega arith),
+      free-small (pre .0) (t₀ + 1) (smaller .result) (end₀ - smaller .result) _ at (omega (arith, pre .2)) (omega arith) (λ l. reached (pre .0) (t₀ + 1) (smaller .result) end₀ 0 f l),
+    )
 
 returns : tie.Need-returns
 returns c =
-    let f = c .before .before .before .before .before .smaller .ensures ∙ ap (min (c .before .before .before .before .before .before .before .before .args .end)) (c .before .before .before .before .before .before .less .ensures) in
-    let at = ap₂ (λ (x y : ℕ). c .before .before .before .before .before .before .before .before .args .base + (x * c .before .before .before .before .before .before .before .before .args .stride + y)) (c .before .before .before .before .less2 .ensures) (c .before .before .before .less3 .ensures) in
-    free-one (c .before .before .before .before .before .before .before .before .pre .0) (c .before .before .before .before .before .before .before .before .args .t) (c .before .before .before .before .before .smaller .result) (c .before .before .before .before .before .before .before .before .args .end) _ at (c .before .before .before .before .before .before .before .before .pre .1) (c .offer .ensures) f (c .before .before .before .before .before .before .before .before .pre .3)
+    let args = c .before .before .before .before .before .before .before .before .args in
+    let end₀ = args .end in
+    let pre = c .before .before .before .before .before .before .before .before .pre in
+    let less = c .before .before .before .before .before .before .less in
+    let smaller = c .before .before .before .before .before .smaller in
+    let less2 = c .before .before .before .before .less2 in
+    let less3 = c .before .before .before .less3 in
+    let f = smaller .ensures ∙ ap (min end₀) (less .ensures) in
+    let at = ap₂ (λ (x y : ℕ). args .base + (x * args .stride + y)) (less2 .ensures) (less3 .ensures) in
+    free-one (pre .0) (args .t) (smaller .result) end₀ _ at (pre .1) (c .offer .ensures) f (pre .3)
 
 pub offer-free-spec : {M : Type 1} → statement M
 offer-free-spec =

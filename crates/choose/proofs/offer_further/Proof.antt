@@ -28,67 +28,107 @@ element-copy-out-held : tie.Need-element-copy-out-held Inv-loop μ-loop
 element-copy-out-held c = omega (arith, c .before .before .before .before .pre .0, c .before .before .before .before .pre .1, c .before .before .before .before .pre .2, c .before .before .before .before .pre .4)
 
 add-other : tie.Need-add-other Inv-loop μ-loop
-add-other c = omega (arith, c .before .before .before .before .before .pre .0, c .before .before .before .before .before .pre .1, c .before .before .before .before .before .pre .2, c .before .before .before .before .before .pre .4)
+add-other c =
+    let pre = c .before .before .before .before .before .pre in
+    omega (arith, pre .0, pre .1, pre .2, pre .4)
 
 mul-other : tie.Need-mul-other Inv-loop μ-loop
-mul-other c = omega (arith, c .before .before .before .before .before .pre .0, c .before .before .before .before .before .pre .1, c .before .before .before .before .before .pre .2, c .before .before .before .before .before .pre .4)
+mul-other c =
+    let pre = c .before .before .before .before .before .pre in
+    omega (arith, pre .0, pre .1, pre .2, pre .4)
 
 shared-slice-read-other : tie.Need-shared-slice-read-other Inv-loop μ-loop
-shared-slice-read-other c = omega (arith, c .before .before .before .before .before .before .pre .0, c .before .before .before .before .before .before .pre .1, c .before .before .before .before .before .before .pre .2, c .before .before .before .before .before .before .pre .4)
+shared-slice-read-other c =
+    let pre = c .before .before .before .before .before .before .pre in
+    omega (arith, pre .0, pre .1, pre .2, pre .4)
 
 add-other-2 : tie.Need-add-other-2 Inv-loop μ-loop
 add-other-2 c = let s = c .before .before .before .before .before .before .pre .3 (c .before .before .before .loop .i) (c .before .before .loop-test .taken) in omega arith
 
 add-amount : tie.Need-add-amount Inv-loop μ-loop
-add-amount c = omega (arith, c .before .before .before .before .before .before .pre .0, c .before .before .before .before .before .before .pre .1, c .before .before .before .before .before .before .pre .2, c .before .before .before .before .before .before .pre .4)
+add-amount c =
+    let pre = c .before .before .before .before .before .before .pre in
+    omega (arith, pre .0, pre .1, pre .2, pre .4)
 
 mul-amount : tie.Need-mul-amount Inv-loop μ-loop
-mul-amount c = omega (arith, c .before .before .before .before .before .before .pre .0, c .before .before .before .before .before .before .pre .1, c .before .before .before .before .before .before .pre .2, c .before .before .before .before .before .before .pre .4)
+mul-amount c =
+    let pre = c .before .before .before .before .before .before .pre in
+    omega (arith, pre .0, pre .1, pre .2, pre .4)
 
 shared-slice-read-amount : tie.Need-shared-slice-read-amount Inv-loop μ-loop
-shared-slice-read-amount c = omega (arith, c .before .before .before .before .before .before .before .pre .0, c .before .before .before .before .before .before .before .pre .1, c .before .before .before .before .before .before .before .pre .2, c .before .before .before .before .before .before .before .pre .4)
+shared-slice-read-amount c =
+    let pre = c .before .before .before .before .before .before .before .pre in
+    omega (arith, pre .0, pre .1, pre .2, pre .4)
 
 cast-amount : tie.Need-cast-amount Inv-loop μ-loop
-cast-amount c = let f = c .shared-slice-known4 .given (c .before .before .before .before .before .before .before .args .at + c .before .before .before .before .loop .i) .fits in omega (arith, c .before .before .before .before .before .before .before .pre .4)
+cast-amount c =
+    let args = c .before .before .before .before .before .before .before .args in
+    let pre = c .before .before .before .before .before .before .before .pre in
+    let loop = c .before .before .before .before .loop in
+    let f = c .shared-slice-known4 .given (args .at + loop .i) .fits in omega (arith, pre .4)
 
 add-amount-2 : tie.Need-add-amount-2 Inv-loop μ-loop
-add-amount-2 c = let f = c .shared-slice-known4 .given (c .before .before .before .before .before .before .before .args .at + c .before .before .before .before .loop .i) .fits in omega (arith, c .before .before .before .before .before .before .before .pre .4)
+add-amount-2 c =
+    let args = c .before .before .before .before .before .before .before .args in
+    let pre = c .before .before .before .before .before .before .before .pre in
+    let loop = c .before .before .before .before .loop in
+    let f = c .shared-slice-known4 .given (args .at + loop .i) .fits in omega (arith, pre .4)
 
 pick-requires : tie.Need-pick-requires Inv-loop μ-loop
 pick-requires c κs = search needs
 
 add-values : tie.Need-add-values Inv-loop μ-loop
-add-values c = omega (arith, c .before .before .before .before .before .before .before .before .pre .0, c .before .before .before .before .before .before .before .before .pre .1, c .before .before .before .before .before .before .before .before .pre .2, c .before .before .before .before .before .before .before .before .pre .4)
+add-values c =
+    let pre = c .before .before .before .before .before .before .before .before .pre in
+    omega (arith, pre .0, pre .1, pre .2, pre .4)
 
 mul-values : tie.Need-mul-values Inv-loop μ-loop
-mul-values c = omega (arith, c .before .before .before .before .before .before .before .before .pre .0, c .before .before .before .before .before .before .before .before .pre .1, c .before .before .before .before .before .before .before .before .pre .2, c .before .before .before .before .before .before .before .before .pre .4)
+mul-values c =
+    let pre = c .before .before .before .before .before .before .before .before .pre in
+    omega (arith, pre .0, pre .1, pre .2, pre .4)
 
 element-write-values : tie.Need-element-write-values Inv-loop μ-loop
-element-write-values c = omega (arith, c .before .before .before .before .before .before .before .before .pre .0, c .before .before .before .before .before .before .before .before .pre .1, c .before .before .before .before .before .before .before .before .pre .2, c .before .before .before .before .before .before .before .before .pre .4)
+element-write-values c =
+    let pre = c .before .before .before .before .before .before .before .before .pre in
+    omega (arith, pre .0, pre .1, pre .2, pre .4)
 
 add-pick : tie.Need-add-pick Inv-loop μ-loop
-add-pick c = omega (arith, c .before .before .before .before .before .before .before .before .pre .0, c .before .before .before .before .before .before .before .before .pre .1, c .before .before .before .before .before .before .before .before .pre .2, c .before .before .before .before .before .before .before .before .pre .4)
+add-pick c =
+    let pre = c .before .before .before .before .before .before .before .before .pre in
+    omega (arith, pre .0, pre .1, pre .2, pre .4)
 
 mul-pick : tie.Need-mul-pick Inv-loop μ-loop
-mul-pick c = omega (arith, c .before .before .before .before .before .before .before .before .pre .0, c .before .before .before .before .before .before .before .before .pre .1, c .before .before .before .before .before .before .before .before .pre .2, c .before .before .before .before .before .before .before .before .pre .4)
+mul-pick c =
+    let pre = c .before .before .before .before .before .before .before .before .pre in
+    omega (arith, pre .0, pre .1, pre .2, pre .4)
 
 element-copy-out-pick : tie.Need-element-copy-out-pick Inv-loop μ-loop
-element-copy-out-pick c = omega (arith, c .before .before .before .before .before .before .before .before .pre .0, c .before .before .before .before .before .before .before .before .pre .1, c .before .before .before .before .before .before .before .before .pre .2, c .before .before .before .before .before .before .before .before .pre .4)
+element-copy-out-pick c =
+    let pre = c .before .before .before .before .before .before .before .before .pre in
+    omega (arith, pre .0, pre .1, pre .2, pre .4)
 
 pick-requires-2 : tie.Need-pick-requires-2 Inv-loop μ-loop
 pick-requires-2 c κs = search needs
 
 add-amounts : tie.Need-add-amounts Inv-loop μ-loop
-add-amounts c = omega (arith, c .before .before .before .before .before .before .before .before .before .before .pre .0, c .before .before .before .before .before .before .before .before .before .before .pre .1, c .before .before .before .before .before .before .before .before .before .before .pre .2, c .before .before .before .before .before .before .before .before .before .before .pre .4)
+add-amounts c =
+    let pre = c .before .before .before .before .before .before .before .before .before .before .pre in
+    omega (arith, pre .0, pre .1, pre .2, pre .4)
 
 mul-amounts : tie.Need-mul-amounts Inv-loop μ-loop
-mul-amounts c = omega (arith, c .before .before .before .before .before .before .before .before .before .before .pre .0, c .before .before .before .before .before .before .before .before .before .before .pre .1, c .before .before .before .before .before .before .before .before .before .before .pre .2, c .before .before .before .before .before .before .before .before .before .before .pre .4)
+mul-amounts c =
+    let pre = c .before .before .before .before .before .before .before .before .before .before .pre in
+    omega (arith, pre .0, pre .1, pre .2, pre .4)
 
 element-write-amounts : tie.Need-element-write-amounts Inv-loop μ-loop
-element-write-amounts c = omega (arith, c .before .before .before .before .before .before .before .before .before .before .pre .0, c .before .before .before .before .before .before .before .before .before .before .pre .1, c .before .before .before .before .before .before .before .before .before .before .pre .2, c .before .before .before .before .before .before .before .before .before .before .pre .4)
+element-write-amounts c =
+    let pre = c .before .before .before .before .before .before .before .before .before .before .pre in
+    omega (arith, pre .0, pre .1, pre .2, pre .4)
 
 add-i : tie.Need-add-i Inv-loop μ-loop
-add-i c = omega (arith, c .before .before .before .before .before .before .before .before .before .before .pre .0, c .before .before .before .before .before .before .before .before .before .before .pre .1, c .before .before .before .before .before .before .before .before .before .before .pre .2, c .before .before .before .before .before .before .before .before .before .before .pre .4)
+add-i c =
+    let pre = c .before .before .before .before .before .before .before .before .before .before .pre in
+    omega (arith, pre .0, pre .1, pre .2, pre .4)
 
 loop-less : tie.Need-loop-less Inv-loop μ-loop
 loop-less c = omega arith

@@ -30,10 +30,20 @@ mul-other : tie.Need-mul-other Inv-loop μ-loop
 mul-other c = let p = c .before .before .pre .2 (c .before .loop .i) (c .loop-test .taken) in let e = ap (λ (q : ℕ). c .before .before .args .at + q / 1099511627776) (c .before .loop .inv .1) in omega arith
 
 shared-slice-read-other : tie.Need-shared-slice-read-other Inv-loop μ-loop
-shared-slice-read-other c = let p = c .before .before .before .pre .2 (c .before .before .loop .i) (c .before .loop-test .taken) in let e = ap (λ (q : ℕ). c .before .before .before .args .at + q / 1099511627776) (c .before .before .loop .inv .1) in omega arith
+shared-slice-read-other c =
+    let args = c .before .before .before .args in
+    let pre = c .before .before .before .pre in
+    let loop = c .before .before .loop in
+    let p = pre .2 (loop .i) (c .before .loop-test .taken) in let e = ap (λ (q : ℕ). args .at + q / 1099511627776) (loop .inv .1) in omega arith
 
 add-other-2 : tie.Need-add-other-2 Inv-loop μ-loop
-add-other-2 c = let s = c .before .before .before .pre .3 (c .before .before .loop .i) (c .before .loop-test .taken) in let e = ap (λ (q : ℕ). getD (c .before .before .before .args .work .now) (c .before .before .before .args .at + q / 1099511627776) 0) (c .before .before .loop .inv .1) in omega arith
+add-other-2 c =
+    let args = c .before .before .before .args in
+    let pre = c .before .before .before .pre in
+    let loop = c .before .before .loop in
+    let s = pre .3 (loop .i) (c .before .loop-test .taken) in
+    let e = ap (λ (q : ℕ). getD (args .work .now) (args .at + q / 1099511627776) 0) (loop .inv .1) in
+    omega arith
 
 add-if1 : tie.Need-add-if1 Inv-loop μ-loop
 add-if1 c = omega (arith, c .before .before .before .pre .0)
@@ -63,7 +73,16 @@ element-write-amounts : tie.Need-element-write-amounts Inv-loop μ-loop
 element-write-amounts c = omega (arith, c .before .before .before .before .before .pre .0)
 
 add-quotient : tie.Need-add-quotient Inv-loop μ-loop
-add-quotient c = let q = quotient-within (c .before .before .before .before .before .args .first) (c .before .before .before .before .loop .i + 1) (c .before .before .before .before .before .args .n) (c .before .before .before .before .before .args .step) (omega arith) in let e = quotient-next (c .before .before .before .before .loop .quotient) (c .before .before .before .before .before .args .first) (c .before .before .before .before .loop .i) (c .before .before .before .before .before .args .step) (c .before .before .before .before .loop .inv .1) in omega (arith, c .before .before .before .before .before .pre .1)
+add-quotient c =
+    let args = c .before .before .before .before .before .args in
+    let first₀ = args .first in
+    let step₀ = args .step in
+    let pre = c .before .before .before .before .before .pre in
+    let loop = c .before .before .before .before .loop in
+    let i' = loop .i in
+    let q = quotient-within first₀ (i' + 1) (args .n) step₀ (omega arith) in
+    let e = quotient-next (loop .quotient) first₀ i' step₀ (loop .inv .1) in
+    omega (arith, pre .1)
 
 add-i : tie.Need-add-i Inv-loop μ-loop
 add-i c = omega (arith, c .before .before .before .before .before .pre .0)
@@ -73,12 +92,15 @@ loop-less c = omega arith
 
 loop-again : tie.Need-loop-again Inv-loop μ-loop
 loop-again c =
-    let e = ap (λ (q : ℕ). c .before .before .before .before .before .args .cash + getD (c .before .before .before .before .before .args .work .now) (c .before .before .before .before .before .args .at + q / 1099511627776) 0) (c .before .before .before .before .loop .inv .1) in
-    let value : ℕ → ℕ = λ x. c .before .before .before .before .before .args .cash + getD (c .before .before .before .before .before .args .work .now) (c .before .before .before .before .before .args .at + (c .before .before .before .before .before .args .first + x) * c .before .before .before .before .before .args .step / 1099511627776) 0 in
-    let amount : ℕ → ℕ = λ x. c .before .before .before .before .before .args .t in
-    let made : List ℕ → List ℕ → Type 0 = λ v a. Offered (c .before .before .before .before .before .args .values .now) (c .before .before .before .before .before .args .amounts .now) v a (c .before .before .before .before .before .args .low) (c .before .before .before .before .loop .i + 1) value amount in
-    let offers : made (c .if1 .values) (c .if1 .amounts) = elim (c .if1 .came) [ inl (b, p, q) ↦ subst₂ made (sym p) (sym q) (offered-gain (c .before .before .before .before .loop .inv .2) _ _ e refl (omega (arith, b .taken))) | inr (b, p, q) ↦ subst₂ made (sym p) (sym q) (offered-skip (c .before .before .before .before .loop .inv .2) (omega (arith, b .left))) ] in
-    (omega arith, quotient-next (c .before .before .before .before .loop .quotient) (c .before .before .before .before .before .args .first) (c .before .before .before .before .loop .i) (c .before .before .before .before .before .args .step) (c .before .before .before .before .loop .inv .1), offers)
+    let args = c .before .before .before .before .before .args in
+    let work₀ = args .work .now in
+    let first₀ = args .first in
+    let cash₀ = args .cash in
+    let step₀ = args .step in
+    let at₀ = args .at in
+    let loop = c .before .before .before .before .loop in
+    let i' = loop .i in
+    let e = ap (λ (q : ℕ). cash₀ + getD work₀ (at₀ + q / 1099511627776) 0) (loop .inv .1) in let value : ℕ → ℕ = λ x. cash₀ + getD work₀ (at₀ + (first₀ + x) * step₀ / 1099511627776) 0 in let amount : ℕ → ℕ = λ x. args .t in let made : List ℕ → List ℕ → Type 0 = λ v a. Offered (args .values .now) (args .amounts .now) v a (args .low) (i' + 1) value amount in let offers : made (c .if1 .values) (c .if1 .amounts) = elim (c .if1 .came) [ inl (b, p, q) ↦ subst₂ made (sym p) (sym q) (offered-gain (loop .inv .2) _ _ e refl (omega (arith, b .taken))) | inr (b, p, q) ↦ subst₂ made (sym p) (sym q) (offered-skip (loop .inv .2) (omega (arith, b .left))) ] in (omega arith, quotient-next (loop .quotient) first₀ i' step₀ (loop .inv .1), offers)
 
 returns : tie.Need-returns Inv-loop μ-loop
 returns c = let e : c .before .loop .i ≡ c .before .before .args .n = omega arith in rw (sym e) (c .before .loop .inv .2)

@@ -36,28 +36,42 @@ mul-one : tie.Need-mul-one Inv-loop μ-loop
 mul-one c = omega (arith, c .before .before .before .before .pre .0, c .before .before .before .before .pre .1, c .before .before .before .before .pre .2, c .before .before .before .before .pre .5)
 
 shared-slice-read-one : tie.Need-shared-slice-read-one Inv-loop μ-loop
-shared-slice-read-one c = omega (arith, c .before .before .before .before .before .pre .0, c .before .before .before .before .before .pre .1, c .before .before .before .before .before .pre .2, c .before .before .before .before .before .pre .5)
+shared-slice-read-one c =
+    let pre = c .before .before .before .before .before .pre in
+    omega (arith, pre .0, pre .1, pre .2, pre .5)
 
 add-one-2 : tie.Need-add-one-2 Inv-loop μ-loop
 add-one-2 c = let s = c .before .before .before .before .before .pre .3 (c .before .before .before .loop .i) (c .before .before .loop-test .taken) in omega arith
 
 add-two : tie.Need-add-two Inv-loop μ-loop
-add-two c = omega (arith, c .before .before .before .before .before .pre .0, c .before .before .before .before .before .pre .1, c .before .before .before .before .before .pre .2, c .before .before .before .before .before .pre .5)
+add-two c =
+    let pre = c .before .before .before .before .before .pre in
+    omega (arith, pre .0, pre .1, pre .2, pre .5)
 
 mul-two : tie.Need-mul-two Inv-loop μ-loop
-mul-two c = omega (arith, c .before .before .before .before .before .pre .0, c .before .before .before .before .before .pre .1, c .before .before .before .before .before .pre .2, c .before .before .before .before .before .pre .5)
+mul-two c =
+    let pre = c .before .before .before .before .before .pre in
+    omega (arith, pre .0, pre .1, pre .2, pre .5)
 
 shared-slice-read-two : tie.Need-shared-slice-read-two Inv-loop μ-loop
-shared-slice-read-two c = omega (arith, c .before .before .before .before .before .before .pre .0, c .before .before .before .before .before .before .pre .1, c .before .before .before .before .before .before .pre .2, c .before .before .before .before .before .before .pre .5)
+shared-slice-read-two c =
+    let pre = c .before .before .before .before .before .before .pre in
+    omega (arith, pre .0, pre .1, pre .2, pre .5)
 
 add-two-2 : tie.Need-add-two-2 Inv-loop μ-loop
-add-two-2 c = let s = c .before .before .before .before .before .before .pre .4 (c .before .before .before .before .loop .i) (c .before .before .before .loop-test .taken) in omega (arith, c .before .before .before .before .before .before .pre .2)
+add-two-2 c =
+    let pre = c .before .before .before .before .before .before .pre in
+    let loop = c .before .before .before .before .loop in
+    let loop-test = c .before .before .before .loop-test in
+    let s = pre .4 (loop .i) (loop-test .taken) in omega (arith, pre .2)
 
 pick-requires : tie.Need-pick-requires Inv-loop μ-loop
 pick-requires c κs = search needs
 
 add-pick : tie.Need-add-pick Inv-loop μ-loop
-add-pick c = omega (arith, c .before .before .before .before .before .before .before .pre .0, c .before .before .before .before .before .before .before .pre .1, c .before .before .before .before .before .before .before .pre .2, c .before .before .before .before .before .before .before .pre .5)
+add-pick c =
+    let pre = c .before .before .before .before .before .before .before .pre in
+    omega (arith, pre .0, pre .1, pre .2, pre .5)
 
 pick-requires-2 : tie.Need-pick-requires-2 Inv-loop μ-loop
 pick-requires-2 c κs = search needs
@@ -66,47 +80,74 @@ pick-requires-3 : tie.Need-pick-requires-3 Inv-loop μ-loop
 pick-requires-3 c κs = search needs
 
 add-values : tie.Need-add-values Inv-loop μ-loop
-add-values c = omega (arith, c .before .before .before .before .before .before .before .before .before .pre .0, c .before .before .before .before .before .before .before .before .before .pre .1, c .before .before .before .before .before .before .before .before .before .pre .2, c .before .before .before .before .before .before .before .before .before .pre .5)
+add-values c =
+    let pre = c .before .before .before .before .before .before .before .before .before .pre in
+    omega (arith, pre .0, pre .1, pre .2, pre .5)
 
 mul-values : tie.Need-mul-values Inv-loop μ-loop
-mul-values c = omega (arith, c .before .before .before .before .before .before .before .before .before .pre .0, c .before .before .before .before .before .before .before .before .before .pre .1, c .before .before .before .before .before .before .before .before .before .pre .2, c .before .before .before .before .before .before .before .before .before .pre .5)
+mul-values c =
+    let pre = c .before .before .before .before .before .before .before .before .before .pre in
+    omega (arith, pre .0, pre .1, pre .2, pre .5)
 
 element-write-values : tie.Need-element-write-values Inv-loop μ-loop
-element-write-values c = omega (arith, c .before .before .before .before .before .before .before .before .before .pre .0, c .before .before .before .before .before .before .before .before .before .pre .1, c .before .before .before .before .before .before .before .before .before .pre .2, c .before .before .before .before .before .before .before .before .before .pre .5)
+element-write-values c =
+    let pre = c .before .before .before .before .before .before .before .before .before .pre in
+    omega (arith, pre .0, pre .1, pre .2, pre .5)
 
 add-pick-2 : tie.Need-add-pick-2 Inv-loop μ-loop
-add-pick-2 c = omega (arith, c .before .before .before .before .before .before .before .before .before .pre .0, c .before .before .before .before .before .before .before .before .before .pre .1, c .before .before .before .before .before .before .before .before .before .pre .2, c .before .before .before .before .before .before .before .before .before .pre .5)
+add-pick-2 c =
+    let pre = c .before .before .before .before .before .before .before .before .before .pre in
+    omega (arith, pre .0, pre .1, pre .2, pre .5)
 
 mul-pick : tie.Need-mul-pick Inv-loop μ-loop
-mul-pick c = omega (arith, c .before .before .before .before .before .before .before .before .before .pre .0, c .before .before .before .before .before .before .before .before .before .pre .1, c .before .before .before .before .before .before .before .before .before .pre .2, c .before .before .before .before .before .before .before .before .before .pre .5)
+mul-pick c =
+    let pre = c .before .before .before .before .before .before .before .before .before .pre in
+    omega (arith, pre .0, pre .1, pre .2, pre .5)
 
 element-copy-out-pick : tie.Need-element-copy-out-pick Inv-loop μ-loop
-element-copy-out-pick c = omega (arith, c .before .before .before .before .before .before .before .before .before .pre .0, c .before .before .before .before .before .before .before .before .before .pre .1, c .before .before .before .before .before .before .before .before .before .pre .2, c .before .before .before .before .before .before .before .before .before .pre .5)
+element-copy-out-pick c =
+    let pre = c .before .before .before .before .before .before .before .before .before .pre in
+    omega (arith, pre .0, pre .1, pre .2, pre .5)
 
 pick-requires-4 : tie.Need-pick-requires-4 Inv-loop μ-loop
 pick-requires-4 c κs = search needs
 
 add-amounts : tie.Need-add-amounts Inv-loop μ-loop
-add-amounts c = omega (arith, c .before .before .before .before .before .before .before .before .before .before .before .pre .0, c .before .before .before .before .before .before .before .before .before .before .before .pre .1, c .before .before .before .before .before .before .before .before .before .before .before .pre .2, c .before .before .before .before .before .before .before .before .before .before .before .pre .5)
+add-amounts c =
+    let pre = c .before .before .before .before .before .before .before .before .before .before .before .pre in
+    omega (arith, pre .0, pre .1, pre .2, pre .5)
 
 mul-amounts : tie.Need-mul-amounts Inv-loop μ-loop
-mul-amounts c = omega (arith, c .before .before .before .before .before .before .before .before .before .before .before .pre .0, c .before .before .before .before .before .before .before .before .before .before .before .pre .1, c .before .before .before .before .before .before .before .before .before .before .before .pre .2, c .before .before .before .before .before .before .before .before .before .before .before .pre .5)
+mul-amounts c =
+    let pre = c .before .before .before .before .before .before .before .before .before .before .before .pre in
+    omega (arith, pre .0, pre .1, pre .2, pre .5)
 
 element-write-amounts : tie.Need-element-write-amounts Inv-loop μ-loop
-element-write-amounts c = omega (arith, c .before .before .before .before .before .before .before .before .before .before .before .pre .0, c .before .before .before .before .before .before .before .before .before .before .before .pre .1, c .before .before .before .before .before .before .before .before .before .before .before .pre .2, c .before .before .before .before .before .before .before .before .before .before .before .pre .5)
+element-write-amounts c =
+    let pre = c .before .before .before .before .before .before .before .before .before .before .before .pre in
+    omega (arith, pre .0, pre .1, pre .2, pre .5)
 
 add-i : tie.Need-add-i Inv-loop μ-loop
-add-i c = omega (arith, c .before .before .before .before .before .before .before .before .before .before .before .pre .0, c .before .before .before .before .before .before .before .before .before .before .before .pre .1, c .before .before .before .before .before .before .before .before .before .before .before .pre .2, c .before .before .before .before .before .before .before .before .before .before .before .pre .5)
+add-i c =
+    let pre = c .before .before .before .before .before .before .before .before .before .before .before .pre in
+    omega (arith, pre .0, pre .1, pre .2, pre .5)
 
 loop-less : tie.Need-loop-less Inv-loop μ-loop
 loop-less c = omega arith
 
 loop-again : tie.Need-loop-again Inv-loop μ-loop
 loop-again c =
-    let held = getD (c .before .before .before .before .before .before .before .before .before .loop .values) (c .before .before .before .before .before .before .before .before .before .before .before .args .low + c .before .before .before .before .before .before .before .before .before .loop .i) 0 in
-    let value = c .before .before .pick3 .ensures ∙ ap (λ (o : ℕ). cond (ltb held o) o held) (c .before .before .before .before .pick .ensures) in
-    let amount = c .pick4 .ensures ∙ ap₂ (λ (o z : ℕ). cond (ltb held o) z (getD (c .before .before .before .before .before .before .before .before .before .loop .amounts) (c .before .before .before .before .before .before .before .before .before .before .before .args .low + c .before .before .before .before .before .before .before .before .before .loop .i) 0)) (c .before .before .before .before .pick .ensures) (c .before .before .before .pick2 .ensures) in
-    (omega arith, offered-next (c .before .before .before .before .before .before .before .before .before .loop .inv .1) _ _ value amount)
+    let args = c .before .before .before .before .before .before .before .before .before .before .before .args in
+    let low₀ = args .low in
+    let loop = c .before .before .before .before .before .before .before .before .before .loop in
+    let i' = loop .i in
+    let pick = c .before .before .before .before .pick in
+    let pick2 = c .before .before .before .pick2 in
+    let pick3 = c .before .before .pick3 in
+    let held = getD (loop .values) (low₀ + i') 0 in
+    let value = pick3 .ensures ∙ ap (λ (o : ℕ). cond (ltb held o) o held) (pick .ensures) in
+    let amount = c .pick4 .ensures ∙ ap₂ (λ (o z : ℕ). cond (ltb held o) z (getD (loop .amounts) (low₀ + i') 0)) (pick .ensures) (pick2 .ensures) in
+    (omega arith, offered-next (loop .inv .1) _ _ value amount)
 
 returns : tie.Need-returns Inv-loop μ-loop
 returns c = let e : c .before .loop .i ≡ c .before .before .before .args .n = omega arith in rw (sym e) (c .before .loop .inv .1)

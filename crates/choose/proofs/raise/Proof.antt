@@ -30,7 +30,11 @@ mul-held : tie.Need-mul-held Inv-loop μ-loop
 mul-held c = omega (arith, c .before .before .before .pre)
 
 slice-read-held : tie.Need-slice-read-held Inv-loop μ-loop
-slice-read-held c = let e : length (c .before .before .loop .work) ≡ length (c .before .before .before .before .args .work .now) = ap length (c .before .before .loop .inv .1) ∙ length-stored _ _ _ _ in omega (arith, c .before .before .before .before .pre)
+slice-read-held c =
+    let args = c .before .before .before .before .args in
+    let pre = c .before .before .before .before .pre in
+    let loop = c .before .before .loop in
+    let e : length (loop .work) ≡ length (args .work .now) = ap length (loop .inv .1) ∙ length-stored _ _ _ _ in omega (arith, pre)
 
 pick-requires : tie.Need-pick-requires Inv-loop μ-loop
 pick-requires c κs = search needs
@@ -42,7 +46,11 @@ mul-work : tie.Need-mul-work Inv-loop μ-loop
 mul-work c = omega (arith, c .before .before .before .before .before .pre)
 
 slice-write-work : tie.Need-slice-write-work Inv-loop μ-loop
-slice-write-work c = let e : length (c .before .before .before .loop .work) ≡ length (c .before .before .before .before .before .args .work .now) = ap length (c .before .before .before .loop .inv .1) ∙ length-stored _ _ _ _ in omega (arith, c .before .before .before .before .before .pre)
+slice-write-work c =
+    let args = c .before .before .before .before .before .args in
+    let pre = c .before .before .before .before .before .pre in
+    let loop = c .before .before .before .loop in
+    let e : length (loop .work) ≡ length (args .work .now) = ap length (loop .inv .1) ∙ length-stored _ _ _ _ in omega (arith, pre)
 
 add-i : tie.Need-add-i Inv-loop μ-loop
 add-i c = omega (arith, c .before .before .before .before .before .pre)
@@ -52,9 +60,14 @@ loop-less c = omega arith
 
 loop-again : tie.Need-loop-again Inv-loop μ-loop
 loop-again c =
-    let held = ap (λ (xs : List ℕ). getD xs (c .before .before .before .before .before .args .to + c .before .before .before .loop .i) 0) (c .before .before .before .loop .inv .1) ∙ stored-out _ _ _ _ (c .before .before .before .before .before .args .to + c .before .before .before .loop .i) (inr (le-refl _)) in
-    let e = c .pick .ensures ∙ ap (λ (z : ℕ). cond (ltb z (c .before .before .before .before .before .args .other)) (c .before .before .before .before .before .args .other) z) held in
-    (omega arith, (λ k. set (c .before .before .before .loop .inv .1 k) (c .before .before .before .before .before .args .to + c .before .before .before .loop .i) (e k)) ∙ stored-next _ _ _ _)
+    let args = c .before .before .before .before .before .args in
+    let other₀ = args .other in
+    let to₀ = args .to in
+    let loop = c .before .before .before .loop in
+    let i' = loop .i in
+    let held = ap (λ (xs : List ℕ). getD xs (to₀ + i') 0) (loop .inv .1) ∙ stored-out _ _ _ _ (to₀ + i') (inr (le-refl _)) in
+    let e = c .pick .ensures ∙ ap (λ (z : ℕ). cond (ltb z other₀) other₀ z) held in
+    (omega arith, (λ k. set (loop .inv .1 k) (to₀ + i') (e k)) ∙ stored-next _ _ _ _)
 
 same-length : tie.Need-same-length Inv-loop μ-loop
 same-length c = ap length (c .before .loop .inv .1) ∙ length-stored _ _ _ _

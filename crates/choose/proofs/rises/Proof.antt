@@ -23,13 +23,33 @@ loop-holds : tie.Need-loop-holds Inv-loop μ-loop
 loop-holds c = (omega arith, omega arith, λ z. rising-none _ _)
 
 mul-falls : tie.Need-mul-falls Inv-loop μ-loop
-mul-falls c = let p = rows-le (c .before .before .before .before .args .stride) (c .before .loop .x + 1) (c .before .before .before .before .args .n) (omega arith) in let s = rows-step (c .before .before .before .before .args .stride) (c .before .loop .x) in omega (arith, c .before .before .before .before .pre .2)
+mul-falls c =
+    let args = c .before .before .before .before .args in
+    let stride₀ = args .stride in
+    let pre = c .before .before .before .before .pre in
+    let p = rows-le stride₀ (c .before .loop .x + 1) (args .n) (omega arith) in
+    let s = rows-step stride₀ (c .before .loop .x) in
+    omega (arith, pre .2)
 
 add-falls : tie.Need-add-falls Inv-loop μ-loop
-add-falls c = let p = rows-le (c .before .before .before .before .args .stride) (c .before .loop .x + 1) (c .before .before .before .before .args .n) (omega arith) in let s = rows-step (c .before .before .before .before .args .stride) (c .before .loop .x) in omega (arith, c .before .before .before .before .pre .2)
+add-falls c =
+    let args = c .before .before .before .before .args in
+    let stride₀ = args .stride in
+    let pre = c .before .before .before .before .pre in
+    let p = rows-le stride₀ (c .before .loop .x + 1) (args .n) (omega arith) in
+    let s = rows-step stride₀ (c .before .loop .x) in
+    omega (arith, pre .2)
 
 falls-requires : tie.Need-falls-requires Inv-loop μ-loop
-falls-requires c κs = let p = rows-le (c .before .before .before .before .args .stride) (c .before .loop .x + 1) (c .before .before .before .before .args .n) (omega arith) in let s = rows-step (c .before .before .before .before .args .stride) (c .before .loop .x) in let e = c .before .before .less .ensures in (omega (arith, c .before .before .before .before .pre .1), λ i l. omega (arith, c .before .before .before .before .pre .2))
+falls-requires c κs =
+    let args = c .before .before .before .before .args in
+    let stride₀ = args .stride in
+    let pre = c .before .before .before .before .pre in
+    let less = c .before .before .less in
+    let p = rows-le stride₀ (c .before .loop .x + 1) (args .n) (omega arith) in
+    let s = rows-step stride₀ (c .before .loop .x) in
+    let e = less .ensures in
+    (omega (arith, pre .1), λ i l. omega (arith, pre .2))
 
 cast-r : tie.Need-cast-r Inv-loop μ-loop
 cast-r c = let f = c .falls .ensures .0 in let e = c .before .before .before .less .ensures in omega (arith, c .before .before .before .before .before .pre .0, c .before .before .before .before .before .pre .1)
@@ -44,10 +64,25 @@ loop-less : tie.Need-loop-less Inv-loop μ-loop
 loop-less c = omega arith
 
 loop-again : tie.Need-loop-again Inv-loop μ-loop
-loop-again c = let f = c .falls .ensures .0 in let e = c .before .before .before .less .ensures in (omega arith, omega (arith, c .before .before .before .before .before .pre .1), λ z. rising-next (c .before .before .loop .x) (c .before .before .loop .inv .2 (omega arith)) (row-rises (c .before .before .before .before .before .args .work .now) (c .before .before .before .before .before .args .base) (c .before .before .before .before .before .args .stride) (c .before .before .loop .x) (c .before .before .before .less .result) (c .before .before .before .less .ensures) (c .falls .ensures .1 (omega arith))))
+loop-again c =
+    let args = c .before .before .before .before .before .args in
+    let pre = c .before .before .before .before .before .pre in
+    let less = c .before .before .before .less in
+    let loop = c .before .before .loop in
+    let x' = loop .x in
+    let f = c .falls .ensures .0 in
+    let e = less .ensures in (
+      omega arith,
+      omega (arith, pre .1),
+      λ z. rising-next x' (loop .inv .2 (omega arith)) (row-rises (args .work .now) (args .base) (args .stride) x' (less .result) (less .ensures) (c .falls .ensures .1 (omega arith))),
+    )
 
 returns : tie.Need-returns Inv-loop μ-loop
-returns c = λ z. let e : c .before .loop .x ≡ c .before .before .before .before .args .n = omega arith in let none = eqb→eq (c .before .loop .r) 0 (subst T (sym z) tt) in subst (Rising (cells (c .before .before .before .before .args .work .now) (c .before .before .before .before .args .base) (c .before .before .before .before .args .stride)) (c .before .before .before .before .args .stride)) e (c .before .loop .inv .2 none)
+returns c =
+    let args = c .before .before .before .before .args in
+    let stride₀ = args .stride in
+    let loop = c .before .loop in
+    λ z. let e : loop .x ≡ args .n = omega arith in let none = eqb→eq (loop .r) 0 (subst T (sym z) tt) in subst (Rising (cells (args .work .now) (args .base) stride₀) stride₀) e (loop .inv .2 none)
 
 pub rises-spec : {M : Type 1} → statement M
 rises-spec =

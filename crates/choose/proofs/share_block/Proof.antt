@@ -28,24 +28,62 @@ smaller-requires : tie.Need-smaller-requires Inv-loop μ-loop
 smaller-requires c κs = search needs
 
 loop-holds : tie.Need-loop-holds Inv-loop μ-loop
-loop-holds c = let e = c .smaller .ensures ∙ ap (min (c .before .before .before .before .args .n)) (c .before .less .ensures) in (le-of-eq (sym e), le-trans (le-of-eq e) (min-le-left _ _), leads-as (c .before .before .before .before .pre .1) _ (λ j l. ap (λ (z : ℕ). triedBelow (c .before .before .before .before .args .level) (c .before .before .before .before .args .w) (c .before .before .before .before .args .from) z j) (sym e)))
+loop-holds c =
+    let args = c .before .before .before .before .args in
+    let pre = c .before .before .before .before .pre in
+    let e = c .smaller .ensures ∙ ap (min (args .n)) (c .before .less .ensures) in (
+      le-of-eq (sym e),
+      le-trans (le-of-eq e) (min-le-left _ _),
+      leads-as (pre .1) _ (λ j l. ap (λ (z : ℕ). triedBelow (args .level) (args .w) (args .from) z j) (sym e)),
+    )
 
 share-run-requires : tie.Need-share-run-requires Inv-loop μ-loop
-share-run-requires c κs = (c .before .before .before .before .before .before .before .before .pre .0, c .before .before .before .loop .inv .2, c .before .before .before .before .before .before .before .before .pre .2, above-from (c .before .before .before .before .before .before .before .before .args .n) (c .before .before .before .before .before .before .before .before .args .w) (c .before .before .before .before .before .before .before .before .args .from) (c .before .before .before .loop .low) (c .before .before .before .loop .inv .0) (c .before .before .loop-test .taken), c .before .before .loop-test .taken, c .before .before .before .before .before .before .if1 .taken)
+share-run-requires c κs =
+    let args = c .before .before .before .before .before .before .before .before .args in
+    let pre = c .before .before .before .before .before .before .before .before .pre in
+    let if1 = c .before .before .before .before .before .before .if1 in
+    let loop = c .before .before .before .loop in
+    let loop-test = c .before .before .loop-test in (
+      pre .0,
+      loop .inv .2,
+      pre .2,
+      above-from (args .n) (args .w) (args .from) (loop .low) (loop .inv .0) (loop-test .taken),
+      loop-test .taken,
+      if1 .taken,
+    )
 
 loop-less : tie.Need-loop-less Inv-loop μ-loop
-loop-less c = let r = run-is (c .before .before .before .before .before .before .before .before .before .args .n) (c .before .before .before .before .loop .low) (c .share-run .result) (c .share-run .ensures .0) (c .before .before .before .loop-test .taken) in omega arith
+loop-less c =
+    let args = c .before .before .before .before .before .before .before .before .before .args in
+    let loop = c .before .before .before .before .loop in
+    let loop-test = c .before .before .before .loop-test in
+    let r = run-is (args .n) (loop .low) (c .share-run .result) (c .share-run .ensures .0) (loop-test .taken) in omega arith
 
 loop-again : tie.Need-loop-again Inv-loop μ-loop
 loop-again c =
-    let r = run-is (c .before .before .before .before .before .before .before .before .before .args .n) (c .before .before .before .before .loop .low) (c .share-run .result) (c .share-run .ensures .0) (c .before .before .before .loop-test .taken) in
-    (le-trans (c .before .before .before .before .loop .inv .0) (le-of-lt (r .0)), r .1, leads-as (c .share-run .ensures .1) _ (λ j l. ap (λ (z : ℕ). triedBelow (c .before .before .before .before .before .before .before .before .before .args .level) (c .before .before .before .before .before .before .before .before .before .args .w) (c .before .before .before .before .before .before .before .before .before .args .from) z j) (sym (c .share-run .ensures .0))))
+    let args = c .before .before .before .before .before .before .before .before .before .args in
+    let loop = c .before .before .before .before .loop in
+    let loop-test = c .before .before .before .loop-test in
+    let r = run-is (args .n) (loop .low) (c .share-run .result) (c .share-run .ensures .0) (loop-test .taken) in (
+      le-trans (loop .inv .0) (le-of-lt (r .0)),
+      r .1,
+      leads-as (c .share-run .ensures .1) _ (λ j l. ap (λ (z : ℕ). triedBelow (args .level) (args .w) (args .from) z j) (sym (c .share-run .ensures .0))),
+    )
 
 returns : tie.Need-returns Inv-loop μ-loop
-returns c = leads-as (c .before .loop .inv .2) _ (λ j l. below-all (c .before .before .before .before .before .before .args .level) (c .before .before .before .before .before .before .args .w) (c .before .before .before .before .before .before .args .from) (c .before .loop .low) j (omega arith))
+returns c =
+    let args = c .before .before .before .before .before .before .args in
+    leads-as (c .before .loop .inv .2) _ (λ j l. below-all (args .level) (args .w) (args .from) (c .before .loop .low) j (omega arith))
 
 returns-2 : tie.Need-returns-2 Inv-loop μ-loop
-returns-2 c = leads-as (c .before .before .pre .1) _ (λ j l. below-same (c .before .before .args .level) (c .before .before .args .w) (c .before .before .args .from) _ (c .before .before .args .n) j (min-le-left _ _) (λ h k. none-above (c .before .before .args .n) (c .before .before .args .level) (c .before .before .args .w) (c .before .before .args .from) j h k (c .if1 .left)) ∙ below-all (c .before .before .args .level) (c .before .before .args .w) (c .before .before .args .from) (c .before .before .args .n) j l)
+returns-2 c =
+    let args = c .before .before .args in
+    let level₀ = args .level in
+    let from₀ = args .from in
+    let w₀ = args .w in
+    let n₀ = args .n in
+    let pre = c .before .before .pre in
+    leads-as (pre .1) _ (λ j l. below-same level₀ w₀ from₀ _ n₀ j (min-le-left _ _) (λ h k. none-above n₀ level₀ w₀ from₀ j h k (c .if1 .left)) ∙ below-all level₀ w₀ from₀ n₀ j l)
 
 pub share-block-spec : {M : Type 1} → statement M
 share-block-spec =

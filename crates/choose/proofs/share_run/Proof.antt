@@ -38,13 +38,39 @@ sub-least : tie.Need-sub-least Inv-loop μ-loop
 sub-least c = let ends = run-is (c .before .before .before .args .n) (c .before .before .before .args .low) (c .before .smaller .result) (c .before .smaller .ensures) (c .before .before .before .pre .4) in omega arith
 
 least-requires : tie.Need-least-requires Inv-loop μ-loop
-least-requires c κs = let ends = run-is (c .before .before .before .args .n) (c .before .before .before .args .low) (c .before .smaller .result) (c .before .smaller .ensures) (c .before .before .before .pre .4) in omega (arith, c .before .before .before .pre .0 .span .short)
+least-requires c κs =
+    let args = c .before .before .before .args in
+    let pre = c .before .before .before .pre in
+    let ends = run-is (args .n) (args .low) (c .before .smaller .result) (c .before .smaller .ensures) (pre .4) in omega (arith, pre .0 .span .short)
 
 loop-holds : tie.Need-loop-holds Inv-loop μ-loop
-loop-holds c = (le-refl _, omega (arith, c .before .before .before .before .pre .5), leads-as (c .before .before .before .before .pre .1) _ (λ j l. run-start (c .before .before .before .before .args .level) (c .before .before .before .before .args .w) (c .before .before .before .before .args .from) (c .before .before .before .before .args .low) (min (c .before .before .before .before .args .n) (c .before .before .before .before .args .low + 16)) j (λ h. level-is (c .before .before .before .before .pre .0) j (c .before .before .before .before .pre .5) (omega (arith, c .before .before .before .before .pre .3)))))
+loop-holds c =
+    let args = c .before .before .before .before .args in
+    let low₀ = args .low in
+    let pre = c .before .before .before .before .pre in (
+      le-refl _,
+      omega (arith, pre .5),
+      leads-as (pre .1) _ (λ j l. run-start (args .level) (args .w) (args .from) low₀ (min (args .n) (low₀ + 16)) j (λ h. level-is (pre .0) j (pre .5) (omega (arith, pre .3)))),
+    )
 
 share-amount-requires : tie.Need-share-amount-requires Inv-loop μ-loop
-share-amount-requires c κs = (c .before .before .before .before .before .before .before .before .pre .0, c .before .before .before .loop .inv .2, least-bounds (c .before .before .before .before .before .before .before .before .args .low) (c .before .before .before .before .before .before .smaller .result) (c .before .before .before .before .before .before .before .before .pre .0) (c .before .before .before .before .before .before .before .before .pre .1) (c .before .before .before .before .before .before .smaller .ensures) (c .before .before .before .before .before .before .before .before .pre .4) (c .before .before .before .before .before .before .before .before .pre .3) (c .before .before .before .before .before .before .before .before .pre .5) (c .before .before .before .before .least .ensures), c .before .before .before .before .before .before .before .before .pre .2, c .before .before .before .before .before .before .before .before .pre .3, c .before .before .before .before .before .before .before .before .pre .4, c .before .before .before .loop .inv .0, c .before .before .loop-test .taken, refl)
+share-amount-requires c κs =
+    let args = c .before .before .before .before .before .before .before .before .args in
+    let pre = c .before .before .before .before .before .before .before .before .pre in
+    let smaller = c .before .before .before .before .before .before .smaller in
+    let least = c .before .before .before .before .least in
+    let loop = c .before .before .before .loop in
+    let loop-test = c .before .before .loop-test in (
+      pre .0,
+      loop .inv .2,
+      least-bounds (args .low) (smaller .result) (pre .0) (pre .1) (smaller .ensures) (pre .4) (pre .3) (pre .5) (least .ensures),
+      pre .2,
+      pre .3,
+      pre .4,
+      loop .inv .0,
+      loop-test .taken,
+      refl,
+    )
 
 add-t : tie.Need-add-t Inv-loop μ-loop
 add-t c = omega (arith, c .before .before .before .before .before .before .before .before .before .pre .0 .span .short, c .before .before .before .before .before .before .before .before .before .pre .0 .span .account)
@@ -57,10 +83,20 @@ loop-again c = (omega arith, omega arith, c .share-amount .ensures)
 
 returns : tie.Need-returns Inv-loop μ-loop
 returns c =
-    let e : c .before .loop .t ≡ c .before .before .before .before .before .before .args .w = omega arith in
-    let ends = run-is (c .before .before .before .before .before .before .args .n) (c .before .before .before .before .before .before .args .low) (min (c .before .before .before .before .before .before .args .n) (c .before .before .before .before .before .before .args .low + 16)) refl (c .before .before .before .before .before .before .pre .4) in
-    let last = leads-as (c .before .loop .inv .2) (triedRun (c .before .before .before .before .before .before .args .level) (c .before .before .before .before .before .before .args .w) (c .before .before .before .before .before .before .args .from) (c .before .before .before .before .before .before .args .low) (min (c .before .before .before .before .before .before .args .n) (c .before .before .before .before .before .before .args .low + 16)) (c .before .before .before .before .before .before .args .w)) (λ j l. ap (λ (z : ℕ). triedRun (c .before .before .before .before .before .before .args .level) (c .before .before .before .before .before .before .args .w) (c .before .before .before .before .before .before .args .from) (c .before .before .before .before .before .before .args .low) (min (c .before .before .before .before .before .before .args .n) (c .before .before .before .before .before .before .args .low + 16)) z j) e) in
-    (c .before .before .before .before .smaller .ensures, leads-as last _ (λ j l. run-end (c .before .before .before .before .before .before .args .level) (c .before .before .before .before .before .before .args .w) (c .before .before .before .before .before .before .args .from) (c .before .before .before .before .before .before .args .low) (min (c .before .before .before .before .before .before .args .n) (c .before .before .before .before .before .before .args .low + 16)) j (le-of-lt (ends .0)) (λ h. let s = level-is (c .before .before .before .before .before .before .pre .0) j (c .before .before .before .before .before .before .pre .5) (omega (arith, c .before .before .before .before .before .before .pre .3)) in omega (arith, c .before .before .before .before .before .before .pre .5))))
+    let args = c .before .before .before .before .before .before .args in
+    let level₀ = args .level in
+    let from₀ = args .from in
+    let low₀ = args .low in
+    let w₀ = args .w in
+    let n₀ = args .n in
+    let pre = c .before .before .before .before .before .before .pre in
+    let smaller = c .before .before .before .before .smaller in
+    let e : c .before .loop .t ≡ w₀ = omega arith in
+    let ends = run-is n₀ low₀ (min n₀ (low₀ + 16)) refl (pre .4) in
+    let last = leads-as (c .before .loop .inv .2) (triedRun level₀ w₀ from₀ low₀ (min n₀ (low₀ + 16)) w₀) (λ j l. ap (λ (z : ℕ). triedRun level₀ w₀ from₀ low₀ (min n₀ (low₀ + 16)) z j) e) in (
+      smaller .ensures,
+      leads-as last _ (λ j l. run-end level₀ w₀ from₀ low₀ (min n₀ (low₀ + 16)) j (le-of-lt (ends .0)) (λ h. let s = level-is (pre .0) j (pre .5) (omega (arith, pre .3)) in omega (arith, pre .5))),
+    )
 
 pub share-run-spec : {M : Type 1} → statement M
 share-run-spec =

@@ -45,7 +45,14 @@ loop-less : tie.Need-loop-less Inv-loop μ-loop
 loop-less c = omega arith
 
 loop-again : tie.Need-loop-again Inv-loop μ-loop
-loop-again c = (omega arith, (λ i. set (c .before .before .loop .inv .1 i) (c .before .before .loop .j) (getD (c .before .before .before .args .work .now) (c .before .before .before .args .at + c .before .before .loop .j) 0)) ∙ stored-push _ _ _, (λ i. set (c .before .before .loop .inv .2 i) (c .before .before .loop .j) 0) ∙ stored-push _ _ _)
+loop-again c =
+    let args = c .before .before .before .args in
+    let loop = c .before .before .loop in
+    let j' = loop .j in (
+      omega arith,
+      (λ i. set (loop .inv .1 i) j' (getD (args .work .now) (args .at + j') 0)) ∙ stored-push _ _ _,
+      (λ i. set (loop .inv .2 i) j' 0) ∙ stored-push _ _ _,
+    )
 
 returns : tie.Need-returns Inv-loop μ-loop
 returns c = let e : c .before .loop .j ≡ c .before .before .args .n = omega arith in (rw (sym e) (c .before .loop .inv .1), rw (sym e) (c .before .loop .inv .2))

@@ -36,40 +36,119 @@ less-requires : tie.Need-less-requires Inv-loop μ-loop
 less-requires c κs = search needs
 
 mul-work-2 : tie.Need-mul-work-2 Inv-loop μ-loop
-mul-work-2 c = let lw : length (c .before .before .loop .work) ≡ length (c .before .before .before .before .before .args .work .now) = ap length (c .before .before .loop .inv .1) ∙ length-stored _ _ _ _ in let e = c .less .ensures in let r = sums-room (c .before .before .before .before .before .pre) (c .less .result) 0 1 (omega arith) (omega (arith, c .before .before .before .before .before .pre .level-is)) in omega arith
+mul-work-2 c =
+    let args = c .before .before .before .before .before .args in
+    let pre = c .before .before .before .before .before .pre in
+    let loop = c .before .before .loop in
+    let lw : length (loop .work) ≡ length (args .work .now) = ap length (loop .inv .1) ∙ length-stored _ _ _ _ in
+    let e = c .less .ensures in
+    let r = sums-room pre (c .less .result) 0 1 (omega arith) (omega (arith, pre .level-is)) in
+    omega arith
 
 add-work : tie.Need-add-work Inv-loop μ-loop
-add-work c = let lw : length (c .before .before .loop .work) ≡ length (c .before .before .before .before .before .args .work .now) = ap length (c .before .before .loop .inv .1) ∙ length-stored _ _ _ _ in let e = c .less .ensures in let r = sums-room (c .before .before .before .before .before .pre) (c .less .result) 0 1 (omega arith) (omega (arith, c .before .before .before .before .before .pre .level-is)) in omega arith
+add-work c =
+    let args = c .before .before .before .before .before .args in
+    let pre = c .before .before .before .before .before .pre in
+    let loop = c .before .before .loop in
+    let lw : length (loop .work) ≡ length (args .work .now) = ap length (loop .inv .1) ∙ length-stored _ _ _ _ in
+    let e = c .less .ensures in
+    let r = sums-room pre (c .less .result) 0 1 (omega arith) (omega (arith, pre .level-is)) in
+    omega arith
 
 mul-work-3 : tie.Need-mul-work-3 Inv-loop μ-loop
-mul-work-3 c = let lw : length (c .before .before .loop .work) ≡ length (c .before .before .before .before .before .args .work .now) = ap length (c .before .before .loop .inv .1) ∙ length-stored _ _ _ _ in let e = c .less .ensures in let r = sums-room (c .before .before .before .before .before .pre) (c .less .result) 0 1 (omega arith) (omega (arith, c .before .before .before .before .before .pre .level-is)) in omega arith
+mul-work-3 c =
+    let args = c .before .before .before .before .before .args in
+    let pre = c .before .before .before .before .before .pre in
+    let loop = c .before .before .loop in
+    let lw : length (loop .work) ≡ length (args .work .now) = ap length (loop .inv .1) ∙ length-stored _ _ _ _ in
+    let e = c .less .ensures in
+    let r = sums-room pre (c .less .result) 0 1 (omega arith) (omega (arith, pre .level-is)) in
+    omega arith
 
 slice-read-work : tie.Need-slice-read-work Inv-loop μ-loop
-slice-read-work c = let lw : length (c .before .before .before .loop .work) ≡ length (c .before .before .before .before .before .before .args .work .now) = ap length (c .before .before .before .loop .inv .1) ∙ length-stored _ _ _ _ in let e = c .before .less .ensures in let r = sums-room (c .before .before .before .before .before .before .pre) (c .before .less .result) 0 1 (omega arith) (omega (arith, c .before .before .before .before .before .before .pre .level-is)) in omega arith
+slice-read-work c =
+    let args = c .before .before .before .before .before .before .args in
+    let pre = c .before .before .before .before .before .before .pre in
+    let loop = c .before .before .before .loop in
+    let lw : length (loop .work) ≡ length (args .work .now) = ap length (loop .inv .1) ∙ length-stored _ _ _ _ in
+    let e = c .before .less .ensures in
+    let r = sums-room pre (c .before .less .result) 0 1 (omega arith) (omega (arith, pre .level-is)) in
+    omega arith
 
 add-work-2 : tie.Need-add-work-2 Inv-loop μ-loop
-add-work-2 c = let read : getD (c .before .before .before .loop .work) (c .before .before .before .before .before .before .args .base + c .before .less .result * c .before .before .before .before .before .before .args .stride) 0 ≡ cells (c .before .before .before .before .before .before .args .work .now) (c .before .before .before .before .before .before .args .base) (c .before .before .before .before .before .before .args .stride) (c .before .before .before .before .before .before .args .w - c .before .before .before .loop .a) 0 = ap (λ (xs : List ℕ). getD xs (c .before .before .before .before .before .before .args .base + c .before .less .result * c .before .before .before .before .before .before .args .stride) 0) (c .before .before .before .loop .inv .1) ∙ stored-out _ _ _ _ _ (inr (let r = row-room (c .before .before .before .before .before .before .pre) 0 (c .before .before .before .loop .a) (omega (arith, c .before .before .before .before .before .before .pre .level-is)) in omega arith)) ∙ ap (λ (z : ℕ). getD (c .before .before .before .before .before .before .args .work .now) z 0) (few-entry (c .before .before .before .before .before .before .args .base) (c .before .before .before .before .before .before .args .stride) (c .before .before .before .before .before .before .args .w) (c .before .before .before .loop .a) (c .before .less .result) (c .before .less .ensures)) in let s = sum-small (c .before .before .before .before .before .before .pre) (c .before .before .before .before .before .before .args .w - c .before .before .before .loop .a) 0 (c .before .before .before .loop .a) (sub-le _ _) (omega (arith, c .before .before .before .before .before .before .pre .level-is)) (omega (arith, c .before .before .before .before .before .before .pre .level-is, c .before .before .before .before .before .before .pre .width)) in omega arith
+add-work-2 c =
+    let args = c .before .before .before .before .before .before .args in
+    let work₀ = args .work .now in
+    let stride₀ = args .stride in
+    let base₀ = args .base in
+    let w₀ = args .w in
+    let pre = c .before .before .before .before .before .before .pre in
+    let loop = c .before .before .before .loop in
+    let a' = loop .a in
+    let less = c .before .less in
+    let read : getD (loop .work) (base₀ + less .result * stride₀) 0 ≡ cells work₀ base₀ stride₀ (w₀ - a') 0 =
+    ap (λ (xs : List ℕ). getD xs (base₀ + less .result * stride₀) 0) (loop .inv .1)
+    ∙ stored-out _ _ _ _ _ (inr (let r = row-room pre 0 a' (omega (arith, pre .level-is)) in omega arith))
+    ∙ ap (λ (z : ℕ). getD work₀ z 0) (few-entry base₀ stride₀ w₀ a' (less .result) (less .ensures)) in
+    let s = sum-small pre (w₀ - a') 0 a' (sub-le _ _) (omega (arith, pre .level-is)) (omega (arith, pre .level-is, pre .width)) in
+    omega arith
 
 add-work-3 : tie.Need-add-work-3 Inv-loop μ-loop
-add-work-3 c = let lw : length (c .before .before .before .loop .work) ≡ length (c .before .before .before .before .before .before .args .work .now) = ap length (c .before .before .before .loop .inv .1) ∙ length-stored _ _ _ _ in let r = row-long (c .before .before .before .before .before .before .pre) (c .before .before .before .loop .a) 1 (omega (arith, c .before .before .before .before .before .before .pre .level-is)) in omega arith
+add-work-3 c =
+    let args = c .before .before .before .before .before .before .args in
+    let pre = c .before .before .before .before .before .before .pre in
+    let loop = c .before .before .before .loop in
+    let lw : length (loop .work) ≡ length (args .work .now) = ap length (loop .inv .1) ∙ length-stored _ _ _ _ in
+    let r = row-long pre (loop .a) 1 (omega (arith, pre .level-is)) in
+    omega arith
 
 mul-work-4 : tie.Need-mul-work-4 Inv-loop μ-loop
-mul-work-4 c = let lw : length (c .before .before .before .loop .work) ≡ length (c .before .before .before .before .before .before .args .work .now) = ap length (c .before .before .before .loop .inv .1) ∙ length-stored _ _ _ _ in let r = row-long (c .before .before .before .before .before .before .pre) (c .before .before .before .loop .a) 1 (omega (arith, c .before .before .before .before .before .before .pre .level-is)) in omega arith
+mul-work-4 c =
+    let args = c .before .before .before .before .before .before .args in
+    let pre = c .before .before .before .before .before .before .pre in
+    let loop = c .before .before .before .loop in
+    let lw : length (loop .work) ≡ length (args .work .now) = ap length (loop .inv .1) ∙ length-stored _ _ _ _ in
+    let r = row-long pre (loop .a) 1 (omega (arith, pre .level-is)) in
+    omega arith
 
 slice-write-work : tie.Need-slice-write-work Inv-loop μ-loop
-slice-write-work c = let lw : length (c .before .before .before .loop .work) ≡ length (c .before .before .before .before .before .before .args .work .now) = ap length (c .before .before .before .loop .inv .1) ∙ length-stored _ _ _ _ in let r = row-long (c .before .before .before .before .before .before .pre) (c .before .before .before .loop .a) 1 (omega (arith, c .before .before .before .before .before .before .pre .level-is)) in omega arith
+slice-write-work c =
+    let args = c .before .before .before .before .before .before .args in
+    let pre = c .before .before .before .before .before .before .pre in
+    let loop = c .before .before .before .loop in
+    let lw : length (loop .work) ≡ length (args .work .now) = ap length (loop .inv .1) ∙ length-stored _ _ _ _ in
+    let r = row-long pre (loop .a) 1 (omega (arith, pre .level-is)) in
+    omega arith
 
 cast-table : tie.Need-cast-table Inv-loop μ-loop
 cast-table c = omega (arith, c .before .before .before .before .before .before .pre .level-is, c .before .before .before .before .before .before .pre .width)
 
 add-table : tie.Need-add-table Inv-loop μ-loop
-add-table c = let lt : length (c .before .before .before .loop .table) ≡ length (c .before .before .before .before .before .before .args .table .now) = ap length (c .before .before .before .loop .inv .2) ∙ length-stored _ _ _ _ in let r = table-long (c .before .before .before .before .before .before .pre) (c .before .before .before .loop .a) 1 (omega (arith, c .before .before .before .before .before .before .pre .level-is)) in omega arith
+add-table c =
+    let args = c .before .before .before .before .before .before .args in
+    let pre = c .before .before .before .before .before .before .pre in
+    let loop = c .before .before .before .loop in
+    let lt : length (loop .table) ≡ length (args .table .now) = ap length (loop .inv .2) ∙ length-stored _ _ _ _ in
+    let r = table-long pre (loop .a) 1 (omega (arith, pre .level-is)) in
+    omega arith
 
 mul-table : tie.Need-mul-table Inv-loop μ-loop
-mul-table c = let lt : length (c .before .before .before .loop .table) ≡ length (c .before .before .before .before .before .before .args .table .now) = ap length (c .before .before .before .loop .inv .2) ∙ length-stored _ _ _ _ in let r = table-long (c .before .before .before .before .before .before .pre) (c .before .before .before .loop .a) 1 (omega (arith, c .before .before .before .before .before .before .pre .level-is)) in omega arith
+mul-table c =
+    let args = c .before .before .before .before .before .before .args in
+    let pre = c .before .before .before .before .before .before .pre in
+    let loop = c .before .before .before .loop in
+    let lt : length (loop .table) ≡ length (args .table .now) = ap length (loop .inv .2) ∙ length-stored _ _ _ _ in
+    let r = table-long pre (loop .a) 1 (omega (arith, pre .level-is)) in
+    omega arith
 
 slice-write-table : tie.Need-slice-write-table Inv-loop μ-loop
-slice-write-table c = let lt : length (c .before .before .before .loop .table) ≡ length (c .before .before .before .before .before .before .args .table .now) = ap length (c .before .before .before .loop .inv .2) ∙ length-stored _ _ _ _ in let r = table-long (c .before .before .before .before .before .before .pre) (c .before .before .before .loop .a) 1 (omega (arith, c .before .before .before .before .before .before .pre .level-is)) in omega arith
+slice-write-table c =
+    let args = c .before .before .before .before .before .before .args in
+    let pre = c .before .before .before .before .before .before .pre in
+    let loop = c .before .before .before .loop in
+    let lt : length (loop .table) ≡ length (args .table .now) = ap length (loop .inv .2) ∙ length-stored _ _ _ _ in
+    let r = table-long pre (loop .a) 1 (omega (arith, pre .level-is)) in
+    omega arith
 
 add-a : tie.Need-add-a Inv-loop μ-loop
 add-a c = omega (arith, c .before .before .before .before .before .before .pre .level-is, c .before .before .before .before .before .before .pre .width)
@@ -79,8 +158,23 @@ loop-less c = omega arith
 
 loop-again : tie.Need-loop-again Inv-loop μ-loop
 loop-again c =
-    let read : getD (c .before .before .before .loop .work) (c .before .before .before .before .before .before .args .base + c .before .less .result * c .before .before .before .before .before .before .args .stride) 0 ≡ cells (c .before .before .before .before .before .before .args .work .now) (c .before .before .before .before .before .before .args .base) (c .before .before .before .before .before .before .args .stride) (c .before .before .before .before .before .before .args .w - c .before .before .before .loop .a) 0 = ap (λ (xs : List ℕ). getD xs (c .before .before .before .before .before .before .args .base + c .before .less .result * c .before .before .before .before .before .before .args .stride) 0) (c .before .before .before .loop .inv .1) ∙ stored-out _ _ _ _ _ (inr (let r = row-room (c .before .before .before .before .before .before .pre) 0 (c .before .before .before .loop .a) (omega (arith, c .before .before .before .before .before .before .pre .level-is)) in omega arith)) ∙ ap (λ (z : ℕ). getD (c .before .before .before .before .before .before .args .work .now) z 0) (few-entry (c .before .before .before .before .before .before .args .base) (c .before .before .before .before .before .before .args .stride) (c .before .before .before .before .before .before .args .w) (c .before .before .before .loop .a) (c .before .less .result) (c .before .less .ensures)) in
-    (omega arith, (λ k. set (c .before .before .before .loop .inv .1 k) (c .before .before .before .before .before .before .args .w * c .before .before .before .before .before .before .args .stride + c .before .before .before .loop .a) (10000 * c .before .before .before .loop .a + read k)) ∙ stored-next _ _ _ _, (λ k. set (c .before .before .before .loop .inv .2 k) (c .before .before .before .before .before .before .args .w * c .before .before .before .before .before .before .args .stride + c .before .before .before .loop .a) (c .before .before .before .loop .a)) ∙ stored-next _ _ _ _)
+    let args = c .before .before .before .before .before .before .args in
+    let work₀ = args .work .now in
+    let stride₀ = args .stride in
+    let base₀ = args .base in
+    let w₀ = args .w in
+    let pre = c .before .before .before .before .before .before .pre in
+    let loop = c .before .before .before .loop in
+    let a' = loop .a in
+    let less = c .before .less in
+    let read : getD (loop .work) (base₀ + less .result * stride₀) 0 ≡ cells work₀ base₀ stride₀ (w₀ - a') 0 =
+    ap (λ (xs : List ℕ). getD xs (base₀ + less .result * stride₀) 0) (loop .inv .1)
+    ∙ stored-out _ _ _ _ _ (inr (let r = row-room pre 0 a' (omega (arith, pre .level-is)) in omega arith))
+    ∙ ap (λ (z : ℕ). getD work₀ z 0) (few-entry base₀ stride₀ w₀ a' (less .result) (less .ensures)) in (
+      omega arith,
+      (λ k. set (loop .inv .1 k) (w₀ * stride₀ + a') (10000 * a' + read k)) ∙ stored-next _ _ _ _,
+      (λ k. set (loop .inv .2 k) (w₀ * stride₀ + a') a') ∙ stored-next _ _ _ _,
+    )
 
 same-length : tie.Need-same-length Inv-loop μ-loop
 same-length c = ap length (c .before .loop .inv .1) ∙ length-stored _ _ _ _

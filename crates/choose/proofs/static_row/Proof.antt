@@ -14,10 +14,16 @@ static-few-requires : tie.Need-static-few-requires
 static-few-requires c κs = c .before .before .before .before .pre
 
 mul-to : tie.Need-mul-to
-mul-to c = let r = row-long (c .before .before .before .before .before .before .before .before .before .pre) (c .before .before .before .before .before .before .before .before .before .args .level) 0 (omega (arith, c .before .before .before .before .before .before .before .before .before .pre .level-is)) in omega arith
+mul-to c =
+    let args = c .before .before .before .before .before .before .before .before .before .args in
+    let pre = c .before .before .before .before .before .before .before .before .before .pre in
+    let r = row-long pre (args .level) 0 (omega (arith, pre .level-is)) in omega arith
 
 add-to : tie.Need-add-to
-add-to c = let r = row-long (c .before .before .before .before .before .before .before .before .before .pre) (c .before .before .before .before .before .before .before .before .before .args .level) 0 (omega (arith, c .before .before .before .before .before .before .before .before .before .pre .level-is)) in omega arith
+add-to c =
+    let args = c .before .before .before .before .before .before .before .before .before .args in
+    let pre = c .before .before .before .before .before .before .before .before .before .pre in
+    let r = row-long pre (args .level) 0 (omega (arith, pre .level-is)) in omega arith
 
 less-requires : tie.Need-less-requires
 less-requires c κs = search needs
@@ -32,35 +38,72 @@ sub-copy : tie.Need-sub-copy
 sub-copy c = omega (arith, c .before .before .before .before .before .before .before .before .before .before .before .pre .level-is)
 
 mul-copy : tie.Need-mul-copy
-mul-copy c = omega (arith, c .before .before .before .before .before .before .before .before .before .before .before .pre .level-is, c .before .before .before .before .before .before .before .before .before .before .before .pre .width)
+mul-copy c =
+    let pre = c .before .before .before .before .before .before .before .before .before .before .before .pre in
+    omega (arith, pre .level-is, pre .width)
 
 cast-copy : tie.Need-cast-copy
-cast-copy c = omega (arith, c .before .before .before .before .before .before .before .before .before .before .before .pre .level-is, c .before .before .before .before .before .before .before .before .before .before .before .pre .width)
+cast-copy c =
+    let pre = c .before .before .before .before .before .before .before .before .before .before .before .pre in
+    omega (arith, pre .level-is, pre .width)
 
 copy-requires : tie.Need-copy-requires
 copy-requires c κs =
-    let at = ap (λ (z : ℕ). c .before .before .before .before .before .before .before .before .before .before .before .args .base + z * c .before .before .before .before .before .before .before .before .before .before .before .args .stride) (c .before .less .ensures) in let long : length (c .before .before .before .before .before .before .static-few .last .0) ≡ length (c .before .before .before .before .before .before .before .before .before .before .before .args .work .now) = ap length (c .before .before .before .before .before .before .static-few .ensures .0) ∙ length-stored _ _ _ _ in
-    let r = row-room (c .before .before .before .before .before .before .before .before .before .before .before .pre) (c .before .before .before .before .before .before .before .before .before .before .before .args .level) (c .before .before .before .before .before .before .before .before .before .before .before .args .stride - c .before .before .before .before .before .before .before .before .before .before .before .args .level) (omega (arith, c .before .before .before .before .before .before .before .before .before .before .before .pre .level-is)) in
-    let q = sums-room (c .before .before .before .before .before .before .before .before .before .before .before .pre) (c .before .before .before .before .before .before .before .before .before .before .before .args .w - c .before .before .before .before .before .before .before .before .before .before .before .args .level) 0 (c .before .before .before .before .before .before .before .before .before .before .before .args .stride - c .before .before .before .before .before .before .before .before .before .before .before .args .level) (sub-le _ _) (omega arith) in
-    (omega arith, omega arith, λ i l. let z = static-read (c .before .before .before .before .before .before .before .before .before .before .before .pre) _ (c .before .before .before .before .before .before .static-few .ensures .0) at i in let s = sum-small (c .before .before .before .before .before .before .before .before .before .before .before .pre) (c .before .before .before .before .before .before .before .before .before .before .before .args .w - c .before .before .before .before .before .before .before .before .before .before .before .args .level) i (c .before .before .before .before .before .before .before .before .before .before .before .args .level) (sub-le _ _) (omega (arith, c .before .before .before .before .before .before .before .before .before .before .before .pre .level-is)) (omega (arith, c .before .before .before .before .before .before .before .before .before .before .before .pre .level-is, c .before .before .before .before .before .before .before .before .before .before .before .pre .width)) in omega arith)
+    let args = c .before .before .before .before .before .before .before .before .before .before .before .args in
+    let stride₀ = args .stride in
+    let level₀ = args .level in
+    let w₀ = args .w in
+    let pre = c .before .before .before .before .before .before .before .before .before .before .before .pre in
+    let static-few = c .before .before .before .before .before .before .static-few in
+    let at = ap (λ (z : ℕ). args .base + z * stride₀) (c .before .less .ensures) in
+    let long : length (static-few .last .0) ≡ length (args .work .now) = ap length (static-few .ensures .0) ∙ length-stored _ _ _ _ in
+    let r = row-room pre level₀ (stride₀ - level₀) (omega (arith, pre .level-is)) in
+    let q = sums-room pre (w₀ - level₀) 0 (stride₀ - level₀) (sub-le _ _) (omega arith) in (
+      omega arith,
+      omega arith,
+      λ i l. let z = static-read pre _ (static-few .ensures .0) at i in let s = sum-small pre (w₀ - level₀) i level₀ (sub-le _ _) (omega (arith, pre .level-is)) (omega (arith, pre .level-is, pre .width)) in omega arith,
+    )
 
 sub-fill : tie.Need-sub-fill
 sub-fill c = omega (arith, c .before .before .before .before .before .before .before .before .before .before .before .before .before .before .before .pre .level-is)
 
 cast-fill : tie.Need-cast-fill
-cast-fill c = omega (arith, c .before .before .before .before .before .before .before .before .before .before .before .before .before .before .before .pre .level-is, c .before .before .before .before .before .before .before .before .before .before .before .before .before .before .before .pre .width)
+cast-fill c =
+    let pre = c .before .before .before .before .before .before .before .before .before .before .before .before .before .before .before .pre in
+    omega (arith, pre .level-is, pre .width)
 
 fill-requires : tie.Need-fill-requires
-fill-requires c κs = let long : length (c .before .before .before .before .before .before .before .before .before .before .static-few .last .1 .0) ≡ length (c .before .before .before .before .before .before .before .before .before .before .before .before .before .before .before .args .table .now) = ap length (c .before .before .before .before .before .before .before .before .before .before .static-few .ensures .1) ∙ length-stored _ _ _ _ in let r = table-long (c .before .before .before .before .before .before .before .before .before .before .before .before .before .before .before .pre) (c .before .before .before .before .before .before .before .before .before .before .before .before .before .before .before .args .level) (c .before .before .before .before .before .before .before .before .before .before .before .before .before .before .before .args .stride - c .before .before .before .before .before .before .before .before .before .before .before .before .before .before .before .args .level) (omega (arith, c .before .before .before .before .before .before .before .before .before .before .before .before .before .before .before .pre .level-is)) in omega arith
+fill-requires c κs =
+    let args = c .before .before .before .before .before .before .before .before .before .before .before .before .before .before .before .args in
+    let level₀ = args .level in
+    let pre = c .before .before .before .before .before .before .before .before .before .before .before .before .before .before .before .pre in
+    let static-few = c .before .before .before .before .before .before .before .before .before .before .static-few in
+    let long : length (static-few .last .1 .0) ≡ length (args .table .now) = ap length (static-few .ensures .1) ∙ length-stored _ _ _ _ in
+    let r = table-long pre level₀ (args .stride - level₀) (omega (arith, pre .level-is)) in
+    omega arith
 
 same-length : tie.Need-same-length
-same-length c = ap length (c .before .before .before .before .before .before .copy .ensures) ∙ length-stored _ _ _ _ ∙ ap length (c .before .before .before .before .before .before .before .before .before .before .before .before .before .static-few .ensures .0) ∙ length-stored _ _ _ _
+same-length c =
+    let static-few = c .before .before .before .before .before .before .before .before .before .before .before .before .before .static-few in
+    let copy = c .before .before .before .before .before .before .copy in
+    ap length (copy .ensures) ∙ length-stored _ _ _ _ ∙ ap length (static-few .ensures .0) ∙ length-stored _ _ _ _
 
 same-length-2 : tie.Need-same-length-2
-same-length-2 c = ap length (c .before .before .fill .ensures) ∙ length-stored _ _ _ _ ∙ ap length (c .before .before .before .before .before .before .before .before .before .before .before .before .before .static-few .ensures .1) ∙ length-stored _ _ _ _
+same-length-2 c =
+    let static-few = c .before .before .before .before .before .before .before .before .before .before .before .before .before .static-few in
+    let fill = c .before .before .fill in
+    ap length (fill .ensures) ∙ length-stored _ _ _ _ ∙ ap length (static-few .ensures .1) ∙ length-stored _ _ _ _
 
 returns : tie.Need-returns
-returns c = let at = ap (λ (z : ℕ). c .before .before .before .before .before .before .before .before .before .before .before .before .before .before .before .before .before .before .args .base + z * c .before .before .before .before .before .before .before .before .before .before .before .before .before .before .before .before .before .before .args .stride) (c .before .before .before .before .before .before .before .before .less .ensures) in (static-work (c .before .before .before .before .before .before .before .before .before .before .before .before .before .before .before .before .before .before .pre) _ (c .before .before .before .before .before .before .before .before .before .before .before .before .before .static-few .ensures .0) at (c .before .before .before .before .before .before .copy .ensures), static-table (c .before .before .before .before .before .before .before .before .before .before .before .before .before .before .before .before .before .before .pre) (c .before .before .before .before .before .before .before .before .before .before .before .before .before .static-few .ensures .1) (c .before .before .fill .ensures))
+returns c =
+    let args = c .before .before .before .before .before .before .before .before .before .before .before .before .before .before .before .before .before .before .args in
+    let pre = c .before .before .before .before .before .before .before .before .before .before .before .before .before .before .before .before .before .before .pre in
+    let static-few = c .before .before .before .before .before .before .before .before .before .before .before .before .before .static-few in
+    let less = c .before .before .before .before .before .before .before .before .less in
+    let copy = c .before .before .before .before .before .before .copy in
+    let fill = c .before .before .fill in
+    let at = ap (λ (z : ℕ). args .base + z * args .stride) (less .ensures) in
+    (static-work pre _ (static-few .ensures .0) at (copy .ensures), static-table pre (static-few .ensures .1) (fill .ensures))
 
 pub static-row-spec : {M : Type 1} → statement M
 static-row-spec =

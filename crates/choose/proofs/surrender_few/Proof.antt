@@ -31,40 +31,98 @@ cast-other : tie.Need-cast-other Inv-loop μ-loop
 cast-other c = let k = c .cash .ensures .1 in omega arith
 
 mul-other : tie.Need-mul-other Inv-loop μ-loop
-mul-other c = let r = row-long (c .before .before .before .before .before .before .pre .0) 0 0 (omega arith) in let q = base-read (c .before .before .before .before .before .before .pre .0) in omega (arith, c .before .before .loop .inv .1 .work-long)
+mul-other c =
+    let pre = c .before .before .before .before .before .before .pre in
+    let loop = c .before .before .loop in
+    let r = row-long (pre .0) 0 0 (omega arith) in let q = base-read (pre .0) in omega (arith, loop .inv .1 .work-long)
 
 slice-read-other : tie.Need-slice-read-other Inv-loop μ-loop
-slice-read-other c = let r = row-long (c .before .before .before .before .before .before .before .pre .0) 0 0 (omega arith) in let q = base-read (c .before .before .before .before .before .before .before .pre .0) in omega (arith, c .before .before .before .loop .inv .1 .work-long)
+slice-read-other c =
+    let pre = c .before .before .before .before .before .before .before .pre in
+    let loop = c .before .before .before .loop in
+    let r = row-long (pre .0) 0 0 (omega arith) in let q = base-read (pre .0) in omega (arith, loop .inv .1 .work-long)
 
 add-other : tie.Need-add-other Inv-loop μ-loop
-add-other c = let base : getD (c .before .before .before .loop .work) (c .before .before .before .before .before .before .before .args .base) 0 ≡ cells (c .before .before .before .before .before .before .before .args .work .now) (c .before .before .before .before .before .before .before .args .base) (c .before .before .before .before .before .before .before .args .stride) 0 0 = c .before .before .before .loop .inv .1 .work-out (c .before .before .before .before .before .before .before .args .base) (inr (let r = row-room (c .before .before .before .before .before .before .before .pre .0) 0 (c .before .before .before .before .before .before .before .args .stride) (omega arith) in omega arith)) ∙ ap (λ (z : ℕ). getD (c .before .before .before .before .before .before .before .args .work .now) z 0) (sym (base-is (c .before .before .before .before .before .before .before .pre .0))) in let b = base-small (c .before .before .before .before .before .before .before .pre .0) in let k = c .before .cash .ensures .1 in let z = ap (λ (z : ℕ). getD (c .before .before .before .before .before .before .before .args .work .now) z 0) (base-is (c .before .before .before .before .before .before .before .pre .0)) in omega arith
+add-other c =
+    let args = c .before .before .before .before .before .before .before .args in
+    let work₀ = args .work .now in
+    let stride₀ = args .stride in
+    let base₀ = args .base in
+    let pre = c .before .before .before .before .before .before .before .pre in
+    let loop = c .before .before .before .loop in
+    let base : getD (loop .work) base₀ 0 ≡ cells work₀ base₀ stride₀ 0 0 =
+    loop .inv .1 .work-out base₀ (inr (let r = row-room (pre .0) 0 stride₀ (omega arith) in omega arith))
+    ∙ ap (λ (z : ℕ). getD work₀ z 0) (sym (base-is (pre .0))) in
+    let b = base-small (pre .0) in
+    let k = c .before .cash .ensures .1 in
+    let z = ap (λ (z : ℕ). getD work₀ z 0) (base-is (pre .0)) in
+    omega arith
 
 mul-offer-same : tie.Need-mul-offer-same Inv-loop μ-loop
-mul-offer-same c = let s = few-in (c .before .before .before .before .before .before .before .before .before .args .level) (c .before .before .before .before .before .before .before .before .before .args .w) (c .before .before .before .before .before .before .smaller .result) (c .before .before .before .before .before .loop .a) (c .before .before .before .before .before .before .smaller .ensures) (c .before .before .before .before .loop-test .taken) in let r = row-long (c .before .before .before .before .before .before .before .before .before .pre .0) (c .before .before .before .before .before .loop .a) 1 (omega (arith, c .before .before .before .before .before .before .before .before .before .pre .0 .level-is)) in omega arith
+mul-offer-same c =
+    let args = c .before .before .before .before .before .before .before .before .before .args in
+    let pre = c .before .before .before .before .before .before .before .before .before .pre in
+    let smaller = c .before .before .before .before .before .before .smaller in
+    let loop = c .before .before .before .before .before .loop in
+    let a' = loop .a in
+    let loop-test = c .before .before .before .before .loop-test in
+    let s = few-in (args .level) (args .w) (smaller .result) a' (smaller .ensures) (loop-test .taken) in
+    let r = row-long (pre .0) a' 1 (omega (arith, pre .0 .level-is)) in
+    omega arith
 
 add-offer-same : tie.Need-add-offer-same Inv-loop μ-loop
-add-offer-same c = let s = few-in (c .before .before .before .before .before .before .before .before .before .args .level) (c .before .before .before .before .before .before .before .before .before .args .w) (c .before .before .before .before .before .before .smaller .result) (c .before .before .before .before .before .loop .a) (c .before .before .before .before .before .before .smaller .ensures) (c .before .before .before .before .loop-test .taken) in let r = row-long (c .before .before .before .before .before .before .before .before .before .pre .0) (c .before .before .before .before .before .loop .a) 1 (omega (arith, c .before .before .before .before .before .before .before .before .before .pre .0 .level-is)) in omega arith
+add-offer-same c =
+    let args = c .before .before .before .before .before .before .before .before .before .args in
+    let pre = c .before .before .before .before .before .before .before .before .before .pre in
+    let smaller = c .before .before .before .before .before .before .smaller in
+    let loop = c .before .before .before .before .before .loop in
+    let a' = loop .a in
+    let loop-test = c .before .before .before .before .loop-test in
+    let s = few-in (args .level) (args .w) (smaller .result) a' (smaller .ensures) (loop-test .taken) in
+    let r = row-long (pre .0) a' 1 (omega (arith, pre .0 .level-is)) in
+    omega arith
 
 cast-offer-same : tie.Need-cast-offer-same Inv-loop μ-loop
 cast-offer-same c = omega (arith, c .before .before .before .before .before .before .before .before .before .pre .0 .account)
 
 offer-same-requires : tie.Need-offer-same-requires Inv-loop μ-loop
-offer-same-requires c κs = let s = few-in (c .before .before .before .before .before .before .before .before .before .args .level) (c .before .before .before .before .before .before .before .before .before .args .w) (c .before .before .before .before .before .before .smaller .result) (c .before .before .before .before .before .loop .a) (c .before .before .before .before .before .before .smaller .ensures) (c .before .before .before .before .loop-test .taken) in let r = row-long (c .before .before .before .before .before .before .before .before .before .pre .0) (c .before .before .before .before .before .loop .a) 1 (omega (arith, c .before .before .before .before .before .before .before .before .before .pre .0 .level-is)) in let t = table-long (c .before .before .before .before .before .before .before .before .before .pre .0) (c .before .before .before .before .before .loop .a) 1 (omega (arith, c .before .before .before .before .before .before .before .before .before .pre .0 .level-is)) in (omega (arith, c .before .before .before .before .before .loop .inv .1 .work-long), omega (arith, c .before .before .before .before .before .loop .inv .1 .table-long))
+offer-same-requires c κs =
+    let args = c .before .before .before .before .before .before .before .before .before .args in
+    let pre = c .before .before .before .before .before .before .before .before .before .pre in
+    let smaller = c .before .before .before .before .before .before .smaller in
+    let loop = c .before .before .before .before .before .loop in
+    let a' = loop .a in
+    let loop-test = c .before .before .before .before .loop-test in
+    let s = few-in (args .level) (args .w) (smaller .result) a' (smaller .ensures) (loop-test .taken) in
+    let r = row-long (pre .0) a' 1 (omega (arith, pre .0 .level-is)) in
+    let t = table-long (pre .0) a' 1 (omega (arith, pre .0 .level-is)) in
+    (omega (arith, loop .inv .1 .work-long), omega (arith, loop .inv .1 .table-long))
 
 add-a : tie.Need-add-a Inv-loop μ-loop
-add-a c = let s = c .before .before .before .before .before .before .before .before .before .before .before .smaller .ensures in omega (arith, c .before .before .before .before .before .before .before .before .before .before .before .before .before .before .pre .0 .account)
+add-a c =
+    let pre = c .before .before .before .before .before .before .before .before .before .before .before .before .before .before .pre in
+    let smaller = c .before .before .before .before .before .before .before .before .before .before .before .smaller in
+    let s = smaller .ensures in omega (arith, pre .0 .account)
 
 loop-less : tie.Need-loop-less Inv-loop μ-loop
 loop-less c = omega arith
 
 loop-again : tie.Need-loop-again Inv-loop μ-loop
 loop-again c =
-    let base : getD (c .before .before .before .before .before .before .before .before .before .before .loop .work) (c .before .before .before .before .before .before .before .before .before .before .before .before .before .before .args .base) 0 ≡ cells (c .before .before .before .before .before .before .before .before .before .before .before .before .before .before .args .work .now) (c .before .before .before .before .before .before .before .before .before .before .before .before .before .before .args .base) (c .before .before .before .before .before .before .before .before .before .before .before .before .before .before .args .stride) 0 0 = c .before .before .before .before .before .before .before .before .before .before .loop .inv .1 .work-out (c .before .before .before .before .before .before .before .before .before .before .before .before .before .before .args .base) (inr (let r = row-room (c .before .before .before .before .before .before .before .before .before .before .before .before .before .before .pre .0) 0 (c .before .before .before .before .before .before .before .before .before .before .before .before .before .before .args .stride) (omega arith) in omega arith)) ∙ ap (λ (z : ℕ). getD (c .before .before .before .before .before .before .before .before .before .before .before .before .before .before .args .work .now) z 0) (sym (base-is (c .before .before .before .before .before .before .before .before .before .before .before .before .before .before .pre .0))) in
-    let s = few-in (c .before .before .before .before .before .before .before .before .before .before .before .before .before .before .args .level) (c .before .before .before .before .before .before .before .before .before .before .before .before .before .before .args .w) (c .before .before .before .before .before .before .before .before .before .before .before .smaller .result) (c .before .before .before .before .before .before .before .before .before .before .loop .a) (c .before .before .before .before .before .before .before .before .before .before .before .smaller .ensures) (c .before .before .before .before .before .before .before .before .before .loop-test .taken) in
-    let free : (i : ℕ) → i < 1 → freeAmount (c .before .before .before .before .before .before .before .before .before .before .before .before .before .before .args .level) (c .before .before .before .before .before .before .before .before .before .before .loop .a + i) ≡ c .before .before .before .before .before .before .before .before .before .before .loop .a = λ i l. few-one (c .before .before .before .before .before .before .before .before .before .before .before .before .before .before .args .level) (c .before .before .before .before .before .before .before .before .before .before .loop .a) i (s .0) l in
-    let long = row-long (c .before .before .before .before .before .before .before .before .before .before .before .before .before .before .pre .0) 0 (c .before .before .before .before .before .before .before .before .before .before .before .before .before .before .args .stride) (omega arith) in
-    let enters = table-long (c .before .before .before .before .before .before .before .before .before .before .before .before .before .before .pre .0) 0 (c .before .before .before .before .before .before .before .before .before .before .before .before .before .before .args .stride) (omega arith) in
-    (omega arith, mixed-run (c .before .before .before .before .before .before .before .before .before .before .loop .a) (c .before .before .before .before .before .before .before .before .before .before .loop .inv .1) _ (c .before .before .before .before .offer-same .ensures) (omega (arith, c .before .before .before .before .before .before .before .before .before .before .before .before .before .before .pre .0 .level-is)) (omega arith) (omega arith) (λ i l. let z = free i l in omega arith) (λ i l. surrender-worth (cells (c .before .before .before .before .before .before .before .before .before .before .before .before .before .before .args .work .now) (c .before .before .before .before .before .before .before .before .before .before .before .before .before .before .args .base) (c .before .before .before .before .before .before .before .before .before .before .before .before .before .before .args .stride)) (c .before .before .before .before .before .before .before .before .before .before .before .before .before .before .args .rate) (c .before .before .before .before .before .before .before .before .before .before .before .before .before .before .args .level) (c .before .before .before .before .before .before .before .before .before .before .before .before .before .before .args .w) (c .before .before .before .before .before .before .before .before .before .before .loop .a + i) (c .before .before .before .before .before .before .before .before .before .before .loop .a) (c .before .before .before .before .before .before .before .before .cash .result) (free i l) (s .1) (c .before .before .before .before .before .before .before .before .cash .ensures .0) ∙ ap (λ (z : ℕ). c .before .before .before .before .before .before .before .before .cash .result + z) (sym base)))
+    let args = c .before .before .before .before .before .before .before .before .before .before .before .before .before .before .args in
+    let work₀ = args .work .now in
+    let stride₀ = args .stride in
+    let level₀ = args .level in
+    let base₀ = args .base in
+    let w₀ = args .w in
+    let pre = c .before .before .before .before .before .before .before .before .before .before .before .before .before .before .pre in
+    let smaller = c .before .before .before .before .before .before .before .before .before .before .before .smaller in
+    let loop = c .before .before .before .before .before .before .before .before .before .before .loop in
+    let a' = loop .a in
+    let loop-test = c .before .before .before .before .before .before .before .before .before .loop-test in
+    let cash = c .before .before .before .before .before .before .before .before .cash in
+    let offer-same = c .before .before .before .before .offer-same in
+    let base : getD (loop .work) base₀ 0 ≡ cells work₀ base₀ stride₀ 0 0 = loop .inv .1 .work-out base₀ (inr (let r = row-room (pre .0) 0 stride₀ (omega arith) in omega arith)) ∙ ap (λ (z : ℕ). getD work₀ z 0) (sym (base-is (pre .0))) in let s = few-in level₀ w₀ (smaller .result) a' (smaller .ensures) (loop-test .taken) in let free : (i : ℕ) → i < 1 → freeAmount level₀ (a' + i) ≡ a' = λ i l. few-one level₀ a' i (s .0) l in let long = row-long (pre .0) 0 stride₀ (omega arith) in let enters = table-long (pre .0) 0 stride₀ (omega arith) in (omega arith, mixed-run a' (loop .inv .1) _ (offer-same .ensures) (omega (arith, pre .0 .level-is)) (omega arith) (omega arith) (λ i l. let z = free i l in omega arith) (λ i l. surrender-worth (cells work₀ base₀ stride₀) (args .rate) level₀ w₀ (a' + i) a' (cash .result) (free i l) (s .1) (cash .ensures .0) ∙ ap (λ (z : ℕ). cash .result + z) (sym base)))
 
 same-length : tie.Need-same-length Inv-loop μ-loop
 same-length c = c .before .loop .inv .1 .work-long
@@ -73,7 +131,15 @@ same-length-2 : tie.Need-same-length-2 Inv-loop μ-loop
 same-length-2 c = c .before .loop .inv .1 .table-long
 
 returns : tie.Need-returns Inv-loop μ-loop
-returns c = let e : c .before .loop .a ≡ c .before .before .smaller .result = omega arith in subst (λ (z : ℕ). Settled (mixedBelow z) (cells (c .before .before .before .before .before .args .work .now) (c .before .before .before .before .before .args .base) (c .before .before .before .before .before .args .stride)) (c .before .before .before .before .before .args .rate) (c .before .before .before .before .before .args .level) (c .before .before .before .before .before .args .w) (c .before .before .before .before .before .args .work .now) (c .before .before .before .before .before .args .table .now) (c .before .loop .work) (c .before .loop .table) (c .before .before .before .before .before .args .w * c .before .before .before .before .before .args .stride) (c .before .before .before .before .before .args .stride)) (e ∙ c .before .before .smaller .ensures) (c .before .loop .inv .1)
+returns c =
+    let args = c .before .before .before .before .before .args in
+    let work₀ = args .work .now in
+    let stride₀ = args .stride in
+    let w₀ = args .w in
+    let smaller = c .before .before .smaller in
+    let loop = c .before .loop in
+    let e : loop .a ≡ smaller .result = omega arith in
+    subst (λ (z : ℕ). Settled (mixedBelow z) (cells work₀ (args .base) stride₀) (args .rate) (args .level) w₀ work₀ (args .table .now) (loop .work) (loop .table) (w₀ * stride₀) stride₀) (e ∙ smaller .ensures) (loop .inv .1)
 
 pub surrender-few-spec : {M : Type 1} → statement M
 surrender-few-spec =

@@ -21,19 +21,44 @@ cast-other : tie.Need-cast-other
 cast-other c = let k = c .cash .ensures .1 in omega arith
 
 mul-other : tie.Need-mul-other
-mul-other c = let q = base-read (c .before .before .before .before .before .before .before .before .before .before .before .pre .0) in omega (arith, c .before .before .before .before .before .before .surrender-few .ensures .work-long)
+mul-other c =
+    let pre = c .before .before .before .before .before .before .before .before .before .before .before .pre in
+    let surrender-few = c .before .before .before .before .before .before .surrender-few in
+    let q = base-read (pre .0) in omega (arith, surrender-few .ensures .work-long)
 
 slice-read-other : tie.Need-slice-read-other
-slice-read-other c = let q = base-read (c .before .before .before .before .before .before .before .before .before .before .before .before .pre .0) in omega (arith, c .before .before .before .before .before .before .before .surrender-few .ensures .work-long)
+slice-read-other c =
+    let pre = c .before .before .before .before .before .before .before .before .before .before .before .before .pre in
+    let surrender-few = c .before .before .before .before .before .before .before .surrender-few in
+    let q = base-read (pre .0) in omega (arith, surrender-few .ensures .work-long)
 
 add-other : tie.Need-add-other
-add-other c = let base : getD (c .before .before .before .before .before .before .before .surrender-few .last .0) (c .before .before .before .before .before .before .before .before .before .before .before .before .args .base) 0 ≡ cells (c .before .before .before .before .before .before .before .before .before .before .before .before .args .work .now) (c .before .before .before .before .before .before .before .before .before .before .before .before .args .base) (c .before .before .before .before .before .before .before .before .before .before .before .before .args .stride) 0 0 = c .before .before .before .before .before .before .before .surrender-few .ensures .work-out (c .before .before .before .before .before .before .before .before .before .before .before .before .args .base) (inr (let r = row-room (c .before .before .before .before .before .before .before .before .before .before .before .before .pre .0) 0 (c .before .before .before .before .before .before .before .before .before .before .before .before .args .stride) (omega arith) in omega arith)) ∙ ap (λ (z : ℕ). getD (c .before .before .before .before .before .before .before .before .before .before .before .before .args .work .now) z 0) (sym (base-is (c .before .before .before .before .before .before .before .before .before .before .before .before .pre .0))) in let b = base-small (c .before .before .before .before .before .before .before .before .before .before .before .before .pre .0) in let k = c .before .cash .ensures .1 in let z = ap (λ (z : ℕ). getD (c .before .before .before .before .before .before .before .before .before .before .before .before .args .work .now) z 0) (base-is (c .before .before .before .before .before .before .before .before .before .before .before .before .pre .0)) in omega arith
+add-other c =
+    let args = c .before .before .before .before .before .before .before .before .before .before .before .before .args in
+    let work₀ = args .work .now in
+    let stride₀ = args .stride in
+    let base₀ = args .base in
+    let pre = c .before .before .before .before .before .before .before .before .before .before .before .before .pre in
+    let surrender-few = c .before .before .before .before .before .before .before .surrender-few in
+    let base : getD (surrender-few .last .0) base₀ 0 ≡ cells work₀ base₀ stride₀ 0 0 =
+    surrender-few .ensures .work-out base₀ (inr (let r = row-room (pre .0) 0 stride₀ (omega arith) in omega arith))
+    ∙ ap (λ (z : ℕ). getD work₀ z 0) (sym (base-is (pre .0))) in
+    let b = base-small (pre .0) in
+    let k = c .before .cash .ensures .1 in
+    let z = ap (λ (z : ℕ). getD work₀ z 0) (base-is (pre .0)) in
+    omega arith
 
 mul-offer-same : tie.Need-mul-offer-same
-mul-offer-same c = let r = row-long (c .before .before .before .before .before .before .before .before .before .before .before .before .before .before .pre .0) (c .before .before .before .before .before .before .before .before .before .before .before .before .before .before .args .level) 0 (omega (arith, c .before .before .before .before .before .before .before .before .before .before .before .before .before .before .pre .0 .level-is)) in omega arith
+mul-offer-same c =
+    let args = c .before .before .before .before .before .before .before .before .before .before .before .before .before .before .args in
+    let pre = c .before .before .before .before .before .before .before .before .before .before .before .before .before .before .pre in
+    let r = row-long (pre .0) (args .level) 0 (omega (arith, pre .0 .level-is)) in omega arith
 
 add-offer-same : tie.Need-add-offer-same
-add-offer-same c = let r = row-long (c .before .before .before .before .before .before .before .before .before .before .before .before .before .before .pre .0) (c .before .before .before .before .before .before .before .before .before .before .before .before .before .before .args .level) 0 (omega (arith, c .before .before .before .before .before .before .before .before .before .before .before .before .before .before .pre .0 .level-is)) in omega arith
+add-offer-same c =
+    let args = c .before .before .before .before .before .before .before .before .before .before .before .before .before .before .args in
+    let pre = c .before .before .before .before .before .before .before .before .before .before .before .before .before .before .pre in
+    let r = row-long (pre .0) (args .level) 0 (omega (arith, pre .0 .level-is)) in omega arith
 
 sub-offer-same : tie.Need-sub-offer-same
 sub-offer-same c = omega (arith, c .before .before .before .before .before .before .before .before .before .before .before .before .before .before .pre .0 .level-is)
@@ -42,21 +67,49 @@ cast-offer-same : tie.Need-cast-offer-same
 cast-offer-same c = omega (arith, c .before .before .before .before .before .before .before .before .before .before .before .before .before .before .pre .0 .account)
 
 offer-same-requires : tie.Need-offer-same-requires
-offer-same-requires c κs = let r = row-long (c .before .before .before .before .before .before .before .before .before .before .before .before .before .before .pre .0) (c .before .before .before .before .before .before .before .before .before .before .before .before .before .before .args .level) (c .before .before .before .before .before .before .before .before .before .before .before .before .before .before .args .stride - c .before .before .before .before .before .before .before .before .before .before .before .before .before .before .args .level) (omega (arith, c .before .before .before .before .before .before .before .before .before .before .before .before .before .before .pre .0 .level-is)) in let t = table-long (c .before .before .before .before .before .before .before .before .before .before .before .before .before .before .pre .0) (c .before .before .before .before .before .before .before .before .before .before .before .before .before .before .args .level) (c .before .before .before .before .before .before .before .before .before .before .before .before .before .before .args .stride - c .before .before .before .before .before .before .before .before .before .before .before .before .before .before .args .level) (omega (arith, c .before .before .before .before .before .before .before .before .before .before .before .before .before .before .pre .0 .level-is)) in (omega (arith, c .before .before .before .before .before .before .before .before .before .surrender-few .ensures .work-long), omega (arith, c .before .before .before .before .before .before .before .before .before .surrender-few .ensures .table-long))
+offer-same-requires c κs =
+    let args = c .before .before .before .before .before .before .before .before .before .before .before .before .before .before .args in
+    let stride₀ = args .stride in
+    let level₀ = args .level in
+    let pre = c .before .before .before .before .before .before .before .before .before .before .before .before .before .before .pre in
+    let surrender-few = c .before .before .before .before .before .before .before .before .before .surrender-few in
+    let r = row-long (pre .0) level₀ (stride₀ - level₀) (omega (arith, pre .0 .level-is)) in
+    let t = table-long (pre .0) level₀ (stride₀ - level₀) (omega (arith, pre .0 .level-is)) in
+    (omega (arith, surrender-few .ensures .work-long), omega (arith, surrender-few .ensures .table-long))
 
 same-length : tie.Need-same-length
-same-length c = ap length (c .before .before .before .before .offer-same .ensures .values-are) ∙ length-stored _ _ _ _ ∙ c .before .before .before .before .before .before .before .before .before .before .before .before .before .before .surrender-few .ensures .work-long
+same-length c =
+    let surrender-few = c .before .before .before .before .before .before .before .before .before .before .before .before .before .before .surrender-few in
+    let offer-same = c .before .before .before .before .offer-same in
+    ap length (offer-same .ensures .values-are) ∙ length-stored _ _ _ _ ∙ surrender-few .ensures .work-long
 
 same-length-2 : tie.Need-same-length-2
-same-length-2 c = ap length (c .before .before .before .before .offer-same .ensures .amounts-are) ∙ length-stored _ _ _ _ ∙ c .before .before .before .before .before .before .before .before .before .before .before .before .before .before .surrender-few .ensures .table-long
+same-length-2 c =
+    let surrender-few = c .before .before .before .before .before .before .before .before .before .before .before .before .before .before .surrender-few in
+    let offer-same = c .before .before .before .before .offer-same in
+    ap length (offer-same .ensures .amounts-are) ∙ length-stored _ _ _ _ ∙ surrender-few .ensures .table-long
 
 returns : tie.Need-returns
 returns c =
-    let base : getD (c .before .before .before .before .before .before .before .before .before .before .before .before .before .before .surrender-few .last .0) (c .before .before .before .before .before .before .before .before .before .before .before .before .before .before .before .before .before .before .before .args .base) 0 ≡ cells (c .before .before .before .before .before .before .before .before .before .before .before .before .before .before .before .before .before .before .before .args .work .now) (c .before .before .before .before .before .before .before .before .before .before .before .before .before .before .before .before .before .before .before .args .base) (c .before .before .before .before .before .before .before .before .before .before .before .before .before .before .before .before .before .before .before .args .stride) 0 0 = c .before .before .before .before .before .before .before .before .before .before .before .before .before .before .surrender-few .ensures .work-out (c .before .before .before .before .before .before .before .before .before .before .before .before .before .before .before .before .before .before .before .args .base) (inr (let r = row-room (c .before .before .before .before .before .before .before .before .before .before .before .before .before .before .before .before .before .before .before .pre .0) 0 (c .before .before .before .before .before .before .before .before .before .before .before .before .before .before .before .before .before .before .before .args .stride) (omega arith) in omega arith)) ∙ ap (λ (z : ℕ). getD (c .before .before .before .before .before .before .before .before .before .before .before .before .before .before .before .before .before .before .before .args .work .now) z 0) (sym (base-is (c .before .before .before .before .before .before .before .before .before .before .before .before .before .before .before .before .before .before .before .pre .0))) in
-    let few : min (c .before .before .before .before .before .before .before .before .before .before .before .before .before .before .before .before .before .before .before .args .level) (c .before .before .before .before .before .before .before .before .before .before .before .before .before .before .before .before .before .before .before .args .w) ≡ c .before .before .before .before .before .before .before .before .before .before .before .before .before .before .before .before .before .before .before .args .level = omega arith in
-    let before = subst (λ (z : ℕ). Settled (mixedBelow z) (cells (c .before .before .before .before .before .before .before .before .before .before .before .before .before .before .before .before .before .before .before .args .work .now) (c .before .before .before .before .before .before .before .before .before .before .before .before .before .before .before .before .before .before .before .args .base) (c .before .before .before .before .before .before .before .before .before .before .before .before .before .before .before .before .before .before .before .args .stride)) (c .before .before .before .before .before .before .before .before .before .before .before .before .before .before .before .before .before .before .before .args .rate) (c .before .before .before .before .before .before .before .before .before .before .before .before .before .before .before .before .before .before .before .args .level) (c .before .before .before .before .before .before .before .before .before .before .before .before .before .before .before .before .before .before .before .args .w) (c .before .before .before .before .before .before .before .before .before .before .before .before .before .before .before .before .before .before .before .args .work .now) (c .before .before .before .before .before .before .before .before .before .before .before .before .before .before .before .before .before .before .before .args .table .now) (c .before .before .before .before .before .before .before .before .before .before .before .before .before .before .surrender-few .last .0) (c .before .before .before .before .before .before .before .before .before .before .before .before .before .before .surrender-few .last .1 .0) (c .before .before .before .before .before .before .before .before .before .before .before .before .before .before .before .before .before .before .before .args .w * c .before .before .before .before .before .before .before .before .before .before .before .before .before .before .before .before .before .before .before .args .stride) (c .before .before .before .before .before .before .before .before .before .before .before .before .before .before .before .before .before .before .before .args .stride)) few (c .before .before .before .before .before .before .before .before .before .before .before .before .before .before .surrender-few .ensures) in
-    let all = mixed-run (c .before .before .before .before .before .before .before .before .before .before .before .before .before .before .before .before .before .before .before .args .level) before _ (c .before .before .before .before .offer-same .ensures) (omega (arith, c .before .before .before .before .before .before .before .before .before .before .before .before .before .before .before .before .before .before .before .pre .0 .level-is)) (let z = row-long (c .before .before .before .before .before .before .before .before .before .before .before .before .before .before .before .before .before .before .before .pre .0) 0 (c .before .before .before .before .before .before .before .before .before .before .before .before .before .before .before .before .before .before .before .args .stride) (omega arith) in omega arith) (let z = table-long (c .before .before .before .before .before .before .before .before .before .before .before .before .before .before .before .before .before .before .before .pre .0) 0 (c .before .before .before .before .before .before .before .before .before .before .before .before .before .before .before .before .before .before .before .args .stride) (omega arith) in omega arith) (λ i l. subst (λ (z : ℕ). z < c .before .before .before .before .before .before .before .before .before .before .before .before .before .before .before .before .before .before .before .args .w) (sym (level-free (c .before .before .before .before .before .before .before .before .before .before .before .before .before .before .before .before .before .before .before .args .level) i)) (c .before .before .before .before .before .before .before .before .before .if1 .taken)) (λ i l. surrender-worth (cells (c .before .before .before .before .before .before .before .before .before .before .before .before .before .before .before .before .before .before .before .args .work .now) (c .before .before .before .before .before .before .before .before .before .before .before .before .before .before .before .before .before .before .before .args .base) (c .before .before .before .before .before .before .before .before .before .before .before .before .before .before .before .before .before .before .before .args .stride)) (c .before .before .before .before .before .before .before .before .before .before .before .before .before .before .before .before .before .before .before .args .rate) (c .before .before .before .before .before .before .before .before .before .before .before .before .before .before .before .before .before .before .before .args .level) (c .before .before .before .before .before .before .before .before .before .before .before .before .before .before .before .before .before .before .before .args .w) (c .before .before .before .before .before .before .before .before .before .before .before .before .before .before .before .before .before .before .before .args .level + i) (c .before .before .before .before .before .before .before .before .before .before .before .before .before .before .before .before .before .before .before .args .level) (c .before .before .before .before .before .before .before .before .cash .result) (level-free (c .before .before .before .before .before .before .before .before .before .before .before .before .before .before .before .before .before .before .before .args .level) i) (c .before .before .before .before .before .before .before .before .before .if1 .taken) (c .before .before .before .before .before .before .before .before .cash .ensures .0) ∙ ap (λ (z : ℕ). c .before .before .before .before .before .before .before .before .cash .result + z) (sym base)) in
-    mixed-rest _ all (λ a h l. absurd (omega (arith, c .before .before .before .before .before .before .before .before .before .before .before .before .before .before .before .before .before .before .before .pre .0 .level-is)))
+    let args = c .before .before .before .before .before .before .before .before .before .before .before .before .before .before .before .before .before .before .before .args in
+    let work₀ = args .work .now in
+    let stride₀ = args .stride in
+    let level₀ = args .level in
+    let base₀ = args .base in
+    let rate₀ = args .rate in
+    let w₀ = args .w in
+    let pre = c .before .before .before .before .before .before .before .before .before .before .before .before .before .before .before .before .before .before .before .pre in
+    let surrender-few = c .before .before .before .before .before .before .before .before .before .before .before .before .before .before .surrender-few in
+    let if1 = c .before .before .before .before .before .before .before .before .before .if1 in
+    let cash = c .before .before .before .before .before .before .before .before .cash in
+    let offer-same = c .before .before .before .before .offer-same in
+    let base : getD (surrender-few .last .0) base₀ 0 ≡ cells work₀ base₀ stride₀ 0 0 =
+    surrender-few .ensures .work-out base₀ (inr (let r = row-room (pre .0) 0 stride₀ (omega arith) in omega arith))
+    ∙ ap (λ (z : ℕ). getD work₀ z 0) (sym (base-is (pre .0))) in
+    let few : min level₀ w₀ ≡ level₀ = omega arith in
+    let before = subst (λ (z : ℕ). Settled (mixedBelow z) (cells work₀ base₀ stride₀) rate₀ level₀ w₀ work₀ (args .table .now) (surrender-few .last .0) (surrender-few .last .1 .0) (w₀ * stride₀) stride₀) few (surrender-few .ensures) in
+    let all = mixed-run level₀ before _ (offer-same .ensures) (omega (arith, pre .0 .level-is)) (let z = row-long (pre .0) 0 stride₀ (omega arith) in omega arith) (let z = table-long (pre .0) 0 stride₀ (omega arith) in omega arith) (λ i l. subst (λ (z : ℕ). z < w₀) (sym (level-free level₀ i)) (if1 .taken)) (λ i l. surrender-worth (cells work₀ base₀ stride₀) rate₀ level₀ w₀ (level₀ + i) level₀ (cash .result) (level-free level₀ i) (if1 .taken) (cash .ensures .0) ∙ ap (λ (z : ℕ). cash .result + z) (sym base)) in
+    mixed-rest _ all (λ a h l. absurd (omega (arith, pre .0 .level-is)))
 
 same-length-3 : tie.Need-same-length-3
 same-length-3 c = c .before .before .before .before .before .surrender-few .ensures .work-long
@@ -65,7 +118,10 @@ same-length-4 : tie.Need-same-length-4
 same-length-4 c = c .before .before .before .before .before .surrender-few .ensures .table-long
 
 returns-2 : tie.Need-returns-2
-returns-2 c = mixed-rest _ (c .before .before .before .before .before .surrender-few .ensures) (λ a h l. none-above (c .before .before .before .before .before .before .before .before .before .before .args .level) (c .before .before .before .before .before .before .before .before .before .before .args .w) a (c .if1 .left) h)
+returns-2 c =
+    let args = c .before .before .before .before .before .before .before .before .before .before .args in
+    let surrender-few = c .before .before .before .before .before .surrender-few in
+    mixed-rest _ (surrender-few .ensures) (λ a h l. none-above (args .level) (args .w) a (c .if1 .left) h)
 
 pub surrender-row-spec : {M : Type 1} → statement M
 surrender-row-spec =

@@ -36,25 +36,55 @@ sub-w c = omega arith
 
 decide-row-requires : tie.Need-decide-row-requires Inv-loop μ-loop
 decide-row-requires c κs =
-    let up : c .before .before .before .loop .w ≡ c .before .before .before .loop .w - 1 + 1 = omega arith in
-    let h : c .before .before .before .loop .w - 1 + 1 ≤ c .before .before .before .before .before .before .before .before .before .args .n = omega arith in
-    let x = subst (λ (k : ℕ). Decided (c .before .before .before .before .before .before .before .before .before .args .work .now) (c .before .before .before .loop .work) (c .before .before .before .before .before .before .before .before .before .args .stride) k (c .before .before .before .before .before .before .before .before .before .args .n) (bestValue (behaviourOf (c .before .before .before .before .before .before .before .before .before .args .behaviour)) (cells (c .before .before .before .before .before .before .before .before .before .args .work .now) (c .before .before .before .before .before .before .before .before .before .args .base) (c .before .before .before .before .before .before .before .before .before .args .stride)) (c .before .before .before .before .before .before .before .before .before .args .rate) (c .before .before .before .before .before .before .before .before .before .args .level))) up (c .before .before .before .loop .inv .1) in
-    let y = subst (λ (k : ℕ). Decided (c .before .before .before .before .before .before .before .before .before .args .table .now) (c .before .before .before .loop .table) (c .before .before .before .before .before .before .before .before .before .args .stride) k (c .before .before .before .before .before .before .before .before .before .args .n) (bestAmount (behaviourOf (c .before .before .before .before .before .before .before .before .before .args .behaviour)) (cells (c .before .before .before .before .before .before .before .before .before .args .work .now) (c .before .before .before .before .before .before .before .before .before .args .base) (c .before .before .before .before .before .before .before .before .before .args .stride)) (c .before .before .before .before .before .before .before .before .before .args .rate) (c .before .before .before .before .before .before .before .before .before .args .level))) up (c .before .before .before .loop .inv .2) in
-    next-row (c .before .before .before .before .before .before .before .before .before .pre .0) (c .before .before .before .loop .w - 1) h x y (below-most (c .before .before .before .before .before .before .before .before .before .args .level) (c .before .before .before .before .before .before .before .before .before .args .stride) (c .before .before .before .before .before .before .smaller .result) (c .before .before .before .before .before .before .before .before .before .pre .1) (c .before .before .before .before .before .before .smaller .ensures)) (c .before .before .before .before .rising .ensures)
+    let args = c .before .before .before .before .before .before .before .before .before .args in
+    let work₀ = args .work .now in
+    let behaviour₀ = args .behaviour in
+    let stride₀ = args .stride in
+    let level₀ = args .level in
+    let base₀ = args .base in
+    let rate₀ = args .rate in
+    let n₀ = args .n in
+    let pre = c .before .before .before .before .before .before .before .before .before .pre in
+    let smaller = c .before .before .before .before .before .before .smaller in
+    let rising = c .before .before .before .before .rising in
+    let loop = c .before .before .before .loop in
+    let w' = loop .w in
+    let up : w' ≡ w' - 1 + 1 = omega arith in
+    let h : w' - 1 + 1 ≤ n₀ = omega arith in
+    let x = subst (λ (k : ℕ). Decided work₀ (loop .work) stride₀ k n₀ (bestValue (behaviourOf behaviour₀) (cells work₀ base₀ stride₀) rate₀ level₀)) up (loop .inv .1) in
+    let y = subst (λ (k : ℕ). Decided (args .table .now) (loop .table) stride₀ k n₀ (bestAmount (behaviourOf behaviour₀) (cells work₀ base₀ stride₀) rate₀ level₀)) up (loop .inv .2) in
+    next-row (pre .0) (w' - 1) h x y (below-most level₀ stride₀ (smaller .result) (pre .1) (smaller .ensures)) (rising .ensures)
 
 loop-less : tie.Need-loop-less Inv-loop μ-loop
 loop-less c = omega arith
 
 loop-again : tie.Need-loop-again Inv-loop μ-loop
 loop-again c =
-    let up : c .before .before .before .before .before .before .before .before .loop .w ≡ c .before .before .before .before .before .before .before .before .loop .w - 1 + 1 = omega arith in
-    let h : c .before .before .before .before .before .before .before .before .loop .w - 1 + 1 ≤ c .before .before .before .before .before .before .before .before .before .before .before .before .before .before .args .n = omega arith in
-    let x = subst (λ (k : ℕ). Decided (c .before .before .before .before .before .before .before .before .before .before .before .before .before .before .args .work .now) (c .before .before .before .before .before .before .before .before .loop .work) (c .before .before .before .before .before .before .before .before .before .before .before .before .before .before .args .stride) k (c .before .before .before .before .before .before .before .before .before .before .before .before .before .before .args .n) (bestValue (behaviourOf (c .before .before .before .before .before .before .before .before .before .before .before .before .before .before .args .behaviour)) (cells (c .before .before .before .before .before .before .before .before .before .before .before .before .before .before .args .work .now) (c .before .before .before .before .before .before .before .before .before .before .before .before .before .before .args .base) (c .before .before .before .before .before .before .before .before .before .before .before .before .before .before .args .stride)) (c .before .before .before .before .before .before .before .before .before .before .before .before .before .before .args .rate) (c .before .before .before .before .before .before .before .before .before .before .before .before .before .before .args .level))) up (c .before .before .before .before .before .before .before .before .loop .inv .1) in
-    let y = subst (λ (k : ℕ). Decided (c .before .before .before .before .before .before .before .before .before .before .before .before .before .before .args .table .now) (c .before .before .before .before .before .before .before .before .loop .table) (c .before .before .before .before .before .before .before .before .before .before .before .before .before .before .args .stride) k (c .before .before .before .before .before .before .before .before .before .before .before .before .before .before .args .n) (bestAmount (behaviourOf (c .before .before .before .before .before .before .before .before .before .before .before .before .before .before .args .behaviour)) (cells (c .before .before .before .before .before .before .before .before .before .before .before .before .before .before .args .work .now) (c .before .before .before .before .before .before .before .before .before .before .before .before .before .before .args .base) (c .before .before .before .before .before .before .before .before .before .before .before .before .before .before .args .stride)) (c .before .before .before .before .before .before .before .before .before .before .before .before .before .before .args .rate) (c .before .before .before .before .before .before .before .before .before .before .before .before .before .before .args .level))) up (c .before .before .before .before .before .before .before .before .loop .inv .2) in
-    let r = c .before .before .before .before .before .before .before .before .before .before .before .before .before .before .pre .0 .room in
-    let values = decided-row (c .before .before .before .before .before .before .before .before .loop .w - 1) _ x (omega arith) (omega (arith, r .room, r .apart)) (value-row (c .before .before .before .before .before .before .before .before .before .before .before .before .before .before .pre .0) (c .before .before .before .before .before .before .before .before .loop .w - 1) h x y (behaviourOf (c .before .before .before .before .before .before .before .before .before .before .before .before .before .before .args .behaviour)) (c .before .before .before .before .before .before .before .before .before .before .before .before .before .before .args .level) (c .before .before .before .before .before .before .before .before .before .before .before .smaller .result) (c .before .before .before .before .before .before .before .before .before .before .before .smaller .ensures)) in
-    let amounts = decided-row (c .before .before .before .before .before .before .before .before .loop .w - 1) _ y (omega arith) (r .entries) (amount-row (c .before .before .before .before .before .before .before .before .before .before .before .before .before .before .pre .0) (c .before .before .before .before .before .before .before .before .loop .w - 1) h x y (behaviourOf (c .before .before .before .before .before .before .before .before .before .before .before .before .before .before .args .behaviour)) (c .before .before .before .before .before .before .before .before .before .before .before .before .before .before .args .level) (c .before .before .before .before .before .before .before .before .before .before .before .smaller .result) (c .before .before .before .before .before .before .before .before .before .before .before .smaller .ensures)) in
-    (omega arith, subst (λ (xs : List ℕ). Decided (c .before .before .before .before .before .before .before .before .before .before .before .before .before .before .args .work .now) xs (c .before .before .before .before .before .before .before .before .before .before .before .before .before .before .args .stride) (c .before .before .before .before .before .before .before .before .loop .w - 1) (c .before .before .before .before .before .before .before .before .before .before .before .before .before .before .args .n) (bestValue (behaviourOf (c .before .before .before .before .before .before .before .before .before .before .before .before .before .before .args .behaviour)) (cells (c .before .before .before .before .before .before .before .before .before .before .before .before .before .before .args .work .now) (c .before .before .before .before .before .before .before .before .before .before .before .before .before .before .args .base) (c .before .before .before .before .before .before .before .before .before .before .before .before .before .before .args .stride)) (c .before .before .before .before .before .before .before .before .before .before .before .before .before .before .args .rate) (c .before .before .before .before .before .before .before .before .before .before .before .before .before .before .args .level))) (sym (c .before .before .before .before .decide-row .ensures .0)) values, subst (λ (xs : List ℕ). Decided (c .before .before .before .before .before .before .before .before .before .before .before .before .before .before .args .table .now) xs (c .before .before .before .before .before .before .before .before .before .before .before .before .before .before .args .stride) (c .before .before .before .before .before .before .before .before .loop .w - 1) (c .before .before .before .before .before .before .before .before .before .before .before .before .before .before .args .n) (bestAmount (behaviourOf (c .before .before .before .before .before .before .before .before .before .before .before .before .before .before .args .behaviour)) (cells (c .before .before .before .before .before .before .before .before .before .before .before .before .before .before .args .work .now) (c .before .before .before .before .before .before .before .before .before .before .before .before .before .before .args .base) (c .before .before .before .before .before .before .before .before .before .before .before .before .before .before .args .stride)) (c .before .before .before .before .before .before .before .before .before .before .before .before .before .before .args .rate) (c .before .before .before .before .before .before .before .before .before .before .before .before .before .before .args .level))) (sym (c .before .before .before .before .decide-row .ensures .1)) amounts)
+    let args = c .before .before .before .before .before .before .before .before .before .before .before .before .before .before .args in
+    let table₀ = args .table .now in
+    let work₀ = args .work .now in
+    let behaviour₀ = args .behaviour in
+    let stride₀ = args .stride in
+    let level₀ = args .level in
+    let base₀ = args .base in
+    let rate₀ = args .rate in
+    let n₀ = args .n in
+    let pre = c .before .before .before .before .before .before .before .before .before .before .before .before .before .before .pre in
+    let smaller = c .before .before .before .before .before .before .before .before .before .before .before .smaller in
+    let loop = c .before .before .before .before .before .before .before .before .loop in
+    let w' = loop .w in
+    let decide-row = c .before .before .before .before .decide-row in
+    let up : w' ≡ w' - 1 + 1 = omega arith in
+    let h : w' - 1 + 1 ≤ n₀ = omega arith in
+    let x = subst (λ (k : ℕ). Decided work₀ (loop .work) stride₀ k n₀ (bestValue (behaviourOf behaviour₀) (cells work₀ base₀ stride₀) rate₀ level₀)) up (loop .inv .1) in
+    let y = subst (λ (k : ℕ). Decided table₀ (loop .table) stride₀ k n₀ (bestAmount (behaviourOf behaviour₀) (cells work₀ base₀ stride₀) rate₀ level₀)) up (loop .inv .2) in
+    let r = pre .0 .room in
+    let values = decided-row (w' - 1) _ x (omega arith) (omega (arith, r .room, r .apart)) (value-row (pre .0) (w' - 1) h x y (behaviourOf behaviour₀) level₀ (smaller .result) (smaller .ensures)) in
+    let amounts = decided-row (w' - 1) _ y (omega arith) (r .entries) (amount-row (pre .0) (w' - 1) h x y (behaviourOf behaviour₀) level₀ (smaller .result) (smaller .ensures)) in (
+      omega arith,
+      subst (λ (xs : List ℕ). Decided work₀ xs stride₀ (w' - 1) n₀ (bestValue (behaviourOf behaviour₀) (cells work₀ base₀ stride₀) rate₀ level₀)) (sym (decide-row .ensures .0)) values,
+      subst (λ (xs : List ℕ). Decided table₀ xs stride₀ (w' - 1) n₀ (bestAmount (behaviourOf behaviour₀) (cells work₀ base₀ stride₀) rate₀ level₀)) (sym (decide-row .ensures .1)) amounts,
+    )
 
 same-length : tie.Need-same-length Inv-loop μ-loop
 same-length c = c .before .loop .inv .1 .long
@@ -64,9 +94,21 @@ same-length-2 c = c .before .loop .inv .2 .long
 
 returns : tie.Need-returns Inv-loop μ-loop
 returns c =
-    let z : c .before .loop .w ≡ 0 = omega arith in
-    let r = c .before .before .before .before .before .before .before .pre .0 .room in
-    (decided-all (subst (λ (k : ℕ). Decided (c .before .before .before .before .before .before .before .args .work .now) (c .before .loop .work) (c .before .before .before .before .before .before .before .args .stride) k (c .before .before .before .before .before .before .before .args .n) (bestValue (behaviourOf (c .before .before .before .before .before .before .before .args .behaviour)) (cells (c .before .before .before .before .before .before .before .args .work .now) (c .before .before .before .before .before .before .before .args .base) (c .before .before .before .before .before .before .before .args .stride)) (c .before .before .before .before .before .before .before .args .rate) (c .before .before .before .before .before .before .before .args .level))) z (c .before .loop .inv .1)) (c .before .before .before .before .before .before .before .pre .1) (omega (arith, r .room, r .apart)), decided-all (subst (λ (k : ℕ). Decided (c .before .before .before .before .before .before .before .args .table .now) (c .before .loop .table) (c .before .before .before .before .before .before .before .args .stride) k (c .before .before .before .before .before .before .before .args .n) (bestAmount (behaviourOf (c .before .before .before .before .before .before .before .args .behaviour)) (cells (c .before .before .before .before .before .before .before .args .work .now) (c .before .before .before .before .before .before .before .args .base) (c .before .before .before .before .before .before .before .args .stride)) (c .before .before .before .before .before .before .before .args .rate) (c .before .before .before .before .before .before .before .args .level))) z (c .before .loop .inv .2)) (c .before .before .before .before .before .before .before .pre .1) (r .entries))
+    let args = c .before .before .before .before .before .before .before .args in
+    let work₀ = args .work .now in
+    let behaviour₀ = args .behaviour in
+    let stride₀ = args .stride in
+    let level₀ = args .level in
+    let base₀ = args .base in
+    let rate₀ = args .rate in
+    let n₀ = args .n in
+    let pre = c .before .before .before .before .before .before .before .pre in
+    let loop = c .before .loop in
+    let z : loop .w ≡ 0 = omega arith in
+    let r = pre .0 .room in (
+      decided-all (subst (λ (k : ℕ). Decided work₀ (loop .work) stride₀ k n₀ (bestValue (behaviourOf behaviour₀) (cells work₀ base₀ stride₀) rate₀ level₀)) z (loop .inv .1)) (pre .1) (omega (arith, r .room, r .apart)),
+      decided-all (subst (λ (k : ℕ). Decided (args .table .now) (loop .table) stride₀ k n₀ (bestAmount (behaviourOf behaviour₀) (cells work₀ base₀ stride₀) rate₀ level₀)) z (loop .inv .2)) (pre .1) (r .entries),
+    )
 
 pub decide-layer-spec : {M : Type 1} → statement M
 decide-layer-spec =

@@ -10,7 +10,11 @@ use Rattle.states.proofs.decide_row.Statement.{statement}
 use Rattle.states.proofs.decide_row.Tie as tie
 
 dynamic-row-requires : tie.Need-dynamic-row-requires
-dynamic-row-requires c κs = subst (λ (z : ℕ). Row z (c .before .before .before .before .before .args .work .now) (c .before .before .before .before .before .args .table .now) (c .before .before .before .before .before .args .base) (c .before .before .before .before .before .args .stride) (c .before .before .before .before .before .args .w) (c .before .before .before .before .before .args .level) (c .before .before .before .before .before .args .rate) (c .before .before .before .before .before .args .rising)) (c .before .before .if1 .taken) (c .before .before .before .before .before .pre)
+dynamic-row-requires c κs =
+    let args = c .before .before .before .before .before .args in
+    let pre = c .before .before .before .before .before .pre in
+    let if1 = c .before .before .if1 in
+    subst (λ (z : ℕ). Row z (args .work .now) (args .table .now) (args .base) (args .stride) (args .w) (args .level) (args .rate) (args .rising)) (if1 .taken) pre
 
 plain-row-requires : tie.Need-plain-row-requires
 plain-row-requires c κs = (omega (arith, c .before .before .before .before .before .pre .known), row-plain (c .before .before .before .before .before .pre), c .before .before .before .before .before .pre .rate-is)

@@ -31,21 +31,52 @@ smaller-requires : tie.Need-smaller-requires Inv-loop μ-loop
 smaller-requires c κs = search needs
 
 dynamic-run-requires : tie.Need-dynamic-run-requires Inv-loop μ-loop
-dynamic-run-requires c κs = let e = c .before .before .smaller .ensures in (subst₂ (λ (xs ys : List ℕ). Row 2 xs ys (c .before .before .before .before .before .before .before .args .base) (c .before .before .before .before .before .before .before .args .stride) (c .before .before .before .before .before .before .before .args .w) (c .before .before .before .before .before .before .before .args .level) (c .before .before .before .before .before .before .before .args .rate) (c .before .before .before .before .before .before .before .args .rising)) (sym (c .before .before .before .before .loop .inv .1)) (sym (c .before .before .before .before .loop .inv .2)) (row-on (c .before .before .before .before .before .before .before .pre) _ _ (c .before .before .before .before .loop .from) (c .before .before .before .before .loop .inv .0)), omega arith, omega arith)
+dynamic-run-requires c κs =
+    let args = c .before .before .before .before .before .before .before .args in
+    let pre = c .before .before .before .before .before .before .before .pre in
+    let loop = c .before .before .before .before .loop in
+    let smaller = c .before .before .smaller in
+    let e = smaller .ensures in (
+      subst₂ (λ (xs ys : List ℕ). Row 2 xs ys (args .base) (args .stride) (args .w) (args .level) (args .rate) (args .rising)) (sym (loop .inv .1)) (sym (loop .inv .2)) (row-on pre _ _ (loop .from) (loop .inv .0)),
+      omega arith,
+      omega arith,
+    )
 
 add-from : tie.Need-add-from Inv-loop μ-loop
-add-from c = let e = c .before .before .before .before .before .before .before .smaller .ensures in omega (arith, c .before .before .before .before .before .before .before .before .before .before .before .before .pre .width)
+add-from c =
+    let pre = c .before .before .before .before .before .before .before .before .before .before .before .before .pre in
+    let smaller = c .before .before .before .before .before .before .before .smaller in
+    let e = smaller .ensures in omega (arith, pre .width)
 
 loop-less : tie.Need-loop-less Inv-loop μ-loop
 loop-less c = let e = c .before .before .before .before .before .before .before .smaller .ensures in omega arith
 
 loop-again : tie.Need-loop-again Inv-loop μ-loop
 loop-again c =
-    let e = c .before .before .before .before .before .before .before .smaller .ensures in
-    let sums = ap (λ (xs : List ℕ). cells xs (c .before .before .before .before .before .before .before .before .before .before .before .before .args .base) (c .before .before .before .before .before .before .before .before .before .before .before .before .args .stride)) (c .before .before .before .before .before .before .before .before .before .loop .inv .1) ∙ sums-kept (c .before .before .before .before .before .before .before .before .before .before .before .before .pre) _ (λ x. x) (c .before .before .before .before .before .before .before .before .before .loop .from) (c .before .before .before .before .before .before .before .before .before .loop .inv .0) in
-    let value = ap (λ (xs : List ℕ). stored xs (c .before .before .before .before .before .before .before .before .before .before .before .before .args .w * c .before .before .before .before .before .before .before .before .before .before .before .before .args .stride + c .before .before .before .before .before .before .before .before .before .loop .from) (λ j. bestValue dynamic (cells (c .before .before .before .before .before .before .before .before .before .loop .work) (c .before .before .before .before .before .before .before .before .before .before .before .before .args .base) (c .before .before .before .before .before .before .before .before .before .before .before .before .args .stride)) (c .before .before .before .before .before .before .before .before .before .before .before .before .args .rate) (c .before .before .before .before .before .before .before .before .before .before .before .before .args .level) (c .before .before .before .before .before .before .before .before .before .before .before .before .args .w) (c .before .before .before .before .before .before .before .before .before .loop .from + j)) (c .before .before .before .before .before .before .before .smaller .result)) (c .before .before .before .before .before .before .before .before .before .loop .inv .1) in
-    let amount = ap (λ (xs : List ℕ). stored xs (c .before .before .before .before .before .before .before .before .before .before .before .before .args .w * c .before .before .before .before .before .before .before .before .before .before .before .before .args .stride + c .before .before .before .before .before .before .before .before .before .loop .from) (λ j. bestAmount dynamic (cells (c .before .before .before .before .before .before .before .before .before .loop .work) (c .before .before .before .before .before .before .before .before .before .before .before .before .args .base) (c .before .before .before .before .before .before .before .before .before .before .before .before .args .stride)) (c .before .before .before .before .before .before .before .before .before .before .before .before .args .rate) (c .before .before .before .before .before .before .before .before .before .before .before .before .args .level) (c .before .before .before .before .before .before .before .before .before .before .before .before .args .w) (c .before .before .before .before .before .before .before .before .before .loop .from + j)) (c .before .before .before .before .before .before .before .smaller .result)) (c .before .before .before .before .before .before .before .before .before .loop .inv .2) in
-    (omega arith, c .before .before .before .before .dynamic-run .ensures .0 ∙ value ∙ stored-join (c .before .before .before .before .before .before .before .before .before .before .before .before .args .work .now) (c .before .before .before .before .before .before .before .before .before .before .before .before .args .w * c .before .before .before .before .before .before .before .before .before .before .before .before .args .stride) _ _ (c .before .before .before .before .before .before .before .before .before .loop .from) (c .before .before .before .before .before .before .before .smaller .result) (λ j l. ap (λ (s : ℕ → ℕ → ℕ). bestValue dynamic s (c .before .before .before .before .before .before .before .before .before .before .before .before .args .rate) (c .before .before .before .before .before .before .before .before .before .before .before .before .args .level) (c .before .before .before .before .before .before .before .before .before .before .before .before .args .w) (c .before .before .before .before .before .before .before .before .before .loop .from + j)) sums), c .before .before .before .before .dynamic-run .ensures .1 ∙ amount ∙ stored-join (c .before .before .before .before .before .before .before .before .before .before .before .before .args .table .now) (c .before .before .before .before .before .before .before .before .before .before .before .before .args .w * c .before .before .before .before .before .before .before .before .before .before .before .before .args .stride) _ _ (c .before .before .before .before .before .before .before .before .before .loop .from) (c .before .before .before .before .before .before .before .smaller .result) (λ j l. ap (λ (s : ℕ → ℕ → ℕ). bestAmount dynamic s (c .before .before .before .before .before .before .before .before .before .before .before .before .args .rate) (c .before .before .before .before .before .before .before .before .before .before .before .before .args .level) (c .before .before .before .before .before .before .before .before .before .before .before .before .args .w) (c .before .before .before .before .before .before .before .before .before .loop .from + j)) sums))
+    let args = c .before .before .before .before .before .before .before .before .before .before .before .before .args in
+    let stride₀ = args .stride in
+    let level₀ = args .level in
+    let base₀ = args .base in
+    let rate₀ = args .rate in
+    let w₀ = args .w in
+    let pre = c .before .before .before .before .before .before .before .before .before .before .before .before .pre in
+    let loop = c .before .before .before .before .before .before .before .before .before .loop in
+    let from' = loop .from in
+    let work' = loop .work in
+    let smaller = c .before .before .before .before .before .before .before .smaller in
+    let dynamic-run = c .before .before .before .before .dynamic-run in
+    let e = smaller .ensures in
+    let sums = ap (λ (xs : List ℕ). cells xs base₀ stride₀) (loop .inv .1) ∙ sums-kept pre _ (λ x. x) from' (loop .inv .0) in
+    let value = ap (λ (xs : List ℕ). stored xs (w₀ * stride₀ + from') (λ j. bestValue dynamic (cells work' base₀ stride₀) rate₀ level₀ w₀ (from' + j)) (smaller .result)) (loop .inv .1) in
+    let amount = ap (λ (xs : List ℕ). stored xs (w₀ * stride₀ + from') (λ j. bestAmount dynamic (cells work' base₀ stride₀) rate₀ level₀ w₀ (from' + j)) (smaller .result)) (loop .inv .2) in (
+      omega arith,
+      dynamic-run .ensures .0
+          ∙ value
+          ∙ stored-join (args .work .now) (w₀ * stride₀) _ _ from' (smaller .result) (λ j l. ap (λ (s : ℕ → ℕ → ℕ). bestValue dynamic s rate₀ level₀ w₀ (from' + j)) sums),
+      dynamic-run .ensures .1
+          ∙ amount
+          ∙ stored-join (args .table .now) (w₀ * stride₀) _ _ from' (smaller .result) (λ j l. ap (λ (s : ℕ → ℕ → ℕ). bestAmount dynamic s rate₀ level₀ w₀ (from' + j)) sums),
+    )
 
 same-length : tie.Need-same-length Inv-loop μ-loop
 same-length c = ap length (c .before .loop .inv .1) ∙ length-stored _ _ _ _

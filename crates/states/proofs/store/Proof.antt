@@ -30,7 +30,11 @@ mul-work-2 : tie.Need-mul-work-2 Inv-loop μ-loop
 mul-work-2 c = omega (arith, c .before .before .before .pre .0, c .before .before .before .pre .1, c .before .before .before .pre .2)
 
 slice-write-work : tie.Need-slice-write-work Inv-loop μ-loop
-slice-write-work c = let e : length (c .before .before .loop .work) ≡ length (c .before .before .before .args .work .now) = ap length (c .before .before .loop .inv .1) ∙ length-stored _ _ _ _ in omega (arith, c .before .before .before .pre .1)
+slice-write-work c =
+    let args = c .before .before .before .args in
+    let pre = c .before .before .before .pre in
+    let loop = c .before .before .loop in
+    let e : length (loop .work) ≡ length (args .work .now) = ap length (loop .inv .1) ∙ length-stored _ _ _ _ in omega (arith, pre .1)
 
 mul-table : tie.Need-mul-table Inv-loop μ-loop
 mul-table c = omega (arith, c .before .before .before .pre .0, c .before .before .before .pre .1, c .before .before .before .pre .2)
@@ -48,7 +52,11 @@ mul-table-2 : tie.Need-mul-table-2 Inv-loop μ-loop
 mul-table-2 c = omega (arith, c .before .before .before .before .pre .0, c .before .before .before .before .pre .1, c .before .before .before .before .pre .2)
 
 slice-write-table : tie.Need-slice-write-table Inv-loop μ-loop
-slice-write-table c = let e : length (c .before .before .before .loop .table) ≡ length (c .before .before .before .before .args .table .now) = ap length (c .before .before .before .loop .inv .2) ∙ length-stored _ _ _ _ in omega (arith, c .before .before .before .before .pre .2)
+slice-write-table c =
+    let args = c .before .before .before .before .args in
+    let pre = c .before .before .before .before .pre in
+    let loop = c .before .before .before .loop in
+    let e : length (loop .table) ≡ length (args .table .now) = ap length (loop .inv .2) ∙ length-stored _ _ _ _ in omega (arith, pre .2)
 
 add-j : tie.Need-add-j Inv-loop μ-loop
 add-j c = omega (arith, c .before .before .before .before .pre .0, c .before .before .before .before .pre .1, c .before .before .before .before .pre .2)
@@ -57,7 +65,15 @@ loop-less : tie.Need-loop-less Inv-loop μ-loop
 loop-less c = omega arith
 
 loop-again : tie.Need-loop-again Inv-loop μ-loop
-loop-again c = (omega arith, (λ k. set (c .before .before .before .loop .inv .1 k) (c .before .before .before .before .args .at + c .before .before .before .loop .j) (getD (c .before .before .before .before .args .values .now) (c .before .before .before .loop .j) 0)) ∙ stored-next _ _ _ _, (λ k. set (c .before .before .before .loop .inv .2 k) (c .before .before .before .before .args .at + c .before .before .before .loop .j) (getD (c .before .before .before .before .args .amounts .now) (c .before .before .before .loop .j) 0)) ∙ stored-next _ _ _ _)
+loop-again c =
+    let args = c .before .before .before .before .args in
+    let at₀ = args .at in
+    let loop = c .before .before .before .loop in
+    let j' = loop .j in (
+      omega arith,
+      (λ k. set (loop .inv .1 k) (at₀ + j') (getD (args .values .now) j' 0)) ∙ stored-next _ _ _ _,
+      (λ k. set (loop .inv .2 k) (at₀ + j') (getD (args .amounts .now) j' 0)) ∙ stored-next _ _ _ _,
+    )
 
 same-length : tie.Need-same-length Inv-loop μ-loop
 same-length c = ap length (c .before .loop .inv .1) ∙ length-stored _ _ _ _

@@ -6,11 +6,11 @@ use mathlib.Core.List.{List}
 use mathlib.Core.Path.{_≡_, refl, ap, ap₂, sym, _∙_, subst}
 use native.Mathlib.Nat.{le-trans, le-of-eq, zero-add}
 use native.Mathlib.Omega.{arith}
-use Rattle.choose.specs.State.{State, worthOver}
+use Rattle.choose.specs.State.{worthOver}
 use Rattle.rules.specs.Date.{freeAmount}
 use Rattle.slices.specs.Rows.{cells, rows-step}
 use Rattle.slices.specs.Stored.{stored, stored-next, length-stored}
-use Rattle.supplied.specs.Followed.{followed}
+use Rattle.supplied.specs.Followed.{State, followed}
 use Rattle.supplied.proofs.Laws.{row-room, row-entry, amount-within, sums-kept, state-on, value-small}
 use Rattle.supplied.proofs.follow_row.Statement.{statement}
 use Rattle.supplied.proofs.follow_row.Tie as tie
