@@ -68,6 +68,7 @@ pub struct Size {
     pub level: u16,
     pub dates: u16,
     pub returns: u16,
+    pub penalty: u16,
 }
 
 impl Size {
@@ -78,7 +79,7 @@ impl Size {
             top: self.top,
             dates: self.dates,
             fee: 100,
-            penalty: 500,
+            penalty: self.penalty,
             discount: 970_000,
         };
         terms.input(&spread(self.returns.into()), behaviour)

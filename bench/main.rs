@@ -28,8 +28,26 @@ const fn size(top: u16, premium: u16, level: u16, dates: u16, returns: u16) -> S
         level,
         dates,
         returns,
+        penalty: 500,
     }
 }
+
+/// The size of the second row of `TIMED` at other penalty rates.
+const fn at_penalty(penalty: u16) -> Size {
+    Size {
+        penalty,
+        ..size(400, 200, 10, 20, 32)
+    }
+}
+
+/// How much the engine passes over depends on what withdrawing above m costs.
+const PENALTIES: [Size; 5] = [
+    at_penalty(0),
+    at_penalty(100),
+    at_penalty(500),
+    at_penalty(2_000),
+    at_penalty(10_000),
+];
 
 const TIMED: [(&str, u64, Size); 6] = [
     ("dynamic", DYNAMIC, size(100, 50, 5, 10, 8)),
@@ -204,6 +222,21 @@ fn time_growth(heading: &str, sizes: &[Size]) -> bool {
     right
 }
 
+/// Engine and tuned at penalty rates from 0 to all.
+fn time_penalties() -> bool {
+    println!("\ndynamic, penalty rates (top 400, U 200, G 10, N 20, 32 returns)");
+    println!("penalty     engine      tuned  tuned/engine");
+    let mut right = true;
+    for s in &PENALTIES {
+        let (seconds, equal) = timed(&[ENGINE, TUNED], s, DYNAMIC);
+        right &= equal;
+        let (engine, tuned) = (seconds[0], seconds[1]);
+        let ratio = tuned / engine;
+        println!("{:>7}{engine:>11.5}{tuned:>11.5}{ratio:>14.3}", s.penalty);
+    }
+    right
+}
+
 fn time_all() -> bool {
     let cores = thread::available_parallelism().map_or(0, |n| n.get());
     println!("cores   {cores}; each program uses one");
@@ -213,6 +246,7 @@ fn time_all() -> bool {
     for (heading, sizes) in GROWTH {
         right &= time_growth(heading, sizes);
     }
+    right &= time_penalties();
     if right {
         println!(
             "\nnumbers, values, margins, tables and working slices are equal among all that ran"
