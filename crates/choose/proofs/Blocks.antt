@@ -13,7 +13,8 @@ use lib.Seq.{set-getD}
 use borrow.Author.Tests.{lt-ltb, le-ltb}
 use Rattle.decision.specs.Choice.{Leading, leading-one, leading-first, leading-join, leading-as}
 use Rattle.slices.specs.Stored.{stored, length-stored, stored-next, stored-in, stored-out, stored-first}
-use Rattle.choose.specs.State.{Leads, Offered}
+use Rattle.choose.specs.State.{Leads}
+use Rattle.slices.specs.Offered.{Offered}
 
 -- ---- offers to one state after the other
 pub offered-none : (values amounts : List ℕ) (low : ℕ) (value amount : ℕ → ℕ) → Offered values amounts values amounts low 0 value amount

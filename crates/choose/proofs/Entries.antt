@@ -10,8 +10,9 @@ use Rattle.slices.specs.Rows.{cells, rows-le, rows-step}
 use Rattle.rules.specs.Date.{freeAmount, cash, balanceAfter, guaranteeAfter}
 use Rattle.laws.specs.Date.{guarantee-le}
 use Rattle.laws.specs.Bounds.{cash-le}
-use Rattle.choose.specs.State.{worthOver, freeAt, worthAt, Span, Block, Leads, Furthered}
-use Rattle.choose.proofs.Worth.{free-is, above-is, further-best}
+use Rattle.worth.specs.Worth.{worthOver}
+use Rattle.choose.specs.State.{freeAt, worthAt, Span, Block, Leads, Furthered}
+use Rattle.worth.specs.Laws.{free-is, above-is, further-best}
 
 -- c entries of a row
 pub block-room : {work : List ℕ} {base stride w from n : ℕ} → Span work base stride w from n → (x y c : ℕ) → x ≤ w → y + c ≤ stride → base + (x * stride + y) + c ≤ length work

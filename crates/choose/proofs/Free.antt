@@ -11,7 +11,8 @@ use lib.ListN.{length, getD}
 use borrow.Author.Tests.{lt-ltb, le-ltb}
 use Rattle.decision.specs.Choice.{Leading, leading-join}
 use Rattle.slices.specs.Rows.{cells}
-use Rattle.choose.specs.State.{freeAt, Span, Leads, Offered, triedFree, triedUpto}
+use Rattle.choose.specs.State.{freeAt, Span, Leads, triedFree, triedUpto}
+use Rattle.slices.specs.Offered.{Offered}
 use Rattle.choose.proofs.Blocks.{leading-at, leads-offered}
 use Rattle.choose.proofs.Entries.{block-room}
 

@@ -8,7 +8,8 @@ use lib.ListN.{length, getD}
 use Rattle.decision.specs.Choice.{Leading}
 use Rattle.rules.specs.Date.{freeAmount}
 use Rattle.slices.specs.Rows.{cells, rows-le, rows-step}
-use Rattle.choose.specs.State.{worthAt, Block, Furthered, Leads, Offered, triedBelow}
+use Rattle.choose.specs.State.{worthAt, Block, Furthered, Leads, triedBelow}
+use Rattle.slices.specs.Offered.{Offered}
 use Rattle.choose.proofs.Tried.{leads-run}
 use Rattle.choose.proofs.Entries.{worth-small, further-worth}
 

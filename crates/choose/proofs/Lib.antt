@@ -1,9 +1,8 @@
 pub mod Laws
-pub mod Worth
 pub mod Blocks
 pub mod Tried
 pub mod Entries
 pub mod Free
 pub mod Further
 pub mod Share
-pub mod Settled
+pub mod Chosen

@@ -9,7 +9,8 @@ use native.Mathlib.Omega.{arith}
 use lib.ListN.{length, getD}
 use Rattle.rules.specs.Date.{freeAmount, cash}
 use Rattle.slices.specs.Rows.{cells}
-use Rattle.choose.specs.State.{worthAt, Block, Leads, Offered, Rising, Bounded, triedBelow, triedRun}
+use Rattle.choose.specs.State.{worthAt, Block, Leads, Rising, Bounded, triedBelow, triedRun}
+use Rattle.slices.specs.Offered.{Offered}
 use Rattle.choose.proofs.Blocks.{leading-at, leads-passed, leads-offered}
 use Rattle.choose.proofs.Tried.{below-free, run-in, run-out}
 use Rattle.choose.proofs.Entries.{block-room, worth-small, level-is, share-worth}

@@ -9,7 +9,8 @@ use native.Mathlib.Omega.{arith}
 use borrow.Author.Tests.{lt-ltb, le-ltb}
 use Rattle.decision.specs.Choice.{Leading}
 use Rattle.rules.specs.Date.{freeAmount}
-use Rattle.choose.specs.State.{Leads, Offered, triedBelow, triedRun}
+use Rattle.choose.specs.State.{Leads, triedBelow, triedRun}
+use Rattle.slices.specs.Offered.{Offered}
 use Rattle.choose.proofs.Blocks.{leads-offered}
 
 module _ (level w from : ℕ) where

@@ -1,23 +1,17 @@
-// The value and the recorded amount of the states of one account, from the layer of discounted sums. The dynamic behaviour takes
-// a block of states at a time, up to 64 guarantees in order, with the best value and amount of each in arrays, so that the loops
-// along the guarantee can be widened. Static and mixed go along the row itself.
+// The values and the recorded amounts of the dynamic behaviour, from the layer of discounted sums: a block of states at a time,
+// up to 64 guarantees of one account in order, with the best value and amount of each in arrays, so that the loops along the
+// guarantee can be widened.
 ghost use mathlib.Core.Bool.{true, cond};
 ghost use mathlib.Core.Path.{_≡_};
 ghost use Prim.Native.Nat.{ℕ, _+_, _-_, _*_, _/_, _≤_, _<_, min, max};
 ghost use lib.Dec.{ltb};
 ghost use lib.ListN.{length, getD};
 ghost use Rattle.slices.specs.Stored.{stored};
+ghost use Rattle.slices.specs.Offered.{Offered};
 ghost use Rattle.slices.specs.Rows.{cells};
-ghost use Rattle.rules.specs.Contract.{topMost, rateMost};
-ghost use Rattle.choose.specs.State.{bestValue, bestAmount, staticValue, Furthered, Span, Block, Leads, Offered, Chosen, Settled, Plain, Rising, Bounded, freeAt, worthAt, triedFree, triedUpto, triedBelow, triedRun, mixedBelow};
-ghost use Rattle.rules.specs.Date.{static, mixed, freeAmount};
-ghost use Rattle.rules.specs.Operations.{behaviourOf};
-
-fn pick(held: u32, other: u32, old: u32, new: u32) -> u32
-    ensures { λ r. ⌜ r ≡ cond (ltb held other) new old ⌝ }
-{
-    if held < other { new } else { old }
-}
+ghost use Rattle.rules.specs.Contract.{topMost};
+ghost use Rattle.rules.specs.Date.{freeAmount};
+ghost use Rattle.choose.specs.State.{Furthered, Span, Block, Leads, Chosen, Rising, Bounded, freeAt, worthAt, triedFree, triedUpto, triedBelow, triedRun};
 
 // Amount 0.
 fn start_block(values: &mut [u32; 64], amounts: &mut [u32; 64], work: &[u32], at: usize, n: usize)
@@ -47,8 +41,8 @@ fn offer(
     for i in 0..n {
         let held = values[low + i];
         let other = cash + work[at + i];
-        values[low + i] = pick(held, other, held, other);
-        amounts[low + i] = pick(held, other, amounts[low + i], t);
+        values[low + i] = date::pick(held, other, held, other);
+        amounts[low + i] = date::pick(held, other, amounts[low + i], t);
     }
 }
 
@@ -72,10 +66,10 @@ fn offer_two(
         let held = values[low + i];
         let one = cash + work[at + i];
         let two = more + work[next + i];
-        let other = pick(one, two, one, two);
-        let amount = pick(one, two, t, t + 1);
-        values[low + i] = pick(held, other, held, other);
-        amounts[low + i] = pick(held, other, amounts[low + i], amount);
+        let other = date::pick(one, two, one, two);
+        let amount = date::pick(one, two, t, t + 1);
+        values[low + i] = date::pick(held, other, held, other);
+        amounts[low + i] = date::pick(held, other, amounts[low + i], amount);
     }
 }
 
@@ -188,8 +182,8 @@ fn offer_further(
         let held = values[low + i];
         let other = cash + work[at + i];
         let amount = t + table[at + i] as u32;
-        values[low + i] = pick(held, other, held, other);
-        amounts[low + i] = pick(held, other, amounts[low + i], amount);
+        values[low + i] = date::pick(held, other, held, other);
+        amounts[low + i] = date::pick(held, other, amounts[low + i], amount);
     }
 }
 
@@ -276,7 +270,7 @@ fn least(values: &[u32; 64], low: usize, n: usize) -> u32
     let mut r: u32 = 4294967295;
     for i in 0..n {
         let value = values[low + i];
-        r = pick(value, r, r, value);
+        r = date::pick(value, r, r, value);
     }
     r
 }
@@ -485,164 +479,6 @@ pub fn dynamic_block(
     );
 }
 
-// A row in loops with one store each, so that they can be widened.
-fn pick_amount(held: u32, other: u32, old: u16, new: u16) -> u16
-    ensures { λ r. ⌜ r ≡ cond (ltb held other) new old ⌝ }
-{
-    if held < other { new } else { old }
-}
-
-fn copy(work: &mut [u32], to: usize, at: usize, n: usize, cash: u32)
-    requires { ⌜ (to + n ≤ at) × (at + n ≤ length (now work)) × ((i : ℕ) → i < n → cash + getD (now work) (at + i) 0 < 4294967296) ⌝ }
-    ensures { λ _. ⌜ now (work .exit) ≡ stored (now (work .entry)) to (λ (i : ℕ). cash + getD (now (work .entry)) (at + i) 0) n ⌝ }
-{
-    for i in 0..n {
-        work[to + i] = cash + work[at + i];
-    }
-}
-
-fn fill(table: &mut [u16], to: usize, n: usize, t: u16)
-    requires { ⌜ to + n ≤ length (now table) ⌝ }
-    ensures { λ _. ⌜ now (table .exit) ≡ stored (now (table .entry)) to (λ (i : ℕ). t) n ⌝ }
-{
-    for i in 0..n {
-        table[to + i] = t;
-    }
-}
-
-// Below the level m is the guarantee itself, and none is left.
-fn static_few(
-    work: &mut [u32],
-    table: &mut [u16],
-    base: usize,
-    stride: usize,
-    w: usize,
-    level: usize,
-)
-    requires { ⌜ Plain (now work) (now table) base stride w level ⌝ }
-    ensures { λ _. ⌜ (now (work .exit) ≡ stored (now (work .entry)) (w * stride) (λ (a : ℕ). 10000 * a + cells (now (work .entry)) base stride (w - a) 0) level) × (now (table .exit) ≡ stored (now (table .entry)) (w * stride) (λ (a : ℕ). a) level) ⌝ }
-{
-    let row = w * stride;
-    for a in 0..level {
-        work[row + a] = (10000 * a) as u32 + work[base + date::less(w, a) * stride];
-        table[row + a] = a as u16;
-    }
-}
-
-// Every state withdraws m.
-fn static_row(
-    work: &mut [u32],
-    table: &mut [u16],
-    base: usize,
-    stride: usize,
-    w: usize,
-    level: usize,
-)
-    requires { ⌜ Plain (now work) (now table) base stride w level ⌝ }
-    ensures { λ _. ⌜ (now (work .exit) ≡ stored (now (work .entry)) (w * stride) (staticValue (cells (now (work .entry)) base stride) level w) stride) × (now (table .exit) ≡ stored (now (table .entry)) (w * stride) (freeAmount level) stride) ⌝ }
-{
-    static_few(work, table, base, stride, w, level);
-    let to = w * stride + level;
-    let at = base + date::less(w, level) * stride;
-    copy(work, to, at, stride - level, (10000 * level) as u32);
-    fill(table, to, stride - level, level as u16);
-}
-
-fn mark(work: &[u32], table: &mut [u16], to: usize, n: usize, other: u32, t: u16)
-    requires { ⌜ (to + n ≤ length (now work)) × (to + n ≤ length (now table)) ⌝ }
-    ensures { λ _. ⌜ now (table .exit) ≡ stored (now (table .entry)) to (λ (i : ℕ). cond (ltb (getD (now (work .entry)) (to + i) 0) other) t (getD (now (table .entry)) (to + i) 0)) n ⌝ }
-{
-    for i in 0..n {
-        table[to + i] = pick_amount(work[to + i], other, table[to + i], t);
-    }
-}
-
-fn raise(work: &mut [u32], to: usize, n: usize, other: u32)
-    requires { ⌜ to + n ≤ length (now work) ⌝ }
-    ensures { λ _. ⌜ now (work .exit) ≡ stored (now (work .entry)) to (λ (i : ℕ). cond (ltb (getD (now (work .entry)) (to + i) 0) other) other (getD (now (work .entry)) (to + i) 0)) n ⌝ }
-{
-    for i in 0..n {
-        let held = work[to + i];
-        work[to + i] = pick(held, other, held, other);
-    }
-}
-
-// Amount t, worth the same to each of n states.
-fn offer_same(work: &mut [u32], table: &mut [u16], to: usize, n: usize, other: u32, t: u16)
-    requires { ⌜ (to + n ≤ length (now work)) × (to + n ≤ length (now table)) ⌝ }
-    ensures { λ _. ⌜ Offered (now (work .entry)) (now (table .entry)) (now (work .exit)) (now (table .exit)) to n (λ (i : ℕ). other) (λ (i : ℕ). t) ⌝ }
-{
-    mark(&work[..], table, to, n, other, t);
-    raise(work, to, n, other);
-}
-
-// The whole account, where the guarantee is below it and the level.
-fn surrender_few(
-    work: &mut [u32],
-    table: &mut [u16],
-    base: usize,
-    stride: usize,
-    w: usize,
-    level: usize,
-    rate: usize,
-)
-    requires { ⌜ Plain (now work) (now table) base stride w level × (rate ≤ rateMost) × Settled (λ (a : ℕ). static) (cells (now work) base stride) rate level w (now work) (now table) (now work) (now table) (w * stride) stride ⌝ }
-    ensures { λ _. ⌜ Settled (mixedBelow (min level w)) (cells (now (work .entry)) base stride) rate level w (now (work .entry)) (now (table .entry)) (now (work .exit)) (now (table .exit)) (w * stride) stride ⌝ }
-{
-    let few = date::smaller(level, w);
-    for a in 0..few {
-        let other = date::cash(rate, a, w) as u32 + work[base];
-        offer_same(work, table, w * stride + a, 1, other, w as u16);
-    }
-}
-
-// The whole account, where it is above m.
-fn surrender_row(
-    work: &mut [u32],
-    table: &mut [u16],
-    base: usize,
-    stride: usize,
-    w: usize,
-    level: usize,
-    rate: usize,
-)
-    requires { ⌜ Plain (now work) (now table) base stride w level × (rate ≤ rateMost) × Settled (λ (a : ℕ). static) (cells (now work) base stride) rate level w (now work) (now table) (now work) (now table) (w * stride) stride ⌝ }
-    ensures { λ _. ⌜ Settled (λ (a : ℕ). mixed) (cells (now (work .entry)) base stride) rate level w (now (work .entry)) (now (table .entry)) (now (work .exit)) (now (table .exit)) (w * stride) stride ⌝ }
-{
-    surrender_few(work, table, base, stride, w, level, rate);
-    if level < w {
-        let other = date::cash(rate, level, w) as u32 + work[base];
-        offer_same(
-            work,
-            table,
-            w * stride + level,
-            stride - level,
-            other,
-            w as u16,
-        );
-    }
-}
-
-// The values and the recorded amounts of a row under behaviour 0 static, 1 mixed.
-pub fn plain_row(
-    behaviour: usize,
-    work: &mut [u32],
-    table: &mut [u16],
-    base: usize,
-    stride: usize,
-    w: usize,
-    level: usize,
-    rate: usize,
-)
-    requires { ⌜ (behaviour ≤ 1) × Plain (now work) (now table) base stride w level × (rate ≤ rateMost) ⌝ }
-    ensures { λ _. ⌜ (now (work .exit) ≡ stored (now (work .entry)) (w * stride) (bestValue (behaviourOf behaviour) (cells (now (work .entry)) base stride) rate level w) stride) × (now (table .exit) ≡ stored (now (table .entry)) (w * stride) (bestAmount (behaviourOf behaviour) (cells (now (work .entry)) base stride) rate level w) stride) ⌝ }
-{
-    static_row(work, table, base, stride, w, level);
-    if behaviour == 1 {
-        surrender_row(work, table, base, stride, w, level, rate);
-    }
-}
-
 // How often a row falls, counted so that the loop can be widened.
 fn falls(work: &[u32], at: usize, n: usize) -> u32
     requires { ⌜ (n ≤ topMost) × ((i : ℕ) → i < n → at + i + 1 < length (now work)) ⌝ }
@@ -650,7 +486,7 @@ fn falls(work: &[u32], at: usize, n: usize) -> u32
 {
     let mut r: u32 = 0;
     for i in 0..n {
-        r += pick(work[at + i + 1], work[at + i], 0, 1);
+        r += date::pick(work[at + i + 1], work[at + i], 0, 1);
     }
     r
 }

@@ -1,6 +1,8 @@
 // One date on plain numbers: the leaves that every operation is made of.
+ghost use mathlib.Core.Bool.{cond};
 ghost use mathlib.Core.Path.{_≡_};
 ghost use Prim.Native.Nat.{ℕ, _-_, _≤_, _<_, max, min};
+ghost use lib.Dec.{ltb};
 ghost use Rattle.rules.specs.Contract.{topMost, rateMost, discountMost, factorMost};
 ghost use Rattle.rules.specs.Date.{dynamic, freeAmount, largestAmount, surrenders, admits, penalty, cash, guaranteeAfter, balanceAfter, nextAccount, maturityValue, discounted};
 
@@ -107,4 +109,11 @@ pub fn discounted(discount: usize, sum: usize) -> usize
         return discount * sum / 10000000000;
     }
     (discount * (sum / 10000) + discount * (sum % 10000) / 10000) / 1000000
+}
+
+// What goes with the larger of two values; a tie keeps the one held.
+pub fn pick(held: u32, other: u32, old: u32, new: u32) -> u32
+    ensures { λ r. ⌜ r ≡ cond (ltb held other) new old ⌝ }
+{
+    if held < other { new } else { old }
 }

@@ -18,7 +18,7 @@ use Rattle.laws.specs.Bounds.{state-value-le, value-room}
 use Rattle.rules.specs.Operations.{behaviourOf}
 use Rattle.expect.specs.Expected.{expected, expected-le, expected-same}
 use Rattle.further.specs.Further.{Room, furtherValue, furtherAmount}
-use Rattle.choose.specs.State.{bestValue, bestAmount, value-same, amount-same}
+use Rattle.worth.specs.Worth.{bestValue, bestAmount, value-same, amount-same}
 use Rattle.states.specs.Row.{Deciding}
 use Rattle.dates.specs.Dated.{Dating, Dated, Prepared}
 use Rattle.dates.specs.Back.{at, valuesOn, value-back, amount-back, maturity-is, Valued, Starting}

@@ -12,7 +12,7 @@ use Rattle.rules.specs.Date.{Behaviour, maturityValue}
 use Rattle.rules.specs.Product.{stateValue, recordedAmount}
 use Rattle.rules.specs.FixedTerm.{State, freeIn, admissibleIn, limitIn, cashIn, afterIn, reachBy, expectOver, processOf, layerSize, fixedTerm}
 use Rattle.expect.specs.Expected.{reachedSum, expected, Listing, Layers}
-use Rattle.choose.specs.State.{worthOver, bestValue, bestAmount}
+use Rattle.worth.specs.Worth.{worthOver, bestValue, bestAmount}
 
 abbrev pub at : ℕ → ℕ → State
 at w a = record { account = w; guarantee = a }

@@ -8,7 +8,8 @@ use Rattle.rules.specs.Contract.{Terms, Returns, rateMost}
 use Rattle.rules.specs.Date.{Behaviour}
 use Rattle.rules.specs.FixedTerm.{layerSize}
 use Rattle.expect.specs.Expected.{expected, Listing, Layers}
-use Rattle.choose.specs.State.{bestValue, bestAmount, Furthered}
+use Rattle.worth.specs.Worth.{bestValue, bestAmount}
+use Rattle.choose.specs.State.{Furthered}
 
 pub record Dating (behaviour : ℕ) (c : Terms) (count rate : ℕ) (work table list : List ℕ) : Type 0 where
   pub known : behaviour ≤ 2

@@ -3,3 +3,4 @@ pub mod Stored
 pub mod Rows
 pub mod Decided
 pub mod Parts
+pub mod Offered

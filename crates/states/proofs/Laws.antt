@@ -14,7 +14,9 @@ use Rattle.slices.specs.Decided.{Decided, cells-behind}
 use Rattle.rules.specs.Date.{Behaviour, freeAmount, largestAmount, admits}
 use Rattle.laws.specs.Date.{admits-free, admits-within}
 use Rattle.further.specs.Further.{furtherValue, furtherAmount}
-use Rattle.choose.specs.State.{worthOver, bestValue, bestAmount, Block, Plain, Rising}
+use Rattle.worth.specs.Worth.{worthOver, bestValue, bestAmount}
+use Rattle.choose.specs.State.{Block, Rising}
+use Rattle.plain.specs.Row.{Plain}
 use Rattle.states.specs.Row.{Deciding, Row}
 
 -- ---- one row

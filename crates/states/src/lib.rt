@@ -7,7 +7,8 @@ ghost use Rattle.slices.specs.Stored.{stored};
 ghost use Rattle.slices.specs.Rows.{cells, flat};
 ghost use Rattle.rules.specs.Date.{dynamic};
 ghost use Rattle.rules.specs.Operations.{behaviourOf};
-ghost use Rattle.choose.specs.State.{bestValue, bestAmount, Rising};
+ghost use Rattle.worth.specs.Worth.{bestValue, bestAmount};
+ghost use Rattle.choose.specs.State.{Rising};
 ghost use Rattle.states.specs.Row.{Deciding, Row};
 
 // A block of n states, to the entries from `at` on.
@@ -103,7 +104,7 @@ fn decide_row(
     if behaviour == 2 {
         dynamic_row(work, table, base, stride, w, level, rate, rising);
     } else {
-        choose::plain_row(behaviour, work, table, base, stride, w, level, rate);
+        plain::plain_row(behaviour, work, table, base, stride, w, level, rate);
     }
 }
 

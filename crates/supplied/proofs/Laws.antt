@@ -26,7 +26,7 @@ use Rattle.laws.specs.Date.{dynamic-is, guarantee-le}
 use Rattle.laws.specs.Accepted.{Valid, andThen, parts-accepted, parts-refused}
 use Rattle.laws.specs.Bounds.{cash-le, table-value-le, value-room}
 use Rattle.expect.specs.Expected.{expected, reachedSum, Listing, expected-le, expected-same}
-use Rattle.choose.specs.State.{worthOver, worth-same}
+use Rattle.worth.specs.Worth.{worthOver, worth-same}
 use Rattle.dates.specs.Back.{at}
 use Rattle.valuing.specs.declared.Answer as declared
 use Rattle.valuing.specs.Answered.{answerOf, refusal, Settled}

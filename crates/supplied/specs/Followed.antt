@@ -15,7 +15,7 @@ use Rattle.rules.specs.FixedTerm.{layerSize, layoutOf, processOf, fixedTerm}
 use Rattle.rules.specs.Refusals.{Verdict}
 use Rattle.rules.specs.Operations.{answer, workAfter, tableSize, badEntry}
 use Rattle.expect.specs.Expected.{expected, Listing, Layers}
-use Rattle.choose.specs.State.{worthOver}
+use Rattle.worth.specs.Worth.{worthOver}
 use Rattle.dates.specs.Back.{at}
 use Rattle.valuing.specs.declared.Answer as declared
 use Rattle.valuing.specs.Answered.{answerOf}

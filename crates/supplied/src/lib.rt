@@ -12,7 +12,7 @@ ghost use Rattle.rules.specs.Refusals.{verdict};
 ghost use Rattle.rules.specs.Operations.{tableSize, badAt, badEntry, tableChecks, suppliedAnswer, suppliedWork};
 ghost use Rattle.laws.specs.Accepted.{Valid};
 ghost use Rattle.contract.specs.Reading.{termsIn};
-ghost use Rattle.choose.specs.State.{worthOver};
+ghost use Rattle.worth.specs.Worth.{worthOver};
 ghost use Rattle.valuing.specs.Answered.{answerOf, Ready};
 ghost use Rattle.valuing.specs.First.{First};
 ghost use Rattle.supplied.specs.Followed.{State, followed, Following, OneDate, Back, tableOn, Starting, Answered};

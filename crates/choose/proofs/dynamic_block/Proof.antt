@@ -1,7 +1,7 @@
 -- `choose::dynamic_block` meets its contract. Assumes nothing.
 use borrow.Author.Needs.{needs}
 use Rattle.choose.proofs.Entries.{leads-worth}
-use Rattle.choose.proofs.Settled.{leads-chosen}
+use Rattle.choose.proofs.Chosen.{leads-chosen}
 use Rattle.slices.specs.Rows.{cells}
 use Rattle.choose.proofs.dynamic_block.Statement.{statement}
 use Rattle.choose.proofs.dynamic_block.Tie as tie

@@ -5,7 +5,7 @@ use lib.ListN.{getD}
 use mathlib.Core.Path.{_≡_, sym}
 use native.Mathlib.Omega.{arith}
 use Rattle.choose.proofs.Blocks.{offered-none, offered-next}
-use Rattle.choose.specs.State.{Offered}
+use Rattle.slices.specs.Offered.{Offered}
 use Rattle.choose.proofs.offer.Statement.{statement}
 use Rattle.choose.proofs.offer.Tie as tie
 

@@ -7,7 +7,7 @@ use mathlib.Core.Path.{_≡_, refl, ap, sym, subst₂}
 use native.Mathlib.Omega.{arith}
 use Rattle.choose.proofs.Blocks.{offered-none, offered-gain, offered-skip}
 use Rattle.choose.proofs.Laws.{quotient-next, quotient-within}
-use Rattle.choose.specs.State.{Offered}
+use Rattle.slices.specs.Offered.{Offered}
 use Rattle.choose.proofs.offer_share.Statement.{statement}
 use Rattle.choose.proofs.offer_share.Tie as tie
 

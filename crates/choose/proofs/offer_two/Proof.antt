@@ -7,7 +7,7 @@ use mathlib.Core.Bool.{cond}
 use mathlib.Core.Path.{_≡_, sym, ap, ap₂, _∙_}
 use native.Mathlib.Omega.{arith}
 use Rattle.choose.proofs.Blocks.{offered-none, offered-next}
-use Rattle.choose.specs.State.{Offered}
+use Rattle.slices.specs.Offered.{Offered}
 use Rattle.choose.proofs.offer_two.Statement.{statement}
 use Rattle.choose.proofs.offer_two.Tie as tie
 

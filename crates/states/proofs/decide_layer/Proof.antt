@@ -5,7 +5,7 @@ use mathlib.Core.List.{List}
 use mathlib.Core.Path.{_≡_, sym, subst}
 use native.Mathlib.Nat.{le-refl}
 use native.Mathlib.Omega.{arith}
-use Rattle.choose.specs.State.{bestValue, bestAmount}
+use Rattle.worth.specs.Worth.{bestValue, bestAmount}
 use Rattle.rules.specs.Operations.{behaviourOf}
 use Rattle.slices.specs.Decided.{Decided, decided-none, decided-row, decided-all}
 use Rattle.slices.specs.Rows.{cells}

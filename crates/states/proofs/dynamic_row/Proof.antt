@@ -5,7 +5,7 @@ use lib.ListN.{length}
 use mathlib.Core.List.{List}
 use mathlib.Core.Path.{_≡_, refl, ap, sym, _∙_, subst₂}
 use native.Mathlib.Omega.{arith}
-use Rattle.choose.specs.State.{bestValue, bestAmount}
+use Rattle.worth.specs.Worth.{bestValue, bestAmount}
 use Rattle.rules.specs.Date.{dynamic}
 use Rattle.slices.specs.Rows.{cells}
 use Rattle.slices.specs.Stored.{stored, length-stored, stored-join}

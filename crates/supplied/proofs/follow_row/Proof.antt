@@ -6,7 +6,7 @@ use mathlib.Core.List.{List}
 use mathlib.Core.Path.{_≡_, refl, ap, ap₂, sym, _∙_, subst}
 use native.Mathlib.Nat.{le-trans, le-of-eq, zero-add}
 use native.Mathlib.Omega.{arith}
-use Rattle.choose.specs.State.{worthOver}
+use Rattle.worth.specs.Worth.{worthOver}
 use Rattle.rules.specs.Date.{freeAmount}
 use Rattle.slices.specs.Rows.{cells, rows-step}
 use Rattle.slices.specs.Stored.{stored, stored-next, length-stored}

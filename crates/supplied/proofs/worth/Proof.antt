@@ -5,7 +5,7 @@ use lib.ListN.{length}
 use mathlib.Core.Path.{ap, ap₂, _∙_}
 use native.Mathlib.Nat.{le-trans, le-of-eq, sub-le}
 use native.Mathlib.Omega.{arith}
-use Rattle.choose.specs.State.{worthOver}
+use Rattle.worth.specs.Worth.{worthOver}
 use Rattle.laws.specs.Date.{guarantee-le}
 use Rattle.rules.specs.Date.{cash, balanceAfter, guaranteeAfter}
 use Rattle.slices.specs.Rows.{cells}

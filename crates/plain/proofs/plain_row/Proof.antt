@@ -1,16 +1,16 @@
--- `choose::plain_row` meets its contract. Assumes nothing.
+-- `plain::plain_row` meets its contract. Assumes nothing.
 use Prim.Native.Nat.{ℕ, _*_}
 use lib.ListN.{length}
 use mathlib.Core.Path.{_≡_, ap, sym, _∙_, subst}
 use native.Mathlib.Omega.{arith}
-use Rattle.choose.proofs.Settled.{row-long, table-long, sums-kept, plain-on, mixed-row, settled-static, static-value, static-amount}
-use Rattle.choose.specs.State.{Settled}
+use Rattle.plain.proofs.Settled.{row-long, table-long, sums-kept, plain-on, mixed-row, settled-static, static-value, static-amount}
+use Rattle.plain.specs.Row.{Settled}
 use Rattle.rules.specs.Date.{static}
 use Rattle.rules.specs.Operations.{behaviourOf}
 use Rattle.slices.specs.Rows.{cells}
 use Rattle.slices.specs.Stored.{length-stored, stored-eq}
-use Rattle.choose.proofs.plain_row.Statement.{statement}
-use Rattle.choose.proofs.plain_row.Tie as tie
+use Rattle.plain.proofs.plain_row.Statement.{statement}
+use Rattle.plain.proofs.plain_row.Tie as tie
 
 static-row-requires : tie.Need-static-row-requires
 static-row-requires c κs = c .before .before .before .before .pre .1

@@ -1,4 +1,4 @@
--- `choose::raise` meets its contract. Assumes nothing.
+-- `plain::raise` meets its contract. Assumes nothing.
 use Prim.Native.Nat.{ℕ, _+_, _-_, _≤_}
 use borrow.Author.Needs.{needs}
 use lib.Dec.{ltb}
@@ -10,8 +10,8 @@ use mathlib.Core.Path.{_≡_, refl, ap, sym, _∙_}
 use native.Mathlib.Nat.{le-refl}
 use native.Mathlib.Omega.{arith}
 use Rattle.slices.specs.Stored.{stored, length-stored, stored-next, stored-out}
-use Rattle.choose.proofs.raise.Statement.{statement}
-use Rattle.choose.proofs.raise.Tie as tie
+use Rattle.plain.proofs.raise.Statement.{statement}
+use Rattle.plain.proofs.raise.Tie as tie
 
 abbrev Inv-loop : tie.InvT-loop
 Inv-loop work₀ to n other i₀ work i = (i ≤ n) × (work ≡ stored work₀ to (λ x. cond (ltb (getD work₀ (to + x) 0) other) other (getD work₀ (to + x) 0)) i)

@@ -1,11 +1,11 @@
--- `choose::fill` meets its contract. Assumes nothing.
+-- `plain::fill` meets its contract. Assumes nothing.
 use Prim.Native.Nat.{_+_, _-_, _≤_}
 use lib.ListN.{length, set}
 use mathlib.Core.Path.{_≡_, refl, ap, sym, _∙_}
 use native.Mathlib.Omega.{arith}
 use Rattle.slices.specs.Stored.{stored, length-stored, stored-next}
-use Rattle.choose.proofs.fill.Statement.{statement}
-use Rattle.choose.proofs.fill.Tie as tie
+use Rattle.plain.proofs.fill.Statement.{statement}
+use Rattle.plain.proofs.fill.Tie as tie
 
 abbrev Inv-loop : tie.InvT-loop
 Inv-loop table₀ to n t i₀ table i = (i ≤ n) × (table ≡ stored table₀ to (λ x. t) i)

@@ -1,15 +1,15 @@
--- `choose::surrender_row` meets its contract. Assumes nothing.
+-- `plain::surrender_row` meets its contract. Assumes nothing.
 use Prim.Native.Nat.{ℕ, _+_, _-_, _*_, _<_, min}
 use lib.ListN.{length, getD}
 use mathlib.Core.Logic.{inr}
 use mathlib.Core.Path.{_≡_, ap, sym, _∙_, subst}
 use native.Mathlib.Omega.{arith}
-use Rattle.choose.proofs.Settled.{row-room, row-long, table-long, base-is, base-read, base-small, level-free, none-above, mixed-rest, mixed-run, surrender-worth}
-use Rattle.choose.specs.State.{Settled, mixedBelow}
+use Rattle.plain.proofs.Settled.{row-room, row-long, table-long, base-is, base-read, base-small, level-free, none-above, mixed-rest, mixed-run, surrender-worth}
+use Rattle.plain.specs.Row.{Settled, mixedBelow}
 use Rattle.slices.specs.Rows.{cells}
 use Rattle.slices.specs.Stored.{length-stored}
-use Rattle.choose.proofs.surrender_row.Statement.{statement}
-use Rattle.choose.proofs.surrender_row.Tie as tie
+use Rattle.plain.proofs.surrender_row.Statement.{statement}
+use Rattle.plain.proofs.surrender_row.Tie as tie
 
 surrender-few-requires : tie.Need-surrender-few-requires
 surrender-few-requires c κs = c .before .before .before .before .pre

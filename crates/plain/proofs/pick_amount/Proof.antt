@@ -1,8 +1,8 @@
--- `choose::pick_amount` meets its contract. Assumes nothing.
+-- `plain::pick_amount` meets its contract. Assumes nothing.
 use borrow.Author.Tests.{lt-ltb, le-ltb}
 use mathlib.Core.Path.{sym}
-use Rattle.choose.proofs.pick_amount.Statement.{statement}
-use Rattle.choose.proofs.pick_amount.Tie as tie
+use Rattle.plain.proofs.pick_amount.Statement.{statement}
+use Rattle.plain.proofs.pick_amount.Tie as tie
 
 returns : tie.Need-returns
 returns c = sym (rw (lt-ltb _ _ (c .if1 .taken)))

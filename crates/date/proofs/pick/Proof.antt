@@ -1,8 +1,8 @@
--- `choose::pick` meets its contract. Assumes nothing.
+-- `date::pick` meets its contract. Assumes nothing.
 use borrow.Author.Tests.{lt-ltb, le-ltb}
 use mathlib.Core.Path.{sym}
-use Rattle.choose.proofs.pick.Statement.{statement}
-use Rattle.choose.proofs.pick.Tie as tie
+use Rattle.date.proofs.pick.Statement.{statement}
+use Rattle.date.proofs.pick.Tie as tie
 
 returns : tie.Need-returns
 returns c = sym (rw (lt-ltb _ _ (c .if1 .taken)))

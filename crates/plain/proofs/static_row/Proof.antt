@@ -1,14 +1,14 @@
--- `choose::static_row` meets its contract. Assumes nothing.
+-- `plain::static_row` meets its contract. Assumes nothing.
 use Prim.Native.Nat.{ℕ, _+_, _-_, _*_}
 use borrow.Author.Needs.{needs}
 use lib.ListN.{length}
 use mathlib.Core.Path.{_≡_, ap, _∙_}
 use native.Mathlib.Nat.{sub-le}
 use native.Mathlib.Omega.{arith}
-use Rattle.choose.proofs.Settled.{row-room, row-long, table-long, sums-room, sum-small, static-read, static-work, static-table}
+use Rattle.plain.proofs.Settled.{row-room, row-long, table-long, sums-room, sum-small, static-read, static-work, static-table}
 use Rattle.slices.specs.Stored.{length-stored}
-use Rattle.choose.proofs.static_row.Statement.{statement}
-use Rattle.choose.proofs.static_row.Tie as tie
+use Rattle.plain.proofs.static_row.Statement.{statement}
+use Rattle.plain.proofs.static_row.Tie as tie
 
 static-few-requires : tie.Need-static-few-requires
 static-few-requires c κs = c .before .before .before .before .pre

@@ -1,26 +1,20 @@
--- The static and the mixed behaviour along a row, and what each behaviour records. Assumes nothing.
+-- The static and the mixed behaviour along a row, and what each records. Assumes nothing.
 use mathlib.Core.List.{List}
 use mathlib.Core.Logic.{_⊎_, inl, inr}
 use mathlib.Core.Path.{_≡_, refl, ap, sym, _∙_, subst, subst₂}
-use Prim.Native.Nat.{ℕ, _+_, _-_, _*_, _≤_, _<_, min, max}
+use Prim.Native.Nat.{ℕ, _+_, _-_, _*_, _≤_, _<_, min}
 use native.Mathlib.Nat.{le-refl, le-trans, le-of-eq}
 use native.Mathlib.Decide.{decLe}
 use native.Mathlib.Omega.{arith}
 use lib.ListN.{length, getD}
 use borrow.Author.Tests.{lt-ltb, le-ltb}
-use Rattle.rules.specs.Date.{Behaviour, static, mixed, dynamic, freeAmount, cash}
+use Rattle.rules.specs.Date.{Behaviour, static, mixed, freeAmount, cash}
 use Rattle.slices.specs.Stored.{stored, length-stored, stored-in, stored-out, stored-join, stored-eq, is-stored}
 use Rattle.slices.specs.Rows.{cells, cells-kept, rows-le, rows-step}
-use Rattle.choose.specs.State.{worthOver, worthAt, bestValue, bestAmount, staticValue, Leads, Offered, Holds, Settled, Chosen, Plain, mixedBelow}
-use Rattle.choose.proofs.Worth.{free-is, state-found, static-best, mixed-kept, mixed-offered, dynamic-best, surrender-is}
-
--- ---- dynamic
-pub leads-chosen : {e : ℕ → ℕ → ℕ} {rate level w from n : ℕ} {values amounts : List ℕ}
-    → Leads (worthAt e rate level w from) values amounts n (λ j. max w (freeAmount level (from + j))) → Chosen e rate level w from n values amounts
-leads-chosen {e} {rate} {level} {w} {from} x = record {
-  value = λ j l. state-found dynamic e rate level w (from + j) _ _ (dynamic-best (freeAmount level (from + j)) w refl (x .each j l)) .0;
-  amount = λ j l. state-found dynamic e rate level w (from + j) _ _ (dynamic-best (freeAmount level (from + j)) w refl (x .each j l)) .1;
-}
+use Rattle.slices.specs.Offered.{Offered}
+use Rattle.worth.specs.Worth.{worthOver, bestValue, bestAmount}
+use Rattle.plain.specs.Row.{staticValue, Holds, Settled, Plain, mixedBelow}
+use Rattle.worth.specs.Laws.{free-is, state-found, static-best, mixed-kept, mixed-offered, surrender-is}
 
 -- ---- static
 module _ (e : ℕ → ℕ → ℕ) (rate level w a : ℕ) where

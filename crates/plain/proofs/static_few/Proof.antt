@@ -1,4 +1,4 @@
--- `choose::static_few` meets its contract. Assumes nothing.
+-- `plain::static_few` meets its contract. Assumes nothing.
 use Prim.Native.Nat.{ℕ, _+_, _-_, _*_, _≤_}
 use borrow.Author.Needs.{needs}
 use lib.ListN.{length, getD, set}
@@ -7,11 +7,11 @@ use mathlib.Core.Logic.{inr}
 use mathlib.Core.Path.{_≡_, refl, ap, sym, _∙_}
 use native.Mathlib.Nat.{sub-le}
 use native.Mathlib.Omega.{arith}
-use Rattle.choose.proofs.Settled.{row-room, row-long, table-long, sums-room, sum-small, few-entry}
+use Rattle.plain.proofs.Settled.{row-room, row-long, table-long, sums-room, sum-small, few-entry}
 use Rattle.slices.specs.Rows.{cells}
 use Rattle.slices.specs.Stored.{stored, length-stored, stored-next, stored-out}
-use Rattle.choose.proofs.static_few.Statement.{statement}
-use Rattle.choose.proofs.static_few.Tie as tie
+use Rattle.plain.proofs.static_few.Statement.{statement}
+use Rattle.plain.proofs.static_few.Tie as tie
 
 abbrev Inv-loop : tie.InvT-loop
 Inv-loop work₀ table₀ base stride w level row a₀ work table a = (a ≤ level) × (work ≡ stored work₀ row (λ x. 10000 * x + cells work₀ base stride (w - x) 0) a) × (table ≡ stored table₀ row (λ x. x) a)

@@ -12,7 +12,7 @@ use Rattle.decision.specs.Choice.{Best, best-is, best-unique, Leading, leading-
 use Rattle.rules.specs.Date.{Behaviour, static, mixed, dynamic, freeAmount, largestAmount, admits, penalty, cash, balanceAfter, guaranteeAfter}
 use Rattle.laws.specs.Date.{guarantee-free, admits-free, mixed-is, is-dynamic, admits-surrender}
 use Rattle.further.specs.Further.{further, furtherValue, furtherAmount, further-leads}
-use Rattle.choose.specs.State.{worthOver, bestValue, bestAmount}
+use Rattle.worth.specs.Worth.{worthOver, bestValue, bestAmount}
 
 -- ---- up to m
 pub cash-free : (rate m t : ℕ) → t ≤ m → cash rate m t ≡ 10000 * t

@@ -1,4 +1,4 @@
--- `choose::copy` meets its contract. Assumes nothing.
+-- `plain::copy` meets its contract. Assumes nothing.
 use Prim.Native.Nat.{ℕ, _+_, _-_, _≤_}
 use lib.ListN.{length, getD, set}
 use mathlib.Core.List.{List}
@@ -6,8 +6,8 @@ use mathlib.Core.Logic.{inr}
 use mathlib.Core.Path.{_≡_, refl, ap, sym, _∙_}
 use native.Mathlib.Omega.{arith}
 use Rattle.slices.specs.Stored.{stored, length-stored, stored-next, stored-out}
-use Rattle.choose.proofs.copy.Statement.{statement}
-use Rattle.choose.proofs.copy.Tie as tie
+use Rattle.plain.proofs.copy.Statement.{statement}
+use Rattle.plain.proofs.copy.Tie as tie
 
 abbrev Inv-loop : tie.InvT-loop
 Inv-loop work₀ to at n cash i₀ work i = (i ≤ n) × (work ≡ stored work₀ to (λ x. cash + getD work₀ (at + x) 0) i)

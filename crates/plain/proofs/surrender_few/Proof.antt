@@ -1,16 +1,16 @@
--- `choose::surrender_few` meets its contract. Assumes nothing.
+-- `plain::surrender_few` meets its contract. Assumes nothing.
 use Prim.Native.Nat.{ℕ, _+_, _-_, _*_, _≤_, _<_}
 use borrow.Author.Needs.{needs}
 use lib.ListN.{getD}
 use mathlib.Core.Logic.{inr}
 use mathlib.Core.Path.{_≡_, ap, sym, _∙_, subst}
 use native.Mathlib.Omega.{arith}
-use Rattle.choose.proofs.Settled.{row-room, row-long, table-long, base-is, base-read, base-small, few-in, few-one, mixed-none, mixed-run, surrender-worth}
-use Rattle.choose.specs.State.{Settled, mixedBelow}
+use Rattle.plain.proofs.Settled.{row-room, row-long, table-long, base-is, base-read, base-small, few-in, few-one, mixed-none, mixed-run, surrender-worth}
+use Rattle.plain.specs.Row.{Settled, mixedBelow}
 use Rattle.rules.specs.Date.{freeAmount}
 use Rattle.slices.specs.Rows.{cells}
-use Rattle.choose.proofs.surrender_few.Statement.{statement}
-use Rattle.choose.proofs.surrender_few.Tie as tie
+use Rattle.plain.proofs.surrender_few.Statement.{statement}
+use Rattle.plain.proofs.surrender_few.Tie as tie
 
 abbrev Inv-loop : tie.InvT-loop
 Inv-loop work₀ table₀ base stride w level rate few a₀ work table a = (a ≤ few) × Settled (mixedBelow a) (cells work₀ base stride) rate level w work₀ table₀ work table (w * stride) stride

@@ -1,4 +1,4 @@
--- `choose::mark` meets its contract. Assumes nothing.
+-- `plain::mark` meets its contract. Assumes nothing.
 use Prim.Native.Nat.{ℕ, _+_, _-_, _≤_}
 use borrow.Author.Needs.{needs}
 use lib.Dec.{ltb}
@@ -10,8 +10,8 @@ use mathlib.Core.Path.{_≡_, refl, ap, sym, _∙_}
 use native.Mathlib.Nat.{le-refl}
 use native.Mathlib.Omega.{arith}
 use Rattle.slices.specs.Stored.{stored, length-stored, stored-next, stored-out}
-use Rattle.choose.proofs.mark.Statement.{statement}
-use Rattle.choose.proofs.mark.Tie as tie
+use Rattle.plain.proofs.mark.Statement.{statement}
+use Rattle.plain.proofs.mark.Tie as tie
 
 abbrev Inv-loop : tie.InvT-loop
 Inv-loop work table₀ to n other t i₀ table i = (i ≤ n) × (table ≡ stored table₀ to (λ x. cond (ltb (getD work (to + x) 0) other) t (getD table₀ (to + x) 0)) i)
