@@ -12,7 +12,7 @@ use Rattle.rules.specs.Contract.{topMost}
 use Rattle.rules.specs.Date.{Behaviour, static, mixed, freeAmount, largestAmount, admits}
 use Rattle.worth.specs.Worth.{worthOver}
 
--- what withdrawing m is worth
+-- "Static: m only": what withdrawing m is worth
 unfoldable pub staticValue : (ℕ → ℕ → ℕ) → ℕ → ℕ → ℕ → ℕ
 staticValue e level w a =
     let m = freeAmount level a in

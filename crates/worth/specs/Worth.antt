@@ -10,11 +10,13 @@ use Rattle.laws.specs.Date.{guarantee-le}
 unfoldable pub worthOver : (ℕ → ℕ → ℕ) → ℕ → ℕ → ℕ → ℕ → ℕ → ℕ
 worthOver e rate m w a t = cash rate m t + e (balanceAfter w t) (guaranteeAfter m w a t)
 
+-- "the largest worth among its admissible amounts"
 unfoldable pub bestValue : Behaviour → (ℕ → ℕ → ℕ) → ℕ → ℕ → ℕ → ℕ → ℕ
 bestValue b e rate level w a =
     let m = freeAmount level a in
     largest (admits b m w) (worthOver e rate m w a) (largestAmount m w)
 
+-- "the smallest among the best ones"
 unfoldable pub bestAmount : Behaviour → (ℕ → ℕ → ℕ) → ℕ → ℕ → ℕ → ℕ → ℕ
 bestAmount b e rate level w a =
     let m = freeAmount level a in
