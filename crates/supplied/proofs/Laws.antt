@@ -112,7 +112,7 @@ module _ {work layer : List ℕ} {base stride n level rate : ℕ} (d : Following
       ap (λ (e : ℕ → ℕ → ℕ). followed e (cells layer 0 stride) rate level w a) kept)
 
 -- ---- one date
-module _ {c : Terms} {count : ℕ} {work layer list : List ℕ} (d : OneDate c count work layer list) where
+module _ {c : Terms} {count rate : ℕ} {work layer list : List ℕ} (d : OneDate c count rate work layer list) where
   module _ (work₁ : List ℕ) (is : work₁ ≡ stored work (layerSize c) (flat (c .premium + 1) (expected c (returnsOf list) (cells work 0 (c .premium + 1)))) (layerSize c)) where
     sums-are : (w a : ℕ) → w ≤ c .top → a ≤ c .premium → cells work₁ ((c .top + 1) * (c .premium + 1)) (c .premium + 1) w a ≡ expected c (returnsOf list) (cells work 0 (c .premium + 1)) w a
     unfolding layerSize
@@ -120,14 +120,14 @@ module _ {c : Terms} {count : ℕ} {work layer list : List ℕ} (d : OneDate c c
         ap (λ (xs : List ℕ). cells xs ((c .top + 1) * (c .premium + 1)) (c .premium + 1) w a) is
         ∙ layer-stored work ((c .top + 1) * (c .premium + 1)) (c .premium + 1) (c .top + 1) _ (d .layers .room) .cell w a (omega arith) (omega arith)
 
-    pub following : Following work₁ layer ((c .top + 1) * (c .premium + 1)) (c .premium + 1) (c .top + 1) (c .level) (c .penalty)
+    pub following : Following work₁ layer ((c .top + 1) * (c .premium + 1)) (c .premium + 1) (c .top + 1) (c .level) rate
     unfolding layerSize
     following =
         let v = d .layers .valid in
         record {
           few = omega (arith, v .top);
           width = omega (arith, v .premium, v .top);
-          rate-is = v .penalty;
+          rate-is = d .rate-is;
           apart = omega arith;
           room = rw (ap length is ∙ length-stored work _ _ _) (d .layers .room);
           entries = omega (arith, d .layer-is);
@@ -138,9 +138,9 @@ module _ {c : Terms} {count : ℕ} {work layer list : List ℕ} (d : OneDate c c
         }
 
     module _ (work₂ : List ℕ)
-        (values : work₂ ≡ stored work₁ 0 (flat (c .premium + 1) (followed (cells work₁ ((c .top + 1) * (c .premium + 1)) (c .premium + 1)) (cells layer 0 (c .premium + 1)) (c .penalty) (c .level))) ((c .top + 1) * (c .premium + 1)))
+        (values : work₂ ≡ stored work₁ 0 (flat (c .premium + 1) (followed (cells work₁ ((c .top + 1) * (c .premium + 1)) (c .premium + 1)) (cells layer 0 (c .premium + 1)) rate (c .level))) ((c .top + 1) * (c .premium + 1)))
       where
-        pub back : Back c (returnsOf list) work layer work₂
+        pub back : Back c (returnsOf list) rate work layer work₂
         unfolding layerSize
         back = record {
           long = ap length values ∙ length-stored work₁ 0 _ _ ∙ ap length is ∙ length-stored work _ _ _;
@@ -156,9 +156,9 @@ module _ {c : Terms} {count : ℕ} {work layer list : List ℕ} (d : OneDate c c
         }
           where
             worth-is : (w a t : ℕ) → w ≤ c .top → a ≤ c .premium
-                → worthOver (cells work₁ ((c .top + 1) * (c .premium + 1)) (c .premium + 1)) (c .penalty) (freeAmount (c .level) a) w a t
-                ≡ worthOver (expected c (returnsOf list) (cells work 0 (c .premium + 1))) (c .penalty) (freeAmount (c .level) a) w a t
-            worth-is w a t h l = worth-same _ _ (c .penalty) (freeAmount (c .level) a) w a t (λ x y p q. sums-are x y (le-trans p h) (le-trans q l))
+                → worthOver (cells work₁ ((c .top + 1) * (c .premium + 1)) (c .premium + 1)) rate (freeAmount (c .level) a) w a t
+                ≡ worthOver (expected c (returnsOf list) (cells work 0 (c .premium + 1))) rate (freeAmount (c .level) a) w a t
+            worth-is w a t h l = worth-same _ _ rate (freeAmount (c .level) a) w a t (λ x y p q. sums-are x y (le-trans p h) (le-trans q l))
 
 -- ---- the search, date by date
 module _ (c : Terms) (table : List ℕ) (j : ℕ) (h : j < c .dates - 1) where
@@ -207,8 +207,9 @@ module _ {c : Terms} {count : ℕ} {work₀ table list work : List ℕ} (s : Sta
         part-at ((i - 1) * ((c .top + 1) * (c .premium + 1))) (i * ((c .top + 1) * (c .premium + 1))) (0 + (w * (c .premium + 1) + a)) table (omega arith)
         ∙ ap (λ (x : ℕ). getD table ((i - 1) * ((c .top + 1) * (c .premium + 1)) + x) 0) (zero-add (w * (c .premium + 1) + a))
 
-    pub one-date : OneDate c count work (midOf ((i - 1) * layerSize c) (i * layerSize c - (i - 1) * layerSize c) table) list
+    pub one-date : OneDate c count (c .penalty) work (midOf ((i - 1) * layerSize c) (i * layerSize c - (i - 1) * layerSize c) table) list
     one-date = record {
+      rate-is = s .layers .valid .penalty;
       listing = s .listing;
       layers = record { valid = s .layers .valid; room = omega (arith, s .layers .room, v .long) };
       layer-is = mid-len ((i - 1) * layerSize c) (i * layerSize c) table layer-within ∙ (let e = layer-end in omega arith);
@@ -222,7 +223,7 @@ module _ {c : Terms} {count : ℕ} {work₀ table list work : List ℕ} (s : Sta
             → T (admits dynamic (freeAmount (c .level) a) w (cells (midOf ((i - 1) * layerSize c) (i * layerSize c - (i - 1) * layerSize c) table) 0 (c .premium + 1) w a))
         admitted-is w a h l = subst (λ (t : ℕ). T (admits dynamic (freeAmount (c .level) a) w t)) (sym (amount-is w a h l)) (admitted-at c (returnsOf list) table (s .layers .valid) (s .none-bad) i w a some before h l)
 
-    pub first-before : (work₁ : List ℕ) → Back c (returnsOf list) work (midOf ((i - 1) * layerSize c) (i * layerSize c - (i - 1) * layerSize c) table) work₁
+    pub first-before : (work₁ : List ℕ) → Back c (returnsOf list) (c .penalty) work (midOf ((i - 1) * layerSize c) (i * layerSize c - (i - 1) * layerSize c) table) work₁
         → First (tableOn c (returnsOf list) table (suc (i - 1))) c work₀ work₁
     first-before work₁ d = record {
       long = d .long ∙ v .long;

@@ -43,19 +43,20 @@ pub record Following (work layer : List ℕ) (base stride n level rate : ℕ) : 
   pub admitted : (w a : ℕ) → w < n → a < stride → T (admits dynamic (freeAmount level a) w (cells layer 0 stride w a))
   pub small : (w a : ℕ) → w < n → a < stride → cells work base stride w a ≤ 4000000000
 
--- one date back
-pub record OneDate (c : Terms) (count : ℕ) (work layer list : List ℕ) : Type 0 where
+-- one date back, at its penalty rate
+pub record OneDate (c : Terms) (count rate : ℕ) (work layer list : List ℕ) : Type 0 where
+  pub rate-is : rate ≤ rateMost
   pub listing : Listing list count
   pub layers : Layers c work
   pub layer-is : length layer ≡ layerSize c
   pub admitted : (w a : ℕ) → w ≤ c .top → a ≤ c .premium → T (admits dynamic (freeAmount (c .level) a) w (cells layer 0 (c .premium + 1) w a))
   pub small : (w a : ℕ) → w ≤ c .top → a ≤ c .premium → cells work 0 (c .premium + 1) w a ≤ 4000000000
 
-pub record Back (c : Terms) (rs : Returns) (work layer work' : List ℕ) : Type 0 where
+pub record Back (c : Terms) (rs : Returns) (rate : ℕ) (work layer work' : List ℕ) : Type 0 where
   pub long : length work' ≡ length work
   pub values : (w a : ℕ) → w ≤ c .top → a ≤ c .premium
       → cells work' 0 (c .premium + 1) w a
-      ≡ followed (expected c rs (cells work 0 (c .premium + 1))) (cells layer 0 (c .premium + 1)) (c .penalty) (c .level) w a
+      ≡ followed (expected c rs (cells work 0 (c .premium + 1))) (cells layer 0 (c .premium + 1)) rate (c .level) w a
   pub rest : (i : ℕ) → layerSize c + layerSize c ≤ i → getD work' i 0 ≡ getD work i 0
 
 -- every date

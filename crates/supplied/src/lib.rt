@@ -131,15 +131,15 @@ fn follow_layer(
     }
 }
 
-// The values of one date.
-fn follow_date(work: &mut [u32], layer: &[u16], list: &[u8], count: usize, c: Contract)
-    requires { ⌜ OneDate (termsIn c) count (now work) (now layer) (now list) ⌝ }
-    ensures { λ _. ⌜ Back (termsIn c) (returnsOf (now (list .entry))) (now (work .entry)) (now (layer .entry)) (now (work .exit)) ⌝ }
+// The values of one date, at its penalty rate.
+fn follow_date(work: &mut [u32], layer: &[u16], list: &[u8], count: usize, c: Contract, rate: usize)
+    requires { ⌜ OneDate (termsIn c) count rate (now work) (now layer) (now list) ⌝ }
+    ensures { λ _. ⌜ Back (termsIn c) (returnsOf (now (list .entry))) rate (now (work .entry)) (now (layer .entry)) (now (work .exit)) ⌝ }
 {
     let stride = c.premium + 1;
     let n = c.top + 1;
     expect::expect_layer(work, list, count, c);
-    follow_layer(work, layer, n * stride, stride, n, c.level, c.penalty);
+    follow_layer(work, layer, n * stride, stride, n, c.level, rate);
 }
 
 // Every decision date, from the last to the first, each by its own layer of the table.
@@ -152,7 +152,7 @@ fn follow_dates(work: &mut [u32], table: &[u16], list: &[u8], count: usize, c: C
     while 0 < i {
         let from = (i - 1) * size;
         let to = i * size;
-        follow_date(work, &table[from..to], list, count, c);
+        follow_date(work, &table[from..to], list, count, c, c.penalty);
         i -= 1;
     }
 }
