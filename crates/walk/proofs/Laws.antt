@@ -17,7 +17,7 @@ use Rattle.decision.specs.Layers.{lookup, entry}
 use Rattle.slices.specs.Parts.{part-at}
 use Rattle.slices.specs.Rows.{within-rows, rows-le, rows-before}
 use Rattle.rules.specs.Contract.{Terms, termsOf, Returns, returnsOf}
-use Rattle.rules.specs.Date.{dynamic, freeAmount, admits, cash, balanceAfter, guaranteeAfter, nextAccount}
+use Rattle.rules.specs.Date.{dynamic, freeAmount, admits, balanceAfter, guaranteeAfter, nextAccount}
 use Rattle.rules.specs.Product.{walkState, walkAmount, walkCash}
 use Rattle.rules.specs.FixedTerm.{State, startOf, reachBy, afterIn, cashIn, freeIn, admissibleIn, processOf, layerSize, layoutOf, fixedTerm}
 use Rattle.rules.specs.Refusals.{Verdict, accepted, refused, verdict, numberOf, placeOf, onSuccess, recordChecks, listChecks}
@@ -26,6 +26,7 @@ use Rattle.laws.specs.Accepted.{Valid, not-not, andThen, parts-accepted, parts-
 use Rattle.contract.specs.declared.Outcome.{Outcome}
 use Rattle.contract.specs.Reading.{outcomeAt, outcomeOf}
 use Rattle.expect.specs.Expected.{Listing}
+use Rattle.dates.specs.Back.{at}
 use Rattle.laws.specs.Date.{account-le, guarantee-le, dynamic-is}
 use Rattle.laws.specs.Walk.{walk-first, walk-next}
 use Rattle.walk.specs.Walked.{Walking, Met, paid, paidLast, Walked}
@@ -90,11 +91,11 @@ module _ {c : Terms} {rs : Returns} {table path : List ℕ} {i w a : ℕ} (m : M
       ap (λ (n : ℕ). not (admissibleIn c dynamic (walkState (fixedTerm c rs) table path n) (walkAmount (fixedTerm c rs) table path n))) up
       ∙ ap (λ (s : State). not (admissibleIn c dynamic s (walkAmount (fixedTerm c rs) table path i))) (m .state)
 
-  pub paid-is : cash (c .penalty) (freeAmount (c .level) a) (walkAmount (fixedTerm c rs) table path i) ≡ paid c rs table path (i - 1)
+  pub paid-is : cashIn c i (at w a) (walkAmount (fixedTerm c rs) table path i) ≡ paid c rs table path (i - 1)
   unfolding paid
   paid-is =
-      sym (ap (λ (n : ℕ). cash (c .penalty) (freeAmount (c .level) (walkState (fixedTerm c rs) table path n .guarantee)) (walkAmount (fixedTerm c rs) table path n)) up
-      ∙ ap (λ (s : State). cash (c .penalty) (freeAmount (c .level) (s .guarantee)) (walkAmount (fixedTerm c rs) table path i)) (m .state))
+      sym (ap (λ (n : ℕ). cashIn c n (walkState (fixedTerm c rs) table path n) (walkAmount (fixedTerm c rs) table path n)) up
+      ∙ ap (λ (s : State). cashIn c i s (walkAmount (fixedTerm c rs) table path i)) (m .state))
 
   -- where no date is bad
   pub amount-within : c .dates - 1 ≤ first (badDate c rs table path) (c .dates - 1) → i < c .dates
@@ -107,7 +108,7 @@ module _ {c : Terms} {rs : Returns} {table path : List ℕ} {i w a : ℕ} (m : M
 cash-list : (c : Terms) (rs : Returns) (table path cashes : List ℕ) → 1 ≤ c .dates → c .dates ≤ length cashes
     → set (stored cashes 0 (paid c rs table path) (c .dates - 1)) (c .dates - 1) (paidLast c rs table path)
     ≡ walkCash (fixedTerm c rs) table path ++ drop (c .dates) cashes
-unfolding walkCash fixedTerm processOf cashIn freeIn paid
+unfolding walkCash fixedTerm processOf paid
 cash-list c rs table path cashes some room =
     let n = c .dates - 1 in
     let up : suc n ≡ c .dates = omega arith in

@@ -4,9 +4,9 @@ use mathlib.Core.Path.{_≡_}
 use Prim.Native.Nat.{ℕ, suc, _+_, _-_, _≤_, _<_}
 use lib.ListN.{getD, length, drop}
 use Rattle.rules.specs.Contract.{Terms, Returns}
-use Rattle.rules.specs.Date.{freeAmount, cash, maturityValue}
+use Rattle.rules.specs.Date.{maturityValue}
 use Rattle.rules.specs.Product.{walkState, walkAmount, walkCash}
-use Rattle.rules.specs.FixedTerm.{fixedTerm}
+use Rattle.rules.specs.FixedTerm.{cashIn, fixedTerm}
 use Rattle.rules.specs.Refusals.{Verdict, onSuccess}
 use Rattle.rules.specs.Operations.{tableSize}
 use Rattle.laws.specs.Accepted.{Valid}
@@ -32,8 +32,7 @@ pub record Met (c : Terms) (rs : Returns) (table path : List ℕ) (i w a : ℕ) 
 -- the cash of date suc j, the last of them the maturity payment
 unfoldable pub paid : Terms → Returns → List ℕ → List ℕ → ℕ → ℕ
 paid c rs table path j =
-    let s = walkState (fixedTerm c rs) table path (suc j) in
-    cash (c .penalty) (freeAmount (c .level) (s .guarantee)) (walkAmount (fixedTerm c rs) table path (suc j))
+    cashIn c (suc j) (walkState (fixedTerm c rs) table path (suc j)) (walkAmount (fixedTerm c rs) table path (suc j))
 
 abbrev pub paidLast : Terms → Returns → List ℕ → List ℕ → ℕ
 paidLast c rs table path = let s = walkState (fixedTerm c rs) table path (c .dates) in maturityValue (s .account) (s .guarantee)

@@ -8,7 +8,7 @@ use native.Mathlib.Omega.{arith}
 use Rattle.contract.specs.Reading.{termsIn}
 use Rattle.rules.specs.Contract.{returnsOf}
 use Rattle.rules.specs.Date.{freeAmount, cash, maturityValue}
-use Rattle.rules.specs.FixedTerm.{State}
+use Rattle.rules.specs.FixedTerm.{State, freeIn, cashIn}
 use Rattle.slices.specs.Stored.{stored, stored-push, length-stored}
 use Rattle.walk.specs.Walked.{Met, paid}
 use Rattle.walk.proofs.Laws.{amount-within, paid-is, met-up}
@@ -46,6 +46,7 @@ cash-requires c κs =
     )
 
 cash-is : (c : tie.After-cash Inv-loop μ-loop) → c .cash .result ≡ paid (termsIn (c .before .before .before .before .before .before .before .before .before .before .before .args .c)) (returnsOf (c .before .before .before .before .before .before .before .before .before .before .before .args .list .now)) (c .before .before .before .before .before .before .before .before .before .before .before .args .table .now) (c .before .before .before .before .before .before .before .before .before .before .before .args .path .now) (c .before .before .before .before .before .loop .i - 1)
+unfolding cashIn freeIn
 cash-is c =
     c .cash .ensures .0
     ∙ ap₂ (λ (m t : ℕ). cash (c .before .before .before .before .before .before .before .before .before .before .before .args .c .penalty) m t) (c .before .free-amount .ensures) (c .before .before .amount-on .ensures)
