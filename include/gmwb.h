@@ -14,9 +14,20 @@
  * accepted one needs, so that what the caller passes is what is refused: 65,537 is not taken for 1.
  *
  * Slices. A slice is a pointer, aligned for its type, and the number of entries behind it (bytes
- * for a record, a list and a booking buffer). Slices passed as const are only read. Slices, and the
- * objects that place, value and margin point to, must not overlap one another.
- * Nothing is read or written through a pointer whose length is 0: it may be NULL.
+ * for a record, a list and a booking buffer). Nothing is read or written through a pointer whose
+ * length is 0: it may be NULL. The pointers place, value and margin must not be NULL. Slices passed
+ * as const are only read and may share memory with one another. Each slice that is not const, and
+ * each object that place, value or margin points to, must be apart from all others of the call.
+ *
+ * Threads. A call allocates nothing and keeps no state. Calls may run at the same time where none
+ * writes what another reads or writes.
+ *
+ * Time. A check and a booking take a few steps, a walk a few for each date and return. Valuing a
+ * contract or a supplied table makes (N - 1) x (top + 1) x (U + 1) x returns products, and looks at
+ * one amount of each state of each decision date; mixed looks at two, dynamic, on each date, at
+ * about top x U x G amounts up to m and at most U^3 / 6 above it. docs/BENCHMARK.md has times.
+ *
+ * The archive is for x86-64: size_t has 64 bits.
  */
 #ifndef GMWB_H
 #define GMWB_H
@@ -42,7 +53,8 @@ enum gmwb_refusal {
                                        place: the first such record of the list */
     GMWB_REFUSED_WEIGHTS = 9,       /* weights do not add to 10,000 */
     GMWB_REFUSED_BEHAVIOUR = 10,    /* behaviour not 0 static, 1 mixed, 2 dynamic */
-    GMWB_REFUSED_SLICE = 11,        /* a slice shorter than needed; a booking buffer not 16 bytes */
+    GMWB_REFUSED_SLICE = 11,        /* work, table or cash shorter than needed; a booking buffer not
+                                       16 bytes */
     GMWB_REFUSED_STATE = 12,        /* booking: date not 1 to N - 1, account above top, or guarantee
                                        above the premium */
     GMWB_REFUSED_PATH = 13,         /* walk: count of return numbers not N (looked at first), place
@@ -68,13 +80,21 @@ enum gmwb_refusal {
  * Decisions fall on dates 1 to N - 1, and date N is maturity. The dynamic set of a state holds the
  * amounts from 0 to the larger of W and m.
  *
+ * The withdrawal of an amount t from a state:
+ *
+ *     cash             10,000 x t less penalty
+ *     penalty          rate x (t - m) where t is above m, else 0
+ *     guarantee after  A - t if t is at most m; else the smaller of A - t and A x (W - t) / W
+ *                      rounded down, and never below 0
+ *     balance after    W - t, never below 0
+ *
  * A booking buffer has 16 bytes:
  *
  *     offset  bytes  field
- *          0      4  cash: 10,000 x amount less penalty
- *          4      4  penalty: rate x (amount - m) where the amount is above m, else 0
- *          8      2  balance after the withdrawal, before the return
- *         10      2  guarantee after the withdrawal
+ *          0      4  cash
+ *          4      4  penalty
+ *          8      2  balance after, before the return
+ *         10      2  guarantee after
  *         12      4  zeros
  */
 enum { GMWB_RECORD_BYTES = 16, GMWB_BOOKING_BYTES = 16 };
@@ -98,6 +118,17 @@ uint32_t gmwb_book(const uint8_t *record, size_t record_len,
  *
  * A return list has 1 to 64 records of 4 bytes: factor (2 bytes, ten-thousandths, 0 to 30,000) and
  * weight (2 bytes, 1 to 10,000). The weights add to 10,000.
+ *
+ * The value rests on these rules and on those of a withdrawal:
+ *
+ *     start      balance U and guarantee U, then the first return
+ *     return     next account = balance x factor x (10,000 - fee) / 100,000,000, rounded down a
+ *                single time; a result above top is held at top
+ *     maturity   the value is 10,000 x the larger of W and A
+ *     before it  an amount is worth its cash plus discount x (sum of weight x value reached) /
+ *                10,000,000,000, rounded down once; a state's value is the largest worth among
+ *                the amounts open to the holder
+ *     contract   the same discounted and rounded sum over the first return, without cash
  *
  * A layer has (top + 1) x (U + 1) entries; the entry of state (W, A) is W x (U + 1) + A.
  *
@@ -148,10 +179,10 @@ uint32_t gmwb_value_table(const uint8_t *record, size_t record_len,
 /* ---- Walking a contract along a path ---------------------------------------------------------
  *
  * Follows a table along a path of N return numbers (from 0, by place in the list), the first return
- * first; record, list and table as above. Only the table entries met are checked. Returns 0 with
- * place 0 and cash filled with N amounts in order of date, the last being the maturity payment;
- * entries of cash beyond N are untouched. Else a refusal (1 to 9, 11, 13, 14) and its place, with
- * cash untouched.
+ * first; record, list and table as above. The table needs all N - 1 layers and cash N entries; only
+ * the table entries met are checked. Returns 0 with place 0 and cash filled with N amounts in order
+ * of date, the last being the maturity payment; entries of cash beyond N are untouched. Else a
+ * refusal (1 to 9, 11, 13, 14) and its place, with cash untouched.
  */
 uint32_t gmwb_walk(const uint8_t *record, size_t record_len,
                    const uint8_t *list, size_t list_len,
