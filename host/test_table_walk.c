@@ -1,7 +1,7 @@
 /*
  * gmwb_value_table and gmwb_walk: their refusals on both sides of each boundary, what is left in the
- * slices, the value of a table against walks along every path, and random tables and walks against
- * the second program.
+ * slices, slices that share memory, the value of a table against walks along every path, and random
+ * tables and walks against the second program.
  */
 #include "contracts.h"
 
@@ -406,6 +406,91 @@ static void bad_entries_met(void)
     walk_answered(&f, GMWB_REFUSED_AMOUNT, 2);
 }
 
+/* ---- Memory that is shared -------------------------------------------------------------------- */
+
+/* In words of 16 bits: the table of P3, two returns, the record. */
+enum { ONE_TABLE = 2 * 21 * 11, ONE_LIST = 4 };
+enum { ONE_BLOCK = ONE_TABLE + ONE_LIST + GMWB_RECORD_BYTES / 2 };
+
+/*
+ * The list ends in the first 8 bytes of the record, which are two returns of weights 5 and 3. Both
+ * stand in the table's slice, behind the entries it needs. The path is the table's first entries.
+ */
+static struct followed in_one_block(uint16_t *block)
+{
+    const struct fund_return first[2] = {{5000, 4992}, {15000, 5000}};
+    struct input in = input_of(P3, first, 2);
+    memcpy(in.list + in.list_len, in.record, 2 * GMWB_RETURN_BYTES);
+    in.list_len += 2 * GMWB_RETURN_BYTES;
+    for (size_t i = 0; i < ONE_TABLE; i++)
+        block[i] = largest_at(P3, i) / 2;
+    block[1] = block[2] = 1;
+    memcpy(block + ONE_TABLE, in.list, ONE_LIST * sizeof *block);
+    memcpy(block + ONE_TABLE + ONE_LIST, in.record, GMWB_RECORD_BYTES);
+    struct followed f = exact(in, block, block);
+    f.table_room = f.table_len = ONE_BLOCK;
+    return f;
+}
+
+static void value_table_in(const struct followed *f, const uint8_t *list, const uint8_t *record)
+{
+    struct told t, s = untold();
+    struct lent apart, work = lend(f->work_len, sizeof(uint32_t));
+    same("value_table: number", value_table(f, &t, &apart), GMWB_SUCCESS);
+    same("value_table: number in one block",
+         gmwb_value_table(record, f->in.record_len, list, f->in.list_len, start(work), f->work_len,
+                          f->table, f->table_len, &s.place, &s.value, &s.margin),
+         GMWB_SUCCESS);
+    same("value_table: value in one block", s.value, t.value);
+    same_slice("value_table: working slice in one block", work, apart, sizeof(uint32_t));
+    take_back(apart);
+    take_back(work);
+}
+
+static void walk_in(const struct followed *f, const uint8_t *list, const uint8_t *record)
+{
+    uint64_t place;
+    struct lent apart, cash = lend(f->cash_len, sizeof(uint32_t));
+    same("walk: number", walk(f, &place, &apart), GMWB_SUCCESS);
+    same("walk: number in one block",
+         gmwb_walk(record, f->in.record_len, list, f->in.list_len, f->table, f->table_len, f->path,
+                   f->path_len, start(cash), f->cash_len, &place),
+         GMWB_SUCCESS);
+    same_slice("walk: cash in one block", cash, apart, sizeof(uint32_t));
+    take_back(apart);
+    take_back(cash);
+}
+
+static void value_in(const struct followed *f, const uint8_t *list, const uint8_t *record)
+{
+    struct told t, s = untold();
+    struct lent apart, work = lend(f->work_len, sizeof(uint32_t));
+    uint16_t *recorded_apart = recorded(&f->in, GMWB_DYNAMIC, &t, &apart), table[ONE_TABLE];
+    same("value: number in one block",
+         gmwb_value(record, f->in.record_len, list, f->in.list_len, GMWB_DYNAMIC, start(work),
+                    f->work_len, table, ONE_TABLE, &s.place, &s.value, &s.margin),
+         GMWB_SUCCESS);
+    same("value: value in one block", s.value, t.value);
+    same_slice("value: working slice in one block", work, apart, sizeof(uint32_t));
+    holds("value: table in one block", memcmp(table, recorded_apart, sizeof table) == 0);
+    take_back(apart);
+    take_back(work);
+    free(recorded_apart);
+}
+
+/* "Slices passed as const ... may share memory with one another." */
+static void shared_memory(void)
+{
+    uint16_t block[ONE_BLOCK];
+    struct followed f = in_one_block(block);
+    const uint8_t *list = (const uint8_t *)(block + ONE_TABLE);
+    const uint8_t *record = (const uint8_t *)(block + ONE_TABLE + ONE_LIST);
+    about("slices in one block");
+    value_table_in(&f, list, record);
+    walk_in(&f, list, record);
+    value_in(&f, list, record);
+}
+
 /* ---- Every path ------------------------------------------------------------------------------- */
 
 enum { STEPS = 3, BRANCHES = 3, PATHS = 27 };
@@ -583,6 +668,7 @@ int main(int argc, char **argv)
     path_counts();
     path_numbers();
     bad_entries_met();
+    shared_memory();
     every_path_by_hand();
     random_rounds(rounds);
     return verdict("table_walk");

@@ -1,0 +1,265 @@
+/*
+ * The five calls in several threads at once, on contracts that are accepted and on some that are
+ * refused: each call tells and leaves what it tells and leaves when the calls are made one after
+ * the other. Slices that are only read are shared by the threads.
+ */
+#define _POSIX_C_SOURCE 200809L /* barriers */
+#include <pthread.h>
+
+#include "contracts.h"
+
+/* Run and contracts have no common factor, so that in time a run begins at every contract. */
+enum { THREADS = 4, CONTRACTS = 60, RUN = 7, USUAL_ROUNDS = 2000 };
+
+/* ---- The calls -------------------------------------------------------------------------------- */
+
+/* What the calls on a contract are given. */
+struct given {
+    struct lent record, list, table, path;
+    uint64_t behaviour, date, account, guarantee, amount;
+    size_t out_len, work_len, cash_len;
+};
+
+/* What a call tells and leaves; a slice that it does not take is empty. */
+struct answer {
+    uint32_t number;
+    struct told told;
+    struct lent left[2];
+};
+
+static void check(const struct given *g, struct answer *a)
+{
+    a->number = gmwb_check(start(g->record), g->record.bytes);
+}
+
+static void book(const struct given *g, struct answer *a)
+{
+    a->number = gmwb_book(start(g->record), g->record.bytes, g->date, g->account, g->guarantee,
+                          g->amount, start(a->left[0]), g->out_len);
+}
+
+static void value(const struct given *g, struct answer *a)
+{
+    a->number = gmwb_value(start(g->record), g->record.bytes, start(g->list), g->list.bytes,
+                           g->behaviour, start(a->left[0]), g->work_len, start(a->left[1]),
+                           g->table.bytes / sizeof(uint16_t),
+                           &a->told.place, &a->told.value, &a->told.margin);
+}
+
+static void value_table(const struct given *g, struct answer *a)
+{
+    a->number = gmwb_value_table(start(g->record), g->record.bytes, start(g->list), g->list.bytes,
+                                 start(a->left[0]), g->work_len,
+                                 start(g->table), g->table.bytes / sizeof(uint16_t),
+                                 &a->told.place, &a->told.value, &a->told.margin);
+}
+
+static void walk(const struct given *g, struct answer *a)
+{
+    a->number = gmwb_walk(start(g->record), g->record.bytes, start(g->list), g->list.bytes,
+                          start(g->table), g->table.bytes / sizeof(uint16_t),
+                          start(g->path), g->path.bytes / sizeof(uint16_t),
+                          start(a->left[0]), g->cash_len, &a->told.place);
+}
+
+static const struct {
+    const char *name;
+    void (*make)(const struct given *g, struct answer *a);
+} CALLS[] = {
+    {"check", check},
+    {"book", book},
+    {"value", value},
+    {"value_table", value_table},
+    {"walk", walk},
+};
+
+enum { KINDS = COUNT(CALLS) };
+
+/* The slices of a call, before it is made. */
+static struct answer lent_to(size_t kind, const struct given *g)
+{
+    size_t work = g->work_len * sizeof(uint32_t), cash = g->cash_len * sizeof(uint32_t);
+    const size_t bytes[KINDS][2] = {
+        {0, 0}, {g->out_len, 0}, {work, g->table.bytes}, {work, 0}, {cash, 0},
+    };
+    struct answer a = {0, untold(), {lend(bytes[kind][0], 1), lend(bytes[kind][1], 1)}};
+    return a;
+}
+
+static void take_back_answer(struct answer a)
+{
+    take_back(a.left[0]);
+    take_back(a.left[1]);
+}
+
+static bool same_block(struct lent a, struct lent b)
+{
+    return memcmp(a.block, b.block, FENCE + a.bytes + a.after) == 0;
+}
+
+static bool same_answer(const struct answer *a, const struct answer *b)
+{
+    return a->number == b->number && memcmp(&a->told, &b->told, sizeof a->told) == 0 &&
+           same_block(a->left[0], b->left[0]) && same_block(a->left[1], b->left[1]);
+}
+
+/* ---- Contracts -------------------------------------------------------------------------------- */
+
+static struct given given[CONTRACTS];
+static struct answer expected[CONTRACTS][KINDS];
+
+/* Admissible amounts; in one table of four some that are not. */
+static struct lent random_table(struct terms c)
+{
+    size_t entries = table_of(c);
+    uint16_t *table = allocate((entries + 1) * sizeof *table);
+    bool bad = one_in(4);
+    for (size_t i = 0; i < entries; i++)
+        table[i] = (uint16_t)(bad && one_in(3) ? 65535 : upto(largest_at(c, i)));
+    size_t bytes = entries * sizeof *table;
+    struct lent lent = lend_copy(table, bytes, bytes);
+    free(table);
+    return lent;
+}
+
+static struct lent random_path(struct terms c, size_t count)
+{
+    uint16_t path[40];
+    for (size_t i = 0; i < c.dates; i++)
+        path[i] = (uint16_t)upto(one_in(64) ? count : count - 1);
+    size_t bytes = c.dates * sizeof *path;
+    return lend_copy(path, bytes, bytes);
+}
+
+/* Half of the contracts are damaged here or there; some are so large that calls overlap for long. */
+static struct given random_given(void)
+{
+    bool damaged = one_in(2);
+    struct terms c = one_in(4) ? random_terms(200, 100, 10) : random_terms(30, 30, 6);
+    size_t count = (size_t)between(1, 8);
+    struct input in = random_input(c, count);
+    if (damaged && one_in(4))
+        damage_record(&in);
+    if (damaged && one_in(4))
+        damage_list(&in);
+    struct given g = {lend_record(&in), lend_list(&in), random_table(c), random_path(c, count),
+                      upto(damaged ? 3 : 2), between(1, larger(c.dates, 2) - 1), upto(c.top),
+                      upto(c.premium), 0, GMWB_BOOKING_BYTES, work_of(c), c.dates};
+    g.amount = upto(larger(g.account, free_amount(c, g.guarantee)) + (damaged ? 1 : 0));
+    if (damaged && one_in(4))
+        g.work_len--;
+    if (damaged && one_in(4))
+        g.cash_len--;
+    return g;
+}
+
+/* Every call, one after the other. Both acceptance and refusal must have come of each kind. */
+static void prepare(void)
+{
+    uint64_t accepted[KINDS] = {0};
+    for (size_t k = 0; k < CONTRACTS; k++) {
+        given[k] = random_given();
+        for (size_t kind = 0; kind < KINDS; kind++) {
+            expected[k][kind] = lent_to(kind, &given[k]);
+            CALLS[kind].make(&given[k], &expected[k][kind]);
+            accepted[kind] += expected[k][kind].number == 0;
+        }
+    }
+    for (size_t kind = 0; kind < KINDS; kind++) {
+        about("%s", CALLS[kind].name);
+        holds("some are accepted and some refused",
+              accepted[kind] > 0 && accepted[kind] < CONTRACTS);
+    }
+}
+
+/* ---- Threads ---------------------------------------------------------------------------------- */
+
+struct worker {
+    pthread_t thread;
+    size_t number;
+    uint64_t rounds;
+    uint64_t differing[KINDS];
+    uint64_t beside; /* calls begun while another was under way */
+};
+
+static pthread_barrier_t together;
+static unsigned under_way;
+
+static void make_call(struct worker *w, size_t k, size_t kind)
+{
+    struct answer a = lent_to(kind, &given[k]);
+    unsigned others = __atomic_fetch_add(&under_way, 1, __ATOMIC_RELAXED);
+    CALLS[kind].make(&given[k], &a);
+    __atomic_fetch_sub(&under_way, 1, __ATOMIC_RELAXED);
+    w->beside += others > 0;
+    w->differing[kind] += !same_answer(&a, &expected[k][kind]);
+    take_back_answer(a);
+}
+
+/*
+ * The threads start each round together and make a run of calls of one kind, on one contract after
+ * the other: in turn all of the same kind and on the same contracts, or of different ones.
+ */
+static void *work(void *argument)
+{
+    struct worker *w = argument;
+    for (uint64_t round = 0; round < w->rounds; round++) {
+        size_t turn = (size_t)(round / 4);
+        size_t kind = turn + (round % 2 == 0 ? 0 : w->number);
+        size_t first = RUN * (turn + (round % 4 < 2 ? 0 : w->number));
+        pthread_barrier_wait(&together);
+        for (size_t i = 0; i < RUN; i++)
+            make_call(w, (first + i) % CONTRACTS, kind % KINDS);
+    }
+    return NULL;
+}
+
+static void run(struct worker *workers, uint64_t rounds)
+{
+    bool fine = pthread_barrier_init(&together, NULL, THREADS) == 0;
+    for (size_t i = 0; fine && i < THREADS; i++) {
+        workers[i].number = i;
+        workers[i].rounds = rounds;
+        fine = pthread_create(&workers[i].thread, NULL, work, &workers[i]) == 0;
+    }
+    if (!fine) {
+        fprintf(stderr, "no threads\n");
+        exit(2);
+    }
+    for (size_t i = 0; i < THREADS; i++)
+        pthread_join(workers[i].thread, NULL);
+    pthread_barrier_destroy(&together);
+}
+
+static void compare(const struct worker *workers, bool often)
+{
+    uint64_t beside = 0;
+    for (size_t i = 0; i < THREADS; i++) {
+        for (size_t kind = 0; kind < KINDS; kind++) {
+            about("%s in thread %lu", CALLS[kind].name, (unsigned long)i);
+            same("answers that differ", workers[i].differing[kind], 0);
+        }
+        beside += workers[i].beside;
+    }
+    about("all threads");
+    if (often)
+        holds("calls overlapped", beside > 0);
+}
+
+int main(int argc, char **argv)
+{
+    uint64_t rounds = rounds_from(argc, argv, USUAL_ROUNDS);
+    struct worker workers[THREADS] = {0};
+    prepare();
+    run(workers, rounds);
+    compare(workers, rounds >= USUAL_ROUNDS);
+    for (size_t k = 0; k < CONTRACTS; k++) {
+        for (size_t kind = 0; kind < KINDS; kind++)
+            take_back_answer(expected[k][kind]);
+        take_back(given[k].record);
+        take_back(given[k].list);
+        take_back(given[k].table);
+        take_back(given[k].path);
+    }
+    return verdict("threads");
+}
