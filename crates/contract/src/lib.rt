@@ -131,24 +131,29 @@ impl Contract {
 
     pub const WEIGHT_TOTAL: usize = 10000;
 
-    // The terms if every one is in range.
+    // The terms if every one is in range: the conditions, then the refusals in their order.
     fn checked(self) -> Reading
         ensures { λ r. ⌜ r ≡ readingOf (verdict (termsChecks (termsIn self))) self ⌝ }
     {
         let c = self;
-        if bad_premium(c.top, c.premium) {
+        let premium_fails = bad_premium(c.top, c.premium);
+        let level_fails = outside(1, c.premium, c.level);
+        let dates_fail = outside(1, Self::DATES_MOST, c.dates);
+        let rates_fail = bad_rates(c.fee, c.penalty);
+        let discount_fails = outside(1, Self::DISCOUNT_MOST, c.discount);
+        if premium_fails {
             return refused(2);
         }
-        if outside(1, c.premium, c.level) {
+        if level_fails {
             return refused(3);
         }
-        if outside(1, Self::DATES_MOST, c.dates) {
+        if dates_fail {
             return refused(4);
         }
-        if bad_rates(c.fee, c.penalty) {
+        if rates_fail {
             return refused(5);
         }
-        if outside(1, Self::DISCOUNT_MOST, c.discount) {
+        if discount_fails {
             return refused(6);
         }
         Reading::Accepted(c)

@@ -1,32 +1,66 @@
 -- `contract::Contract::checked` meets its contract. Assumes nothing.
+use Prim.Native.Nat.{ℕ}
 use borrow.Author.Needs.{needs}
-use mathlib.Core.Path.{sym, _∙_}
-use Rattle.rules.specs.Refusals.{verdict, termsChecks}
+use lib.ListN.{drop}
+use mathlib.Core.Path.{_≡_, sym, _∙_}
+use Rattle.contract.specs.Reading.{readingOf, refusedReading, termsIn}
+use Rattle.contract.specs.declared.Contract.{Contract}
+use Rattle.contract.specs.declared.Reading.{Reading}
+use Rattle.rules.specs.Refusals.{refused, verdict, termsChecks}
 use Rattle.contract.proofs.Contract.checked.Statement.{statement}
 use Rattle.contract.proofs.Contract.checked.Tie as tie
 
+-- the first n checks pass
+abbrev Passed : ℕ → Contract → Type 0
+Passed n x = verdict (termsChecks (termsIn x)) ≡ verdict (drop n (termsChecks (termsIn x)))
+
+-- a check refuses
+refusing : (x : Contract) (number : ℕ) {r : Reading} → verdict (termsChecks (termsIn x)) ≡ refused number 0
+    → r ≡ refusedReading number 0 → r ≡ readingOf (verdict (termsChecks (termsIn x))) x
+refusing x number e f = rw e f
+
 bad-premium-requires : tie.Need-bad-premium-requires
 bad-premium-requires c κs = search needs
+
+outside-requires : tie.Need-outside-requires
+outside-requires c κs = search needs
+
+outside-requires-2 : tie.Need-outside-requires-2
+outside-requires-2 c κs = search needs
+
+bad-rates-requires : tie.Need-bad-rates-requires
+bad-rates-requires c κs = search needs
+
+outside-requires-3 : tie.Need-outside-requires-3
+outside-requires-3 c κs = search needs
 
 refused-requires : tie.Need-refused-requires
 refused-requires c κs = search needs
 
 returns : tie.Need-returns
 unfolding verdict termsChecks
-returns c = simp (sym (c .before .before .bad-premium .ensures) ∙ c .before .if1 .taken) (c .refused .ensures)
+returns c =
+    let x = c .before .before .before .before .before .before .before .args .self in
+    let fails = sym (c .before .before .before .before .before .before .bad-premium .ensures) ∙ c .before .if1 .taken in
+    refusing x 2 (rw fails) (c .refused .ensures)
 
-outside-requires : tie.Need-outside-requires
-outside-requires c κs = search needs
+passed1 : (c : tie.Else1) → Passed 1 (c .before .before .before .before .before .before .args .self)
+unfolding verdict termsChecks
+passed1 c = rw (sym (c .before .before .before .before .before .bad-premium .ensures) ∙ c .if1 .left)
 
 refused-requires-2 : tie.Need-refused-requires-2
 refused-requires-2 c κs = search needs
 
 returns-2 : tie.Need-returns-2
 unfolding verdict termsChecks
-returns-2 c = simp (sym (c .before .before .before .before .bad-premium .ensures) ∙ c .before .before .before .if1 .left, sym (c .before .before .outside .ensures) ∙ c .before .if2 .taken) (c .refused2 .ensures)
+returns-2 c =
+    let x = c .before .before .before .before .before .before .before .before .args .self in
+    let fails = sym (c .before .before .before .before .before .before .outside .ensures) ∙ c .before .if2 .taken in
+    refusing x 3 (passed1 (c .before .before) ∙ rw fails) (c .refused2 .ensures)
 
-outside-requires-2 : tie.Need-outside-requires-2
-outside-requires-2 c κs = search needs
+passed2 : (c : tie.Else2) → Passed 2 (c .before .before .before .before .before .before .before .args .self)
+unfolding verdict termsChecks
+passed2 c = passed1 (c .before) ∙ rw (sym (c .before .before .before .before .before .outside .ensures) ∙ c .if2 .left)
 
 refused-requires-3 : tie.Need-refused-requires-3
 refused-requires-3 c κs = search needs
@@ -34,15 +68,13 @@ refused-requires-3 c κs = search needs
 returns-3 : tie.Need-returns-3
 unfolding verdict termsChecks
 returns-3 c =
-    let bad-premium = c .before .before .before .before .before .before .bad-premium in
-    let if1 = c .before .before .before .before .before .if1 in
-    let outside = c .before .before .before .before .outside in
-    let if2 = c .before .before .before .if2 in
-    let outside2 = c .before .before .outside2 in
-    simp (sym (bad-premium .ensures) ∙ if1 .left, sym (outside .ensures) ∙ if2 .left, sym (outside2 .ensures) ∙ c .before .if3 .taken) (c .refused3 .ensures)
+    let x = c .before .before .before .before .before .before .before .before .before .args .self in
+    let fails = sym (c .before .before .before .before .before .before .outside2 .ensures) ∙ c .before .if3 .taken in
+    refusing x 4 (passed2 (c .before .before) ∙ rw fails) (c .refused3 .ensures)
 
-bad-rates-requires : tie.Need-bad-rates-requires
-bad-rates-requires c κs = search needs
+passed3 : (c : tie.Else3) → Passed 3 (c .before .before .before .before .before .before .before .before .args .self)
+unfolding verdict termsChecks
+passed3 c = passed2 (c .before) ∙ rw (sym (c .before .before .before .before .before .outside2 .ensures) ∙ c .if3 .left)
 
 refused-requires-4 : tie.Need-refused-requires-4
 refused-requires-4 c κs = search needs
@@ -50,17 +82,13 @@ refused-requires-4 c κs = search needs
 returns-4 : tie.Need-returns-4
 unfolding verdict termsChecks
 returns-4 c =
-    let bad-premium = c .before .before .before .before .before .before .before .before .bad-premium in
-    let if1 = c .before .before .before .before .before .before .before .if1 in
-    let outside = c .before .before .before .before .before .before .outside in
-    let if2 = c .before .before .before .before .before .if2 in
-    let outside2 = c .before .before .before .before .outside2 in
-    let if3 = c .before .before .before .if3 in
-    let bad-rates = c .before .before .bad-rates in
-    simp (sym (bad-premium .ensures) ∙ if1 .left, sym (outside .ensures) ∙ if2 .left, sym (outside2 .ensures) ∙ if3 .left, sym (bad-rates .ensures) ∙ c .before .if4 .taken) (c .refused4 .ensures)
+    let x = c .before .before .before .before .before .before .before .before .before .before .args .self in
+    let fails = sym (c .before .before .before .before .before .before .bad-rates .ensures) ∙ c .before .if4 .taken in
+    refusing x 5 (passed3 (c .before .before) ∙ rw fails) (c .refused4 .ensures)
 
-outside-requires-3 : tie.Need-outside-requires-3
-outside-requires-3 c κs = search needs
+passed4 : (c : tie.Else4) → Passed 4 (c .before .before .before .before .before .before .before .before .before .args .self)
+unfolding verdict termsChecks
+passed4 c = passed3 (c .before) ∙ rw (sym (c .before .before .before .before .before .bad-rates .ensures) ∙ c .if4 .left)
 
 refused-requires-5 : tie.Need-refused-requires-5
 refused-requires-5 c κs = search needs
@@ -68,47 +96,35 @@ refused-requires-5 c κs = search needs
 returns-5 : tie.Need-returns-5
 unfolding verdict termsChecks
 returns-5 c =
-    let bad-premium = c .before .before .before .before .before .before .before .before .before .before .bad-premium in
-    let if1 = c .before .before .before .before .before .before .before .before .before .if1 in
-    let outside = c .before .before .before .before .before .before .before .before .outside in
-    let if2 = c .before .before .before .before .before .before .before .if2 in
-    let outside2 = c .before .before .before .before .before .before .outside2 in
-    let if3 = c .before .before .before .before .before .if3 in
-    let bad-rates = c .before .before .before .before .bad-rates in
-    let if4 = c .before .before .before .if4 in
-    let outside3 = c .before .before .outside3 in
-    simp (sym (bad-premium .ensures) ∙ if1 .left, sym (outside .ensures) ∙ if2 .left, sym (outside2 .ensures) ∙ if3 .left, sym (bad-rates .ensures) ∙ if4 .left, sym (outside3 .ensures) ∙ c .before .if5 .taken) (c .refused5 .ensures)
+    let x = c .before .before .before .before .before .before .before .before .before .before .before .args .self in
+    let fails = sym (c .before .before .before .before .before .before .outside3 .ensures) ∙ c .before .if5 .taken in
+    refusing x 6 (passed4 (c .before .before) ∙ rw fails) (c .refused5 .ensures)
+
+passed5 : (c : tie.Else5) → Passed 5 (c .before .before .before .before .before .before .before .before .before .before .args .self)
+unfolding verdict termsChecks
+passed5 c = passed4 (c .before) ∙ rw (sym (c .before .before .before .before .before .outside3 .ensures) ∙ c .if5 .left)
 
 returns-6 : tie.Need-returns-6
 unfolding verdict termsChecks
-returns-6 c =
-    let bad-premium = c .before .before .before .before .before .before .before .before .before .bad-premium in
-    let if1 = c .before .before .before .before .before .before .before .before .if1 in
-    let outside = c .before .before .before .before .before .before .before .outside in
-    let if2 = c .before .before .before .before .before .before .if2 in
-    let outside2 = c .before .before .before .before .before .outside2 in
-    let if3 = c .before .before .before .before .if3 in
-    let bad-rates = c .before .before .before .bad-rates in
-    let if4 = c .before .before .if4 in
-    simp (sym (bad-premium .ensures) ∙ if1 .left, sym (outside .ensures) ∙ if2 .left, sym (outside2 .ensures) ∙ if3 .left, sym (bad-rates .ensures) ∙ if4 .left, sym (c .before .outside3 .ensures) ∙ c .if5 .left)
+returns-6 c = rw (passed5 c)
 
 pub checked-spec : {M : Type 1} → statement M
 checked-spec =
     tie.close
     (tie.spec
     bad-premium-requires
+    outside-requires
+    outside-requires-2
+    bad-rates-requires
+    outside-requires-3
     refused-requires
     returns
-    outside-requires
     refused-requires-2
     returns-2
-    outside-requires-2
     refused-requires-3
     returns-3
-    bad-rates-requires
     refused-requires-4
     returns-4
-    outside-requires-3
     refused-requires-5
     returns-5
     returns-6)
