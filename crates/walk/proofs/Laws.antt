@@ -3,7 +3,7 @@ use mathlib.Core.Bool.{not}
 use mathlib.Core.List.{List, [], _∷_, _++_}
 use mathlib.Core.Path.{_≡_, ap, ap₂, sym, _∙_, subst}
 use Prim.Native.Nat.{ℕ, suc, _+_, _-_, _*_, _≤_, _<_, max}
-use native.Mathlib.Nat.{le-trans, sub-le}
+use native.Mathlib.Nat.{le-trans, sub-le, max-le, min-le-right}
 use native.Mathlib.Numerals.{add-one}
 use native.Mathlib.Omega.{arith}
 use lib.Dec.{leb}
@@ -16,7 +16,7 @@ use Rattle.slices.specs.Stored.{stored, stored-front}
 use Rattle.decision.specs.Layers.{lookup, entry}
 use Rattle.slices.specs.Parts.{part-at}
 use Rattle.slices.specs.Rows.{within-rows, rows-le, rows-before}
-use Rattle.rules.specs.Contract.{Terms, termsOf, Returns, returnsOf}
+use Rattle.rules.specs.Contract.{Terms, topMost, termsOf, Returns, returnsOf}
 use Rattle.rules.specs.Date.{dynamic, freeAmount, admits, balanceAfter, guaranteeAfter, nextAccount}
 use Rattle.rules.specs.Product.{walkState, walkAmount, walkCash}
 use Rattle.rules.specs.FixedTerm.{State, startOf, reachBy, afterIn, cashIn, freeIn, admissibleIn, processOf, layerSize, layoutOf, fixedTerm}
@@ -103,6 +103,14 @@ module _ {c : Terms} {rs : Returns} {table path : List ℕ} {i w a : ℕ} (m : M
   amount-within none before =
       let good = sym bad-is ∙ all-fail (badDate c rs table path) (c .dates - 1) none (i - 1) (omega arith) in
       dynamic-is (freeAmount (c .level) a) w _ (not-not (admits dynamic (freeAmount (c .level) a) w (walkAmount (fixedTerm c rs) table path i)) (rw good tt))
+
+  -- .. and at most 4,000
+  pub amount-small : Valid c → c .dates - 1 ≤ first (badDate c rs table path) (c .dates - 1) → i < c .dates
+      → walkAmount (fixedTerm c rs) table path i ≤ topMost
+  unfolding freeAmount
+  amount-small v none before =
+      let lent = le-trans (m .guarantee) (le-trans (v .premium) (v .top)) in
+      le-trans (amount-within none before) (max-le (le-trans (m .account) (v .top)) (le-trans (min-le-right (c .level) a) lent))
 
 -- the cash as the rules list it
 cash-list : (c : Terms) (rs : Returns) (table path cashes : List ℕ) → 1 ≤ c .dates → c .dates ≤ length cashes

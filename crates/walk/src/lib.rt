@@ -7,10 +7,10 @@ ghost use lib.ListN.{length, getD, set};
 ghost use Rattle.decision.specs.Index.{first};
 ghost use Rattle.decision.specs.Layers.{lookup};
 ghost use Rattle.slices.specs.Stored.{stored};
-ghost use Rattle.rules.specs.Contract.{returnsOf};
+ghost use Rattle.rules.specs.Contract.{topMost, returnsOf};
 ghost use Rattle.rules.specs.Date.{dynamic, freeAmount, admits};
 ghost use Rattle.rules.specs.Product.{walkAmount};
-ghost use Rattle.rules.specs.FixedTerm.{layoutOf, fixedTerm};
+ghost use Rattle.rules.specs.FixedTerm.{cashIn, layoutOf, fixedTerm};
 ghost use Rattle.rules.specs.Refusals.{short, verdict};
 ghost use Rattle.rules.specs.Operations.{tableSize, badDate, pathChecks, walkVerdict, walkCashes};
 ghost use Rattle.laws.specs.Accepted.{Valid};
@@ -149,6 +149,14 @@ fn first_refused(c: Contract, list: &[u8], count: usize, table: &[u16], path: &[
     i
 }
 
+// What t pays on date i.
+fn cash_on(c: Contract, i: usize, place: Place, t: usize) -> usize
+    requires { ⌜ Valid (termsIn c) × (i < c .dates) × (t ≤ topMost) ⌝ }
+    ensures { λ r. ⌜ (r ≡ cashIn (termsIn c) i (at (place .account) (place .guarantee)) t) × (r ≤ 40000000) ⌝ }
+{
+    date::cash(c.penalty, date::free_amount(c.level, place.guarantee), t)
+}
+
 // Pays the cash of each date, and at maturity.
 fn pay(c: Contract, list: &[u8], count: usize, table: &[u16], path: &[u16], cash: &mut [u32])
     requires { ⌜ Walking (termsIn c) count (now list) (now table) (now path) × (c .dates ≤ length (now cash)) × (c .dates - 1 ≤ first (badDate (termsIn c) (returnsOf (now list)) (now table) (now path)) (c .dates - 1)) ⌝ }
@@ -158,8 +166,7 @@ fn pay(c: Contract, list: &[u8], count: usize, table: &[u16], path: &[u16], cash
     let mut i: usize = 1;
     while i < c.dates {
         let t = amount_on(c, list, count, table, path, i, place);
-        let m = date::free_amount(c.level, place.guarantee);
-        cash[i - 1] = date::cash(c.penalty, m, t) as u32;
+        cash[i - 1] = cash_on(c, i, place, t) as u32;
         place = next_place(c, list, count, table, path, i, place, t);
         i += 1;
     }

@@ -2,16 +2,17 @@
 use Prim.Native.Nat.{ℕ, _+_, _-_, _≤_, _<_}
 use borrow.Author.Needs.{needs}
 use lib.ListN.{length, set, length-set}
-use mathlib.Core.Path.{_≡_, refl, ap, ap₂, sym, _∙_, subst}
-use native.Mathlib.Nat.{le-trans, le-of-eq, max-le, min-le-right}
+use mathlib.Core.Path.{_≡_, refl, ap, sym, _∙_, subst}
+use native.Mathlib.Nat.{le-trans, le-of-eq}
 use native.Mathlib.Omega.{arith}
 use Rattle.contract.specs.Reading.{termsIn}
 use Rattle.rules.specs.Contract.{returnsOf}
-use Rattle.rules.specs.Date.{freeAmount, cash, maturityValue}
-use Rattle.rules.specs.FixedTerm.{State, freeIn, cashIn}
+use Rattle.rules.specs.Date.{maturityValue}
+use Rattle.rules.specs.FixedTerm.{State, cashIn}
+use Rattle.dates.specs.Back.{at}
 use Rattle.slices.specs.Stored.{stored, stored-push, length-stored}
 use Rattle.walk.specs.Walked.{Met, paid}
-use Rattle.walk.proofs.Laws.{amount-within, paid-is, met-up}
+use Rattle.walk.proofs.Laws.{amount-within, amount-small, paid-is, met-up}
 use Rattle.walk.proofs.pay.Statement.{statement}
 use Rattle.walk.proofs.pay.Tie as tie
 
@@ -32,37 +33,25 @@ loop-holds c = (omega arith, c .before .before .before .before .before .pre .0 .
 amount-on-requires : tie.Need-amount-on-requires Inv-loop μ-loop
 amount-on-requires c κs = (c .before .before .before .before .before .before .before .before .pre .0, c .before .before .loop .inv .2, c .before .before .loop .inv .0, c .if1 .taken)
 
-free-amount-requires : tie.Need-free-amount-requires Inv-loop μ-loop
-free-amount-requires c κs = search needs
-
-cash-requires : tie.Need-cash-requires Inv-loop μ-loop
-unfolding freeAmount
-cash-requires c κs =
-    let pre = c .before .before .before .before .before .before .before .before .before .before .pre in
-    let loop = c .before .before .before .before .loop in
-    let if1 = c .before .before .if1 in (
-      pre .0 .valid .penalty,
-      (let v = pre .0 .valid in let x = amount-within (loop .inv .2) (loop .inv .0) (pre .2) (if1 .taken) in le-trans (le-of-eq (c .before .amount-on .ensures)) (le-trans x (max-le (le-trans (loop .inv .2 .account) (v .top)) (le-trans (min-le-right _ _) (le-trans (loop .inv .2 .guarantee) (le-trans (v .premium) (v .top))))))),
-    )
-
-cash-is : (c : tie.After-cash Inv-loop μ-loop) → c .cash .result ≡ paid (termsIn (c .before .before .before .before .before .before .before .before .before .before .before .args .c)) (returnsOf (c .before .before .before .before .before .before .before .before .before .before .before .args .list .now)) (c .before .before .before .before .before .before .before .before .before .before .before .args .table .now) (c .before .before .before .before .before .before .before .before .before .before .before .args .path .now) (c .before .before .before .before .before .loop .i - 1)
-unfolding cashIn freeIn
-cash-is c =
-    c .cash .ensures .0
-    ∙ ap₂ (λ (m t : ℕ). cash (c .before .before .before .before .before .before .before .before .before .before .before .args .c .penalty) m t) (c .before .free-amount .ensures) (c .before .before .amount-on .ensures)
-    ∙ paid-is (c .before .before .before .before .before .loop .inv .2) (c .before .before .before .before .before .loop .inv .0)
+cash-on-requires : tie.Need-cash-on-requires Inv-loop μ-loop
+cash-on-requires c κs =
+    let pre = c .before .before .before .before .before .before .before .before .before .pre in
+    let loop = c .before .before .before .loop in
+    let v = pre .0 .valid in
+    let inside = c .before .if1 .taken in
+    (v, inside, le-trans (le-of-eq (c .amount-on .ensures)) (amount-small (loop .inv .2) (loop .inv .0) v (pre .2) inside))
 
 cast-cash : tie.Need-cast-cash Inv-loop μ-loop
-cast-cash c = omega (arith, c .cash .ensures .1)
+cast-cash c = omega (arith, c .cash-on .ensures .1)
 
 sub-cash : tie.Need-sub-cash Inv-loop μ-loop
-sub-cash c = omega (arith, c .before .before .before .before .before .loop .inv .0)
+sub-cash c = omega (arith, c .before .before .before .before .loop .inv .0)
 
 mul-cash : tie.Need-mul-cash Inv-loop μ-loop
 mul-cash c =
-    let args = c .before .before .before .before .before .before .before .before .before .before .before .args in
-    let pre = c .before .before .before .before .before .before .before .before .before .before .before .pre in
-    let loop = c .before .before .before .before .before .loop in
+    let args = c .before .before .before .before .before .before .before .before .before .before .args in
+    let pre = c .before .before .before .before .before .before .before .before .before .before .pre in
+    let loop = c .before .before .before .before .loop in
     let z =
     ap length (loop .inv .3)
     ∙ length-stored (args .cash .now) 0 (paid (termsIn (args .c)) (returnsOf (args .list .now)) (args .table .now) (args .path .now)) (loop .i - 1) in
@@ -70,9 +59,9 @@ mul-cash c =
 
 slice-write-cash : tie.Need-slice-write-cash Inv-loop μ-loop
 slice-write-cash c =
-    let args = c .before .before .before .before .before .before .before .before .before .before .before .args in
-    let pre = c .before .before .before .before .before .before .before .before .before .before .before .pre in
-    let loop = c .before .before .before .before .before .loop in
+    let args = c .before .before .before .before .before .before .before .before .before .before .args in
+    let pre = c .before .before .before .before .before .before .before .before .before .before .pre in
+    let loop = c .before .before .before .before .loop in
     let z =
     ap length (loop .inv .3)
     ∙ length-stored (args .cash .now) 0 (paid (termsIn (args .c)) (returnsOf (args .list .now)) (args .table .now) (args .path .now)) (loop .i - 1) in
@@ -80,10 +69,10 @@ slice-write-cash c =
 
 next-place-requires : tie.Need-next-place-requires Inv-loop μ-loop
 next-place-requires c κs =
-    let pre = c .before .before .before .before .before .before .before .before .before .before .before .pre in
-    let loop = c .before .before .before .before .before .loop in
-    let if1 = c .before .before .before .if1 in
-    let amount-on = c .before .before .amount-on in (
+    let pre = c .before .before .before .before .before .before .before .before .before .before .pre in
+    let loop = c .before .before .before .before .loop in
+    let if1 = c .before .before .if1 in
+    let amount-on = c .before .amount-on in (
       pre .0,
       loop .inv .2,
       loop .inv .0,
@@ -93,22 +82,26 @@ next-place-requires c κs =
     )
 
 add-i : tie.Need-add-i Inv-loop μ-loop
-add-i c = omega (arith, c .before .before .before .before .before .before .before .before .before .before .before .before .pre .0 .valid .dates)
+add-i c = omega (arith, c .before .before .before .before .before .before .before .before .before .before .before .pre .0 .valid .dates)
 
 loop-less : tie.Need-loop-less Inv-loop μ-loop
 loop-less c = omega arith
 
 loop-again : tie.Need-loop-again Inv-loop μ-loop
 loop-again c =
-    let args = c .before .before .before .before .before .before .before .before .before .before .before .before .args in
-    let loop = c .before .before .before .before .before .before .loop in
-    let i' = loop .i in (
+    let args = c .before .before .before .before .before .before .before .before .before .before .before .args in
+    let loop = c .before .before .before .before .before .loop in
+    let i' = loop .i in
+    let cashes = paid (termsIn (args .c)) (returnsOf (args .list .now)) (args .table .now) (args .path .now) in
+    let cash-is =
+    c .before .cash-on .ensures .0
+    ∙ ap (cashIn (termsIn (args .c)) i' (at (loop .place .account) (loop .place .guarantee))) (c .before .before .amount-on .ensures)
+    ∙ paid-is (loop .inv .2) (loop .inv .0) in
+    let up : i' - 1 + 1 ≡ i' + 1 - 1 = omega (arith, loop .inv .0) in (
       omega arith,
       omega arith,
       met-up i' (c .next-place .ensures),
-      (λ x. set (loop .inv .3 x) (i' - 1) (cash-is (c .before) x))
-          ∙ stored-push _ _ _
-          ∙ ap (stored (args .cash .now) 0 (paid (termsIn (args .c)) (returnsOf (args .list .now)) (args .table .now) (args .path .now))) (let e : i' - 1 + 1 ≡ i' + 1 - 1 = omega (arith, loop .inv .0) in e),
+      (λ x. set (loop .inv .3 x) (i' - 1) (cash-is x)) ∙ stored-push _ _ _ ∙ ap (stored (args .cash .now) 0 cashes) up,
     )
 
 sub-last : tie.Need-sub-last Inv-loop μ-loop
@@ -166,8 +159,7 @@ pay-spec =
     first-place-requires
     loop-holds
     amount-on-requires
-    free-amount-requires
-    cash-requires
+    cash-on-requires
     cast-cash
     sub-cash
     mul-cash
