@@ -9,18 +9,19 @@ use native.Mathlib.Omega.{arith}
 use lib.ListN.{length, getD}
 use borrow.Rule.Slice.PartMut.{midOf, putMid, mid-len}
 use Rattle.slices.specs.Stored.{stored, length-stored, stored-out}
-use Rattle.slices.specs.Rows.{cells, flat, layer-stored, cells-kept, within-rows, rows-le, rows-before}
+use Rattle.slices.specs.Rows.{cells, flat, layer-stored, cells-kept, rows-le, rows-before}
 use Rattle.slices.specs.Parts.{put-long, put-in, put-above}
-use Rattle.rules.specs.Contract.{Terms, returnsOf}
+use Rattle.rules.specs.Contract.{Terms, rateMost, returnsOf}
 use Rattle.rules.specs.Product.{recordedAmount}
 use Rattle.rules.specs.FixedTerm.{layerSize, fixedTerm}
 use Rattle.laws.specs.Bounds.{state-value-le, value-room}
-use Rattle.rules.specs.Operations.{behaviourOf}
+use Rattle.rules.specs.Operations.{behaviourOf, tableSize}
 use Rattle.expect.specs.Expected.{expected, expected-le, expected-same}
 use Rattle.further.specs.Further.{Room, furtherValue, furtherAmount}
 use Rattle.worth.specs.Worth.{bestValue, bestAmount, value-same, amount-same}
 use Rattle.states.specs.Row.{Deciding}
 use Rattle.dates.specs.Dated.{Dating, Dated, Prepared}
+use Rattle.dates.specs.Layer.{DateLayer, entry-within, layer-within, layer-long}
 use Rattle.dates.specs.Back.{at, valuesOn, value-back, amount-back, maturity-is, Valued, Starting}
 
 -- ---- what the dynamic behaviour reads
@@ -159,86 +160,87 @@ module _ {behaviour : ℕ} {c : Terms} {count rate : ℕ} {work table list : Lis
 
 -- ---- from one date to the date before it
 module _ {behaviour : ℕ} {c : Terms} {count : ℕ} {work₀ table₀ list work table : List ℕ} (s : Starting behaviour c count work₀ table₀ list)
-    {i : ℕ} (some : 0 < i) (before : i < c .dates) (v : Valued (behaviourOf behaviour) c (returnsOf list) work₀ table₀ work table i)
+    {i from to : ℕ} (p : DateLayer c i from to) (some : 0 < i) (before : i < c .dates)
+    (v : Valued (behaviourOf behaviour) c (returnsOf list) work₀ table₀ work table i)
   where
-    -- the date's layer of the table
-    pub layer-end : i * layerSize c ≡ (i - 1) * layerSize c + layerSize c
-    layer-end = rows-before (layerSize c) i some
+    room : tableSize c ≤ length table
+    room = omega (arith, s .entries, v .long-table)
 
-    pub layer-within : i * layerSize c ≤ length table
-    layer-within =
-        let l = rows-le (layerSize c) i (c .dates - 1) (omega arith) in
-        omega (arith, s .entries, v .long-table)
-
-    pub dating : Dating behaviour c count (c .penalty) work (midOf ((i - 1) * layerSize c) (i * layerSize c - (i - 1) * layerSize c) table) list
-    dating = record {
+    pub dating : {rate : ℕ} → rate ≤ rateMost → Dating behaviour c count rate work (midOf from (to - from) table) list
+    dating small-rate = record {
       known = s .known;
-      rate-is = s .layers .valid .penalty;
+      rate-is = small-rate;
       listing = s .listing;
       layers = record { valid = s .layers .valid; room = omega (arith, s .layers .room, v .long) };
-      table-is = mid-len ((i - 1) * layerSize c) (i * layerSize c) table layer-within ∙ (let e = layer-end in omega arith);
-      small = λ w a h k.
-          le-trans (le-of-eq (v .values w a h k))
-          (le-trans (state-value-le c (returnsOf list) (s .layers .valid) (s .listing .valid) (behaviourOf behaviour) (suc i) (at w a) (record { account = h; guarantee = k })) (value-room c (returnsOf list) (s .layers .valid) (s .listing .valid) (suc i)));
+      table-is = layer-long p table room;
+      small = λ w a h k. le-trans (le-of-eq (v .values w a h k)) (small w a h k);
     }
+      where
+        small : (w a : ℕ) → w ≤ c .top → a ≤ c .premium → valuesOn c (returnsOf list) (behaviourOf behaviour) (suc i) w a ≤ 4000000000
+        small w a h k =
+            let v = s .layers .valid in
+            let u = s .listing .valid in
+            le-trans (state-value-le c (returnsOf list) v u (behaviourOf behaviour) (suc i) (at w a) (record { account = h; guarantee = k }))
+            (value-room c (returnsOf list) v u (suc i))
 
     module _ (work₁ part₁ : List ℕ)
-        (d : Dated (behaviourOf behaviour) c (returnsOf list) (c .penalty) work (midOf ((i - 1) * layerSize c) (i * layerSize c - (i - 1) * layerSize c) table) work₁ part₁)
+        (d : Dated (behaviourOf behaviour) c (returnsOf list) (c .penalty) work (midOf from (to - from) table) work₁ part₁)
       where
-        part-long : length part₁ ≡ i * layerSize c - (i - 1) * layerSize c
-        part-long = d .long-table ∙ mid-len ((i - 1) * layerSize c) (i * layerSize c) table layer-within
+        starts : from ≤ to
+        starts = let e = p .end in omega arith
+
+        part-long : length part₁ ≡ to - from
+        part-long = d .long-table ∙ mid-len from to table (layer-within p table room)
 
         up : suc (i - 1) ≡ i
         up = omega arith
 
         -- the sums are those of the next date's values
-        sums-are : (x y : ℕ) → y ≤ c .premium → expected c (returnsOf list) (cells work 0 (c .premium + 1)) x y ≡ expected c (returnsOf list) (valuesOn c (returnsOf list) (behaviourOf behaviour) (suc i)) x y
+        sums-are : (x y : ℕ) → y ≤ c .premium
+            → expected c (returnsOf list) (cells work 0 (c .premium + 1)) x y
+            ≡ expected c (returnsOf list) (valuesOn c (returnsOf list) (behaviourOf behaviour) (suc i)) x y
         sums-are x y k = expected-same c (returnsOf list) _ _ x y (λ w h. v .values w y h k)
 
-        value-is : (w a : ℕ) → w ≤ c .top → a ≤ c .premium → cells work₁ 0 (c .premium + 1) w a ≡ valuesOn c (returnsOf list) (behaviourOf behaviour) i w a
+        value-is : (w a : ℕ) → w ≤ c .top → a ≤ c .premium
+            → cells work₁ 0 (c .premium + 1) w a ≡ valuesOn c (returnsOf list) (behaviourOf behaviour) i w a
         value-is w a h k =
             d .values w a h k
             ∙ value-same (behaviourOf behaviour) _ _ (c .penalty) (c .level) w a (λ x y p q. sums-are x y (le-trans q k))
             ∙ value-back c (returnsOf list) (behaviourOf behaviour) i w a before
 
-        amount-is : (w a : ℕ) → w ≤ c .top → a ≤ c .premium → cells part₁ 0 (c .premium + 1) w a ≡ recordedAmount (fixedTerm c (returnsOf list)) (behaviourOf behaviour) i (at w a)
+        amount-is : (w a : ℕ) → w ≤ c .top → a ≤ c .premium
+            → cells part₁ 0 (c .premium + 1) w a ≡ recordedAmount (fixedTerm c (returnsOf list)) (behaviourOf behaviour) i (at w a)
         amount-is w a h k =
             d .amounts w a h k
             ∙ amount-same (behaviourOf behaviour) _ _ (c .penalty) (c .level) w a (λ x y p q. sums-are x y (le-trans q k))
             ∙ amount-back c (returnsOf list) (behaviourOf behaviour) i w a
 
-        starts : (i - 1) * layerSize c ≤ i * layerSize c
-        starts = let e = layer-end in omega arith
+        -- entries behind the layer
+        behind : (x n : ℕ) → i ≤ n → n * layerSize c ≤ x → getD (putMid from (to - from) table part₁) x 0 ≡ getD table x 0
+        behind x n k h =
+            let e = rows-before (layerSize c) i some in
+            let l = rows-le (layerSize c) i n k in
+            put-above from to table part₁ starts (layer-within p table room) part-long x (omega (arith, p .start, p .end))
 
-        -- the entry of a state stands within the layer
-        entry-within : (w a : ℕ) → w ≤ c .top → a ≤ c .premium → w * (c .premium + 1) + a < layerSize c
-        unfolding layerSize
-        entry-within w a h k = within-rows (c .premium + 1) (c .top + 1) w a (omega arith) (omega arith)
-
-        pub valued-before : Valued (behaviourOf behaviour) c (returnsOf list) work₀ table₀ work₁ (putMid ((i - 1) * layerSize c) (i * layerSize c - (i - 1) * layerSize c) table part₁) (i - 1)
+        pub valued-before : Valued (behaviourOf behaviour) c (returnsOf list) work₀ table₀ work₁ (putMid from (to - from) table part₁) (i - 1)
         valued-before = record {
           long = d .long ∙ v .long;
-          long-table = put-long _ _ table part₁ starts layer-within part-long ∙ v .long-table;
+          long-table = put-long from to table part₁ starts (layer-within p table room) part-long ∙ v .long-table;
           values = λ w a h k. value-is w a h k ∙ ap (λ (n : ℕ). valuesOn c (returnsOf list) (behaviourOf behaviour) n w a) (sym up);
           amounts = λ j w a p q h k. amount-at j w a q h k (decLe (i + 1) j) (omega arith);
           rest = λ x h. d .rest x h ∙ v .rest x h;
-          rest-table = λ x h.
-              put-above _ _ table part₁ starts layer-within part-long x (let l = rows-le (layerSize c) i (c .dates - 1) (omega arith) in omega arith)
-              ∙ v .rest-table x h;
+          rest-table = λ x h. behind x (c .dates - 1) (omega arith) h ∙ v .rest-table x h;
         }
           where
             amount-at : (j w a : ℕ) → j < c .dates → w ≤ c .top → a ≤ c .premium → Dec (i + 1 ≤ j) → i ≤ j
-                → getD (putMid ((i - 1) * layerSize c) (i * layerSize c - (i - 1) * layerSize c) table part₁) ((j - 1) * layerSize c + (w * (c .premium + 1) + a)) 0
+                → getD (putMid from (to - from) table part₁) ((j - 1) * layerSize c + (w * (c .premium + 1) + a)) 0
                 ≡ recordedAmount (fixedTerm c (returnsOf list)) (behaviourOf behaviour) j (at w a)
-            amount-at j w a q h k (yes p) m =
-                put-above _ _ table part₁ starts layer-within part-long _ (let l = rows-le (layerSize c) i (j - 1) (omega arith) in omega arith)
-                ∙ v .amounts j w a (omega arith) q h k
-            amount-at j w a q h k (no p) m =
+            amount-at j w a q h k (yes y) m = behind _ (j - 1) (omega arith) (omega arith) ∙ v .amounts j w a (omega arith) q h k
+            amount-at j w a q h k (no y) m =
                 let e : j ≡ i = omega arith in
-                let l = entry-within w a h k in
-                let z = layer-end in
-                rw e
-                (put-in _ _ table part₁ starts layer-within part-long (w * (c .premium + 1) + a) (omega arith)
+                let l = entry-within c h k in
+                rw (e, sym (p .start))
+                (put-in from to table part₁ starts (layer-within p table room) part-long (w * (c .premium + 1) + a) (omega (arith, p .end))
                 ∙ ap (λ (x : ℕ). getD part₁ x 0) (sym (zero-add (w * (c .premium + 1) + a)))
                 ∙ amount-is w a h k)
 

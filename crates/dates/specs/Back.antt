@@ -11,6 +11,7 @@ use Rattle.rules.specs.Contract.{Terms, Returns, returnsOf}
 use Rattle.rules.specs.Date.{Behaviour, maturityValue}
 use Rattle.rules.specs.Product.{stateValue, recordedAmount}
 use Rattle.rules.specs.FixedTerm.{State, freeIn, admissibleIn, limitIn, cashIn, afterIn, reachBy, expectOver, processOf, layerSize, fixedTerm}
+use Rattle.rules.specs.Operations.{tableSize}
 use Rattle.expect.specs.Expected.{reachedSum, expected, Listing, Layers}
 use Rattle.worth.specs.Worth.{worthOver, bestValue, bestAmount}
 
@@ -49,5 +50,5 @@ pub record Starting (behaviour : ℕ) (c : Terms) (count : ℕ) (work table list
   pub known : behaviour ≤ 2
   pub listing : Listing list count
   pub layers : Layers c work
-  pub entries : (c .dates - 1) * layerSize c ≤ length table
+  pub entries : tableSize c ≤ length table
   pub mature : (w a : ℕ) → w ≤ c .top → a ≤ c .premium → cells work 0 (c .premium + 1) w a ≡ maturityValue w a

@@ -1,2 +1,3 @@
 pub mod Dated
 pub mod Back
+pub mod Layer

@@ -1,6 +1,6 @@
 // Backwards over the dates, in place: maturity first, then one date after the other.
 ghost use mathlib.Core.Path.{_≡_};
-ghost use Prim.Native.Nat.{ℕ, _+_, _-_, _*_, _≤_};
+ghost use Prim.Native.Nat.{ℕ, _+_, _-_, _*_, _≤_, _<_};
 ghost use lib.ListN.{length};
 ghost use Rattle.slices.specs.Stored.{stored};
 ghost use Rattle.slices.specs.Rows.{flat};
@@ -10,6 +10,8 @@ ghost use Rattle.rules.specs.Operations.{behaviourOf};
 ghost use Rattle.contract.specs.Reading.{termsIn};
 ghost use Rattle.dates.specs.Dated.{Dating, Dated, Prepared};
 ghost use Rattle.dates.specs.Back.{Valued, Starting};
+ghost use Rattle.dates.specs.Layer.{DateLayer};
+ghost use Rattle.laws.specs.Accepted.{Valid};
 ghost use Rattle.further.specs.Further.{Room};
 use contract::Contract;
 
@@ -81,6 +83,25 @@ pub fn one_date(
     states::decide_layer(behaviour, work, table, size, stride, n, c.level, rate);
 }
 
+// Where a part of the table starts and ends.
+pub struct Part {
+    pub from: usize,
+    pub to: usize,
+}
+
+// The layer of date i.
+pub fn layer_of(c: Contract, i: usize) -> Part
+    requires { ⌜ Valid (termsIn c) × (0 < i) × (i < c .dates) ⌝ }
+    ensures { λ r. ⌜ DateLayer (termsIn c) i (r .from) (r .to) ⌝ }
+{
+    let size = (c.top + 1) * (c.premium + 1);
+    let from = (i - 1) * size;
+    Part {
+        from,
+        to: from + size,
+    }
+}
+
 // Every decision date, from the last to the first, each in its own layer of the table.
 pub fn all_dates(
     behaviour: usize,
@@ -93,11 +114,11 @@ pub fn all_dates(
     requires { ⌜ Starting behaviour (termsIn c) count (now work) (now table) (now list) ⌝ }
     ensures { λ _. ⌜ Valued (behaviourOf behaviour) (termsIn c) (returnsOf (now (list .entry))) (now (work .entry)) (now (table .entry)) (now (work .exit)) (now (table .exit)) 0 ⌝ }
 {
-    let size = (c.top + 1) * (c.premium + 1);
     let mut i = c.dates - 1;
     while 0 < i {
-        let from = (i - 1) * size;
-        let to = i * size;
+        let part = layer_of(c, i);
+        let from = part.from;
+        let to = part.to;
         one_date(
             behaviour,
             work,

@@ -7,19 +7,19 @@ use native.Mathlib.Nat.{zero-add, le-trans, le-of-eq, max-le, min-le-right, sub-
 use native.Mathlib.Omega.{arith}
 use lib.Dec.{T}
 use lib.ListN.{length, getD, drop, replicate}
-use borrow.Rule.Slice.PartMut.{midOf, mid-len}
+use borrow.Rule.Slice.PartMut.{midOf}
 use Rattle.decision.specs.Index.{first}
 use Rattle.decision.specs.Process.{worth, startTableValue}
 use Rattle.decision.specs.Optimal.{table-step, table-last}
-use Rattle.decision.specs.Layers.{low-digit, lookup, entry, layer}
+use Rattle.decision.specs.Layers.{low-digit, lookup, layer}
 use Rattle.slices.specs.Parts.{part-at}
 use Rattle.slices.specs.Stored.{stored, length-stored, stored-out}
-use Rattle.slices.specs.Rows.{cells, flat, cells-kept, within-rows, rows-le, rows-step, rows-before, row-next, layer-stored}
-use Rattle.rules.specs.Contract.{Terms, termsOf, Returns, returnsOf}
+use Rattle.slices.specs.Rows.{cells, flat, cells-kept, within-rows, rows-le, rows-step, row-next, layer-stored}
+use Rattle.rules.specs.Contract.{Terms, rateMost, termsOf, Returns, returnsOf}
 use Rattle.rules.specs.Date.{dynamic, freeAmount, admits, balanceAfter, guaranteeAfter, maturityValue, margin}
 use Rattle.rules.specs.Product.{suppliedValue, suppliedLayer}
 use Rattle.rules.specs.Refusals.{Verdict, accepted, refused, verdict, numberOf, placeOf, onSuccess, recordChecks, listChecks}
-use Rattle.rules.specs.FixedTerm.{freeIn, admissibleIn, cashIn, afterIn, reachBy, expectOver, startOf, processOf, layerSize, layoutOf, fixedTerm}
+use Rattle.rules.specs.FixedTerm.{InRange, freeIn, admissibleIn, cashIn, afterIn, reachBy, expectOver, startOf, processOf, layerSize, layoutOf, fixedTerm}
 use Rattle.rules.specs.Operations.{productOf, answer, workAfter, tableSize, badAt, badEntry, tableChecks, suppliedChecks, suppliedVerdict, suppliedAnswer, suppliedWork}
 use Rattle.laws.specs.Supplied.{all-admitted}
 use Rattle.laws.specs.Date.{dynamic-is, guarantee-le}
@@ -28,6 +28,7 @@ use Rattle.laws.specs.Bounds.{cash-le, table-value-le, value-room}
 use Rattle.expect.specs.Expected.{expected, reachedSum, Listing, expected-le, expected-same}
 use Rattle.worth.specs.Worth.{worthOver, worth-same}
 use Rattle.dates.specs.Back.{at}
+use Rattle.dates.specs.Layer.{DateLayer, layer-long, layer-entry}
 use Rattle.valuing.specs.declared.Answer as declared
 use Rattle.valuing.specs.Answered.{answerOf, refusal, Settled}
 use Rattle.valuing.specs.First.{First, first-layer, first-mature}
@@ -187,52 +188,57 @@ unfolding admissibleIn freeIn processOf
 admitted-at c rs table valid none i w a some before h l =
     all-admitted c rs table valid none i (at w a) (record { from = some; before = before; range = record { account = h; guarantee = l } })
 
-module _ {c : Terms} {count : ℕ} {work₀ table list work : List ℕ} (s : Starting c count work₀ table list) {i : ℕ} (some : 0 < i) (before : i < c .dates)
+module _ {c : Terms} {count : ℕ} {work₀ table list work : List ℕ} (s : Starting c count work₀ table list)
+    {i from to : ℕ} (p : DateLayer c i from to) (some : 0 < i) (before : i < c .dates)
     (v : First (tableOn c (returnsOf list) table (suc i)) c work₀ work)
   where
-    pub layer-end : i * layerSize c ≡ (i - 1) * layerSize c + layerSize c
-    layer-end = rows-before (layerSize c) i some
-
-    pub layer-within : i * layerSize c ≤ length table
-    unfolding tableSize
-    layer-within = let l = rows-le (layerSize c) i (c .dates - 1) (omega arith) in omega (arith, s .entries)
-
     -- the entries of the date's layer
     amount-is : (w a : ℕ) → w ≤ c .top → a ≤ c .premium
-        → cells (midOf ((i - 1) * layerSize c) (i * layerSize c - (i - 1) * layerSize c) table) 0 (c .premium + 1) w a ≡ lookup (layoutOf c) table i (at w a)
-    unfolding lookup entry layoutOf layerSize
+        → cells (midOf from (to - from) table) 0 (c .premium + 1) w a ≡ lookup (layoutOf c) table i (at w a)
     amount-is w a h l =
-        let z = layer-end in
-        let p = within-rows (c .premium + 1) (c .top + 1) w a (omega arith) (omega arith) in
-        part-at ((i - 1) * ((c .top + 1) * (c .premium + 1))) (i * ((c .top + 1) * (c .premium + 1))) (0 + (w * (c .premium + 1) + a)) table (omega arith)
-        ∙ ap (λ (x : ℕ). getD table ((i - 1) * ((c .top + 1) * (c .premium + 1)) + x) 0) (zero-add (w * (c .premium + 1) + a))
+        ap (λ (x : ℕ). getD (midOf from (to - from) table) x 0) (zero-add (w * (c .premium + 1) + a))
+        ∙ layer-entry p table (s .entries) h l
 
-    pub one-date : OneDate c count (c .penalty) work (midOf ((i - 1) * layerSize c) (i * layerSize c - (i - 1) * layerSize c) table) list
-    one-date = record {
-      rate-is = s .layers .valid .penalty;
+    pub one-date : {rate : ℕ} → rate ≤ rateMost → OneDate c count rate work (midOf from (to - from) table) list
+    one-date small-rate = record {
+      rate-is = small-rate;
       listing = s .listing;
       layers = record { valid = s .layers .valid; room = omega (arith, s .layers .room, v .long) };
-      layer-is = mid-len ((i - 1) * layerSize c) (i * layerSize c) table layer-within ∙ (let e = layer-end in omega arith);
-      admitted = λ w a h l. admitted-is w a h l;
-      small = λ w a h l.
-          le-trans (le-of-eq (v .values w a h l))
-          (le-trans (table-value-le c (returnsOf list) (s .layers .valid) (s .listing .valid) (lookup (layoutOf c) table) (all-admitted c (returnsOf list) table (s .layers .valid) (s .none-bad)) (suc i) (at w a) (omega arith) (omega arith) (record { account = h; guarantee = l })) (value-room c (returnsOf list) (s .layers .valid) (s .listing .valid) (suc i)));
+      layer-is = layer-long p table (s .entries);
+      admitted = λ w a h l.
+          subst (λ (t : ℕ). T (admits dynamic (freeAmount (c .level) a) w t)) (sym (amount-is w a h l))
+          (admitted-at c (returnsOf list) table (s .layers .valid) (s .none-bad) i w a some before h l);
+      small = λ w a h l. le-trans (le-of-eq (v .values w a h l)) (small w a h l);
     }
       where
-        admitted-is : (w a : ℕ) → w ≤ c .top → a ≤ c .premium
-            → T (admits dynamic (freeAmount (c .level) a) w (cells (midOf ((i - 1) * layerSize c) (i * layerSize c - (i - 1) * layerSize c) table) 0 (c .premium + 1) w a))
-        admitted-is w a h l = subst (λ (t : ℕ). T (admits dynamic (freeAmount (c .level) a) w t)) (sym (amount-is w a h l)) (admitted-at c (returnsOf list) table (s .layers .valid) (s .none-bad) i w a some before h l)
+        small : (w a : ℕ) → w ≤ c .top → a ≤ c .premium → tableOn c (returnsOf list) table (suc i) w a ≤ 4000000000
+        small w a h l =
+            let v = s .layers .valid in
+            let u = s .listing .valid in
+            let good = all-admitted c (returnsOf list) table v (s .none-bad) in
+            let g : InRange c (at w a) = record { account = h; guarantee = l } in
+            le-trans (table-value-le c (returnsOf list) v u (lookup (layoutOf c) table) good (suc i) (at w a) (omega arith) (omega arith) g)
+            (value-room c (returnsOf list) v u (suc i))
 
-    pub first-before : (work₁ : List ℕ) → Back c (returnsOf list) (c .penalty) work (midOf ((i - 1) * layerSize c) (i * layerSize c - (i - 1) * layerSize c) table) work₁
+    -- the sums are those of the next date's values
+    next-sums : (x y : ℕ) → y ≤ c .premium
+        → expected c (returnsOf list) (cells work 0 (c .premium + 1)) x y
+        ≡ expected c (returnsOf list) (tableOn c (returnsOf list) table (suc i)) x y
+    next-sums x y k = expected-same c (returnsOf list) _ _ x y (λ w h. v .values w y h k)
+
+    pub first-before : (work₁ : List ℕ) → Back c (returnsOf list) (c .penalty) work (midOf from (to - from) table) work₁
         → First (tableOn c (returnsOf list) table (suc (i - 1))) c work₀ work₁
     first-before work₁ d = record {
       long = d .long ∙ v .long;
       values = λ w a h l.
+          let sums = expected c (returnsOf list) (cells work 0 (c .premium + 1)) in
+          let m = freeAmount (c .level) a in
+          let up : i ≡ suc (i - 1) = omega arith in
           d .values w a h l
-          ∙ ap (λ (t : ℕ). worthOver (expected c (returnsOf list) (cells work 0 (c .premium + 1))) (c .penalty) (freeAmount (c .level) a) w a t) (amount-is w a h l)
-          ∙ worth-same _ _ (c .penalty) (freeAmount (c .level) a) w a (lookup (layoutOf c) table i (at w a)) (λ x y p q. expected-same c (returnsOf list) (cells work 0 (c .premium + 1)) (tableOn c (returnsOf list) table (suc i)) x y (λ z m. v .values z y m (le-trans q l)))
+          ∙ ap (worthOver sums (c .penalty) m w a) (amount-is w a h l)
+          ∙ worth-same _ _ (c .penalty) m w a (lookup (layoutOf c) table i (at w a)) (λ x y p q. next-sums x y (le-trans q l))
           ∙ tableOn-back c (returnsOf list) table i w a before
-          ∙ ap (λ (n : ℕ). tableOn c (returnsOf list) table n w a) (let up : i ≡ suc (i - 1) = omega arith in up);
+          ∙ ap (λ (n : ℕ). tableOn c (returnsOf list) table n w a) up;
       rest = λ x h. d .rest x h ∙ v .rest x h;
     }
 

@@ -7,7 +7,6 @@ ghost use Rattle.slices.specs.Stored.{stored};
 ghost use Rattle.slices.specs.Rows.{cells, flat};
 ghost use Rattle.rules.specs.Contract.{rateMost, returnsOf};
 ghost use Rattle.rules.specs.Date.{freeAmount};
-ghost use Rattle.rules.specs.FixedTerm.{layerSize};
 ghost use Rattle.rules.specs.Refusals.{verdict};
 ghost use Rattle.rules.specs.Operations.{tableSize, badAt, badEntry, tableChecks, suppliedAnswer, suppliedWork};
 ghost use Rattle.laws.specs.Accepted.{Valid};
@@ -147,11 +146,11 @@ fn follow_dates(work: &mut [u32], table: &[u16], list: &[u8], count: usize, c: C
     requires { ⌜ Starting (termsIn c) count (now work) (now table) (now list) ⌝ }
     ensures { λ _. ⌜ First (tableOn (termsIn c) (returnsOf (now (list .entry))) (now (table .entry)) 1) (termsIn c) (now (work .entry)) (now (work .exit)) ⌝ }
 {
-    let size = (c.top + 1) * (c.premium + 1);
     let mut i = c.dates - 1;
     while 0 < i {
-        let from = (i - 1) * size;
-        let to = i * size;
+        let part = dates::layer_of(c, i);
+        let from = part.from;
+        let to = part.to;
         follow_date(work, &table[from..to], list, count, c, c.penalty);
         i -= 1;
     }

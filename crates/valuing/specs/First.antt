@@ -3,7 +3,7 @@ use mathlib.Core.List.{List, _++_}
 use mathlib.Core.Logic.{inr}
 use mathlib.Core.Path.{_≡_, ap, sym, _∙_}
 use Prim.Native.Nat.{ℕ, _+_, _-_, _*_, _/_, _%_, _≤_, _<_}
-use native.Mathlib.Nat.{mul-le-mul, mod-lt, div-add-mod', div-lt-iff-lt-mul}
+use native.Mathlib.Nat.{mod-lt, div-add-mod', div-lt-iff-lt-mul}
 use native.Mathlib.Omega.{arith}
 use lib.ListN.{length, getD, drop, replicate}
 use Rattle.decision.specs.Index.{tabulate}
@@ -21,16 +21,6 @@ use Rattle.contract.specs.Accepted.{Read, Listed}
 use Rattle.expect.specs.Expected.{Listing}
 use Rattle.valuing.specs.declared.Answer as declared
 use Rattle.valuing.specs.Answered.{refusal, Ready, Settling}
-
--- a layer has at most 4,001 × 4,001 entries, and some
-pub size-le : {c : Terms} → Valid c → (c .top + 1) * (c .premium + 1) ≤ 16008001
-size-le {c} v =
-    let w : c .top + 1 ≤ 4001 = omega (arith, v .top) in
-    let a : c .premium + 1 ≤ 4001 = omega (arith, v .premium, v .top) in
-    mul-le-mul w a
-
-pub dates-le : {c : Terms} → Valid c → (c .dates - 1) * ((c .top + 1) * (c .premium + 1)) ≤ 39 * 16008001
-dates-le {c} v = let d : c .dates - 1 ≤ 39 = omega (arith, v .dates) in mul-le-mul d (size-le v)
 
 -- the first layer holds f, and what stands behind both layers is kept
 pub record First (f : ℕ → ℕ → ℕ) (c : Terms) (work work' : List ℕ) : Type 0 where

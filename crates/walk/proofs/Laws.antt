@@ -10,16 +10,14 @@ use lib.Dec.{leb}
 use lib.Seq.{drop-cons, append-snoc, set-append-seam}
 use borrow.Author.Tests.{leb-false}
 use lib.ListN.{length, getD, set, drop}
-use borrow.Rule.Slice.PartMut.{midOf, mid-len}
+use borrow.Rule.Slice.PartMut.{midOf}
 use Rattle.decision.specs.Index.{tabulate, length-tabulate, first, all-fail}
 use Rattle.slices.specs.Stored.{stored, stored-front}
 use Rattle.decision.specs.Layers.{lookup, entry}
-use Rattle.slices.specs.Parts.{part-at}
-use Rattle.slices.specs.Rows.{within-rows, rows-le, rows-before}
 use Rattle.rules.specs.Contract.{Terms, topMost, termsOf, Returns, returnsOf}
 use Rattle.rules.specs.Date.{dynamic, freeAmount, admits, balanceAfter, guaranteeAfter, nextAccount}
 use Rattle.rules.specs.Product.{walkState, walkAmount, walkCash}
-use Rattle.rules.specs.FixedTerm.{State, startOf, reachBy, afterIn, cashIn, freeIn, admissibleIn, processOf, layerSize, layoutOf, fixedTerm}
+use Rattle.rules.specs.FixedTerm.{State, startOf, reachBy, afterIn, cashIn, freeIn, admissibleIn, processOf, layoutOf, fixedTerm}
 use Rattle.rules.specs.Refusals.{Verdict, accepted, refused, verdict, numberOf, placeOf, onSuccess, recordChecks, listChecks}
 use Rattle.rules.specs.Operations.{productOf, tableSize, badDate, pathChecks, walkChecks, walkVerdict, walkCashes}
 use Rattle.laws.specs.Accepted.{Valid, not-not, andThen, parts-accepted, parts-refused}
@@ -27,6 +25,7 @@ use Rattle.contract.specs.declared.Outcome.{Outcome}
 use Rattle.contract.specs.Reading.{outcomeAt, outcomeOf}
 use Rattle.expect.specs.Expected.{Listing}
 use Rattle.dates.specs.Back.{at}
+use Rattle.dates.specs.Layer.{DateLayer, entry-within, layer-long, layer-entry}
 use Rattle.laws.specs.Date.{account-le, guarantee-le, dynamic-is}
 use Rattle.laws.specs.Walk.{walk-first, walk-next}
 use Rattle.walk.specs.Walked.{Walking, Met, paid, paidLast, Walked}
@@ -41,30 +40,16 @@ module _ {c : Terms} {count : ℕ} {list table path : List ℕ} (h : Walking c c
   }
 
   module _ {i w a : ℕ} (m : Met c (returnsOf list) table path i w a) (some : 0 < i) (before : i < c .dates) where
-    pub layer-end : i * layerSize c ≡ (i - 1) * layerSize c + layerSize c
-    layer-end = rows-before (layerSize c) i some
+    -- the entry of the state in the layer of the date
+    module _ {from to : ℕ} (p : DateLayer c i from to) where
+      pub entry-in : w * (c .premium + 1) + a < length (midOf from (to - from) table)
+      entry-in = rw (layer-long p table (h .entries)) (entry-within c (m .account) (m .guarantee))
 
-    pub layer-within : i * layerSize c ≤ tableSize c
-    unfolding tableSize
-    layer-within = rows-le (layerSize c) i (c .dates - 1) (omega arith)
-
-    -- the entry of the state stands in the layer of the date
-    pub entry-within : w * (c .premium + 1) + a < length (midOf ((i - 1) * layerSize c) (i * layerSize c - (i - 1) * layerSize c) table)
-    unfolding layerSize
-    entry-within =
-        let e = layer-end in
-        let p = within-rows (c .premium + 1) (c .top + 1) w a (omega (arith, m .account)) (omega (arith, m .guarantee)) in
-        let l = layer-within in
-        let n = mid-len ((i - 1) * ((c .top + 1) * (c .premium + 1))) (i * ((c .top + 1) * (c .premium + 1))) table (omega (arith, h .entries)) in
-        omega arith
-
-    pub amount-is : getD (midOf ((i - 1) * layerSize c) (i * layerSize c - (i - 1) * layerSize c) table) (w * (c .premium + 1) + a) 0 ≡ walkAmount (fixedTerm c (returnsOf list)) table path i
-    unfolding walkAmount lookup entry fixedTerm layoutOf layerSize
-    amount-is =
-        let e = layer-end in
-        let p = within-rows (c .premium + 1) (c .top + 1) w a (omega (arith, m .account)) (omega (arith, m .guarantee)) in
-        part-at ((i - 1) * ((c .top + 1) * (c .premium + 1))) (i * ((c .top + 1) * (c .premium + 1))) (w * (c .premium + 1) + a) table (omega arith)
-        ∙ sym (ap (λ (s : State). getD table ((i - 1) * ((c .top + 1) * (c .premium + 1)) + (s .account * (c .premium + 1) + s .guarantee)) 0) (m .state))
+      pub amount-is : getD (midOf from (to - from) table) (w * (c .premium + 1) + a) 0 ≡ walkAmount (fixedTerm c (returnsOf list)) table path i
+      unfolding walkAmount fixedTerm
+      amount-is =
+          layer-entry p table (h .entries) (m .account) (m .guarantee)
+          ∙ sym (ap (lookup (layoutOf c) table i) (m .state))
 
     pub next-met : (t : ℕ) → t ≡ walkAmount (fixedTerm c (returnsOf list)) table path i
         → Met c (returnsOf list) table path (suc i) (nextAccount (c .fee) (c .top) (balanceAfter w t) (returnsOf list .factor (getD path i 0))) (guaranteeAfter (freeAmount (c .level) a) w a t)

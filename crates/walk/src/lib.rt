@@ -5,12 +5,11 @@ ghost use Prim.Native.Nat.{ℕ, suc, _+_, _-_, _*_, _≤_, _<_, max};
 ghost use lib.Dec.{leb};
 ghost use lib.ListN.{length, getD, set};
 ghost use Rattle.decision.specs.Index.{first};
-ghost use Rattle.decision.specs.Layers.{lookup};
 ghost use Rattle.slices.specs.Stored.{stored};
 ghost use Rattle.rules.specs.Contract.{topMost, returnsOf};
 ghost use Rattle.rules.specs.Date.{dynamic, freeAmount, admits};
 ghost use Rattle.rules.specs.Product.{walkAmount};
-ghost use Rattle.rules.specs.FixedTerm.{cashIn, layoutOf, fixedTerm};
+ghost use Rattle.rules.specs.FixedTerm.{cashIn, fixedTerm};
 ghost use Rattle.rules.specs.Refusals.{short, verdict};
 ghost use Rattle.rules.specs.Operations.{tableSize, badDate, pathChecks, walkVerdict, walkCashes};
 ghost use Rattle.laws.specs.Accepted.{Valid};
@@ -89,11 +88,15 @@ fn amount_on(
     requires { ⌜ Walking (termsIn c) count (now list) (now table) (now path) × Met (termsIn c) (returnsOf (now list)) (now table) (now path) i (place .account) (place .guarantee) × (0 < i) × (i < c .dates) ⌝ }
     ensures { λ r. ⌜ r ≡ walkAmount (fixedTerm (termsIn c) (returnsOf (now (list .entry)))) (now (table .entry)) (now (path .entry)) i ⌝ }
 {
-    let stride = c.premium + 1;
-    let size = (c.top + 1) * stride;
-    let from = (i - 1) * size;
-    let to = i * size;
-    entry_of(&table[from..to], stride, place.account, place.guarantee)
+    let part = dates::layer_of(c, i);
+    let from = part.from;
+    let to = part.to;
+    entry_of(
+        &table[from..to],
+        c.premium + 1,
+        place.account,
+        place.guarantee,
+    )
 }
 
 // What is met on the next date, where t is withdrawn on date i.

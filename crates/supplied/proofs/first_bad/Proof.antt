@@ -9,7 +9,7 @@ use Rattle.decision.specs.Index.{Searched, search-none, search-end, run-hit, ru
 use Rattle.rules.specs.FixedTerm.{layerSize}
 use Rattle.rules.specs.Operations.{tableSize, badEntry}
 use Rattle.slices.specs.Rows.{rows-step, rows-le}
-use Rattle.valuing.specs.First.{size-le, dates-le}
+use Rattle.dates.specs.Layer.{size-le, dates-le}
 use Rattle.supplied.proofs.Laws.{search-fits, search-same}
 use Rattle.supplied.proofs.first_bad.Statement.{statement}
 use Rattle.supplied.proofs.first_bad.Tie as tie

@@ -1,7 +1,7 @@
 -- `supplied::follow_date` meets its contract. Assumes nothing.
 use borrow.Author.Needs.{needs}
 use native.Mathlib.Omega.{arith}
-use Rattle.valuing.specs.First.{size-le}
+use Rattle.dates.specs.Layer.{size-le}
 use Rattle.supplied.proofs.Laws.{following, back}
 use Rattle.supplied.proofs.follow_date.Statement.{statement}
 use Rattle.supplied.proofs.follow_date.Tie as tie

@@ -12,7 +12,8 @@ use Rattle.laws.specs.Valuing.{lent-room}
 use Rattle.rules.specs.FixedTerm.{layerSize}
 use Rattle.rules.specs.Operations.{tableSize}
 use Rattle.valuing.specs.Answered.{refusal}
-use Rattle.valuing.specs.First.{size-le, dates-le, first-from, settling}
+use Rattle.dates.specs.Layer.{size-le, dates-le}
+use Rattle.valuing.specs.First.{first-from, settling}
 use Rattle.supplied.proofs.Laws.{answered-refused, answered-accepted, starting}
 use Rattle.supplied.proofs.valued.Statement.{statement}
 use Rattle.supplied.proofs.valued.Tie as tie

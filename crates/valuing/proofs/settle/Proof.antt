@@ -10,7 +10,7 @@ use mir.Val.{SFits}
 use native.Mathlib.Omega.{arith}
 use Rattle.rules.specs.Date.{margin}
 use Rattle.rules.specs.FixedTerm.{layerSize}
-use Rattle.valuing.specs.First.{size-le}
+use Rattle.dates.specs.Layer.{size-le}
 use Rattle.valuing.proofs.Laws.{mag-sub}
 use Rattle.valuing.proofs.settle.Statement.{statement}
 use Rattle.valuing.proofs.settle.Tie as tie

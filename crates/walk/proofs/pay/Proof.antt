@@ -1,6 +1,5 @@
 -- `walk::pay` meets its contract. Assumes nothing.
 use Prim.Native.Nat.{ℕ, _+_, _-_, _≤_, _<_}
-use borrow.Author.Needs.{needs}
 use lib.ListN.{length, set, length-set}
 use mathlib.Core.Path.{_≡_, refl, ap, sym, _∙_, subst}
 use native.Mathlib.Nat.{le-trans, le-of-eq}

@@ -5,7 +5,7 @@ use native.Mathlib.Omega.{arith}
 use Rattle.rules.specs.FixedTerm.{layerSize}
 use Rattle.rules.specs.Operations.{tableSize}
 use Rattle.rules.specs.Refusals.{short}
-use Rattle.valuing.specs.First.{size-le, dates-le}
+use Rattle.dates.specs.Layer.{size-le, dates-le}
 use Rattle.walk.proofs.too_short.Statement.{statement}
 use Rattle.walk.proofs.too_short.Tie as tie
 
