@@ -42,6 +42,7 @@ fn random_terms(draw: &mut Draw, most_top: u64) -> Terms {
         fee: draw.one_of(&[0, 0, 100], 0, 10_000) as u16,
         penalty: draw.one_of(&[0, 0, 500, 10_000], 0, 10_000) as u16,
         discount: draw.one_of(&[1_000_000, 1_000_000, 970_000], 1, 1_000_000) as u32,
+        step: draw.one_of(&[0, 0, 100, 250, 10_000], 0, 10_000) as u16,
     }
 }
 
@@ -71,8 +72,8 @@ fn spoil(draw: &mut Draw, input: &mut Input) {
         1 => input.work_len -= SPARE + 1,
         2 => input.table_len = input.table_len.saturating_sub(SPARE + 1),
         3 => input.list.truncate(draw.within(0, 3) as usize),
-        4 => input.record.truncate(draw.within(0, 15) as usize),
-        5 => input.record[draw.within(0, 15) as usize] = byte,
+        4 => input.record.truncate(draw.within(0, 19) as usize),
+        5 => input.record[draw.within(0, 19) as usize] = byte,
         _ => {
             let last = input.list.len() as u64 - 1;
             input.list[draw.within(0, last) as usize] = byte;
@@ -90,6 +91,7 @@ fn large_values() -> Input {
         fee: 0,
         penalty: 0,
         discount: 1_000_000,
+        step: 0,
     };
     terms.input(&[(30_000, 10_000)], DYNAMIC)
 }

@@ -7,7 +7,7 @@ pub const STATIC: u64 = 0;
 pub const MIXED: u64 = 1;
 pub const DYNAMIC: u64 = 2;
 
-/// The fields of a contract record, in its order.
+/// The fields of a contract record, in its order; the spare bytes are zero.
 #[derive(Clone, Copy)]
 pub struct Terms {
     pub premium: u16,
@@ -17,6 +17,7 @@ pub struct Terms {
     pub fee: u16,
     pub penalty: u16,
     pub discount: u32,
+    pub step: u16,
 }
 
 /// Factor and weight.
@@ -44,6 +45,8 @@ impl Terms {
         ];
         let mut record: Vec<u8> = words.iter().flat_map(|w| w.to_le_bytes()).collect();
         record.extend(self.discount.to_le_bytes());
+        record.extend(self.step.to_le_bytes());
+        record.extend([0, 0]);
         let mut list = Vec::new();
         for (factor, weight) in returns {
             list.extend(factor.to_le_bytes());
@@ -69,6 +72,7 @@ pub struct Size {
     pub dates: u16,
     pub returns: u16,
     pub penalty: u16,
+    pub step: u16,
 }
 
 impl Size {
@@ -81,6 +85,7 @@ impl Size {
             fee: 100,
             penalty: self.penalty,
             discount: 970_000,
+            step: self.step,
         };
         terms.input(&spread(self.returns.into()), behaviour)
     }

@@ -29,6 +29,7 @@ const fn size(top: u16, premium: u16, level: u16, dates: u16, returns: u16) -> S
         dates,
         returns,
         penalty: 500,
+        step: 0,
     }
 }
 
@@ -40,6 +41,14 @@ const fn at_penalty(penalty: u16) -> Size {
     }
 }
 
+/// The same size at penalty rate 2,000, with a step.
+const fn at_step(step: u16) -> Size {
+    Size {
+        step,
+        ..at_penalty(2_000)
+    }
+}
+
 /// How much the engine passes over depends on what withdrawing above m costs.
 const PENALTIES: [Size; 5] = [
     at_penalty(0),
@@ -47,6 +56,15 @@ const PENALTIES: [Size; 5] = [
     at_penalty(500),
     at_penalty(2_000),
     at_penalty(10_000),
+];
+
+/// The rate reaches zero by the last of these.
+const STEPS: [Size; 5] = [
+    at_step(0),
+    at_step(10),
+    at_step(25),
+    at_step(100),
+    at_step(500),
 ];
 
 const TIMED: [(&str, u64, Size); 6] = [
@@ -222,17 +240,17 @@ fn time_growth(heading: &str, sizes: &[Size]) -> bool {
     right
 }
 
-/// Engine and tuned at penalty rates from 0 to all.
-fn time_penalties() -> bool {
-    println!("\ndynamic, penalty rates (top 400, U 200, G 10, N 20, 32 returns)");
-    println!("penalty     engine      tuned  tuned/engine");
+/// Engine and tuned at sizes that differ in one rate alone.
+fn time_rates(heading: &str, name: &str, sizes: &[Size], rate: fn(&Size) -> u16) -> bool {
+    println!("\ndynamic, {heading} (top 400, U 200, G 10, N 20, 32 returns)");
+    println!("{name:>7}     engine      tuned  tuned/engine");
     let mut right = true;
-    for s in &PENALTIES {
+    for s in sizes {
         let (seconds, equal) = timed(&[ENGINE, TUNED], s, DYNAMIC);
         right &= equal;
         let (engine, tuned) = (seconds[0], seconds[1]);
         let ratio = tuned / engine;
-        println!("{:>7}{engine:>11.5}{tuned:>11.5}{ratio:>14.3}", s.penalty);
+        println!("{:>7}{engine:>11.5}{tuned:>11.5}{ratio:>14.3}", rate(s));
     }
     right
 }
@@ -246,7 +264,8 @@ fn time_all() -> bool {
     for (heading, sizes) in GROWTH {
         right &= time_growth(heading, sizes);
     }
-    right &= time_penalties();
+    right &= time_rates("penalty rates", "penalty", &PENALTIES, |s| s.penalty);
+    right &= time_rates("steps from penalty 2,000", "step", &STEPS, |s| s.step);
     if right {
         println!(
             "\nnumbers, values, margins, tables and working slices are equal among all that ran"

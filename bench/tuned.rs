@@ -25,6 +25,7 @@ struct Terms {
     fee: u64,
     penalty: u32,
     discount: u64,
+    step: u32,
 }
 
 /// The weight has 32 bits because a product of two 32-bit numbers can be widened on the
@@ -46,9 +47,9 @@ impl Terms {
         (self.top + 1) * self.stride()
     }
 
-    /// The cash of one unit above m.
-    fn net(&self) -> u32 {
-        UNIT - self.penalty
+    /// The cash of one unit above m on a date.
+    fn net(&self, date: usize) -> u32 {
+        UNIT - self.penalty.saturating_sub((date as u32 - 1) * self.step)
     }
 
     fn next_account(&self, balance: usize, factor: u64) -> usize {
@@ -76,7 +77,7 @@ fn word(bytes: &[u8], at: usize) -> u16 {
 }
 
 fn read_terms(record: &[u8]) -> Result<Terms, Refusal> {
-    refuse_if(record.len() != 16, 1, 0)?;
+    refuse_if(record.len() != 20, 1, 0)?;
     let terms = Terms {
         premium: word(record, 0).into(),
         level: word(record, 2).into(),
@@ -85,6 +86,7 @@ fn read_terms(record: &[u8]) -> Result<Terms, Refusal> {
         fee: word(record, 8).into(),
         penalty: word(record, 10).into(),
         discount: u64::from(word(record, 12)) + 65_536 * u64::from(word(record, 14)),
+        step: word(record, 16).into(),
     };
     let premium_in_range = (1..=terms.top).contains(&terms.premium);
     refuse_if(terms.top > 4_000 || !premium_in_range, 2, 0)?;
@@ -92,6 +94,7 @@ fn read_terms(record: &[u8]) -> Result<Terms, Refusal> {
     refuse_if(!(1..=40).contains(&terms.dates), 4, 0)?;
     refuse_if(terms.fee > WHOLE || terms.penalty > UNIT, 5, 0)?;
     refuse_if(!(1..=1_000_000).contains(&terms.discount), 6, 0)?;
+    refuse_if(terms.step > UNIT || word(record, 18) != 0, 15, 0)?;
     Ok(terms)
 }
 
@@ -148,12 +151,14 @@ fn try_value(
     let (values, expected) = work[..2 * layer].split_at_mut(layer);
     let mut row = Row::new(&terms);
     fill_maturity(&terms, values);
-    for amounts in table[..table_len].chunks_exact_mut(layer).rev() {
+    let layers = table[..table_len].chunks_exact_mut(layer).enumerate();
+    for (index, amounts) in layers.rev() {
+        let net = terms.net(index + 1);
         expect_layer(&terms, &returns, values, expected);
         match behaviour {
             0 => decide_static(&terms, values, expected, amounts),
-            1 => decide_mixed(&terms, values, expected, amounts),
-            _ => decide_dynamic(&terms, values, expected, amounts, &mut row),
+            1 => decide_mixed(&terms, net, values, expected, amounts),
+            _ => decide_dynamic(&terms, net, values, expected, amounts, &mut row),
         }
     }
     expected.fill(0);
@@ -243,7 +248,13 @@ fn decide_static(terms: &Terms, values: &mut [u32], expected: &[u32], amounts: &
 }
 
 /// Static, then surrender where it is open and better; a tie keeps m, the smaller amount.
-fn decide_mixed(terms: &Terms, values: &mut [u32], expected: &[u32], amounts: &mut [u16]) {
+fn decide_mixed(
+    terms: &Terms,
+    net: u32,
+    values: &mut [u32],
+    expected: &[u32],
+    amounts: &mut [u16],
+) {
     decide_static(terms, values, expected, amounts);
     let stride = terms.stride();
     let rows = values.chunks_exact_mut(stride);
@@ -251,7 +262,7 @@ fn decide_mixed(terms: &Terms, values: &mut [u32], expected: &[u32], amounts: &m
         for (value, amount) in row.iter_mut().zip(drawn) {
             // The amount in place is m.
             let above = (account as u32).saturating_sub((*amount).into());
-            let surrender = UNIT * account as u32 - terms.penalty * above + expected[0];
+            let surrender = UNIT * account as u32 - (UNIT - net) * above + expected[0];
             if above > 0 && surrender > *value {
                 *value = surrender;
                 *amount = account as u16;
@@ -306,18 +317,19 @@ fn better(held: (u32, u32), other: (u32, u32)) -> (u32, u32) {
 /// table's layer, and a row looks only at rows below it.
 fn decide_dynamic(
     terms: &Terms,
+    net: u32,
     values: &mut [u32],
     expected: &[u32],
     amounts: &mut [u16],
     row: &mut Row,
 ) {
     let stride = terms.stride();
-    fill_draws(terms, values, expected, amounts);
+    fill_draws(terms, net, values, expected, amounts);
     for account in (0..=terms.top).rev() {
         let here = account * stride..(account + 1) * stride;
         try_up_to_level(terms, expected, account, row);
-        try_above_level(terms, values, amounts, account, row);
-        try_above_level_reset(terms, expected, account, row);
+        try_above_level(terms, net, values, amounts, account, row);
+        try_above_level_reset(terms, net, expected, account, row);
         values[here.clone()].copy_from_slice(&row.values);
         for (amount, t) in amounts[here].iter_mut().zip(&row.amounts) {
             *amount = *t as u16;
@@ -328,8 +340,8 @@ fn decide_dynamic(
 /// P(b, a): the best that any number of units at net cash leaves, each taking one from
 /// balance and guarantee; and that number, the smallest among the best:
 /// P(b, a) = max(E(b, a), net + P(b − 1, a − 1 held at 0)). Only a ≤ b is looked at later.
-fn fill_draws(terms: &Terms, values: &mut [u32], expected: &[u32], amounts: &mut [u16]) {
-    let (stride, net) = (terms.stride(), terms.net());
+fn fill_draws(terms: &Terms, net: u32, values: &mut [u32], expected: &[u32], amounts: &mut [u16]) {
+    let stride = terms.stride();
     values[..stride].copy_from_slice(&expected[..stride]);
     amounts[..stride].fill(0);
     for balance in 1..=terms.top {
@@ -380,8 +392,15 @@ fn try_up_to_level(terms: &Terms, expected: &[u32], account: usize, row: &mut Ro
 
 /// Amounts above m where the account is at least the guarantee: one more than m, then the
 /// best draw from there.
-fn try_above_level(terms: &Terms, values: &[u32], amounts: &[u16], account: usize, row: &mut Row) {
-    let (stride, level, net) = (terms.stride(), terms.level, terms.net());
+fn try_above_level(
+    terms: &Terms,
+    net: u32,
+    values: &[u32],
+    amounts: &[u16],
+    account: usize,
+    row: &mut Row,
+) {
+    let (stride, level) = (terms.stride(), terms.level);
     // Up to the level m is the guarantee itself, and none is left.
     for m in 0..account.min(level + 1) {
         let at = (account - m - 1) * stride;
@@ -409,14 +428,14 @@ fn try_above_level(terms: &Terms, values: &[u32], amounts: &[u16], account: usiz
 /// That quotient is the high half of A × step with step = b × 2^32 / W rounded up: the
 /// rounding adds less than A / 2^32, which is below 1 / W, and A × b / W lies at least 1 / W
 /// below the next whole number.
-fn try_above_level_reset(terms: &Terms, expected: &[u32], account: usize, row: &mut Row) {
+fn try_above_level_reset(terms: &Terms, net: u32, expected: &[u32], account: usize, row: &mut Row) {
     let (stride, level) = (terms.stride(), terms.level);
     if account >= terms.premium {
         return;
     }
     for t in level + 1..=account {
         let balance = account - t;
-        let cash = UNIT * level as u32 + terms.net() * (t - level) as u32;
+        let cash = UNIT * level as u32 + net * (t - level) as u32;
         let kept = &expected[balance * stride..][..stride];
         let step = ((balance as u64) << 32).div_ceil(account as u64);
         let mut quotient = step * account as u64;

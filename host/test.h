@@ -106,6 +106,14 @@ static inline int verdict(const char *name)
     return failures == 0 ? 0 : 1;
 }
 
+/* Numbers that calls answer, for counting them; any other counts as 0. */
+enum { NUMBERS = GMWB_REFUSED_STEP + 1 };
+
+static inline void tally(uint64_t *came, uint32_t number)
+{
+    came[number < NUMBERS ? number : 0]++;
+}
+
 /* Random rounds show little where a call always answers the same: each number must have come. */
 static inline void all_came(const uint64_t *came, const uint32_t *numbers, size_t count)
 {
@@ -267,14 +275,15 @@ static inline bool one_in(uint64_t n)
 struct terms {
     uint16_t premium, level, top, dates, fee, penalty;
     uint32_t discount;
+    uint16_t step, spare;
 };
 
 struct fund_return {
     uint16_t factor, weight;
 };
 
-static const struct terms P = {10, 5, 20, 2, 0, 1000, 1000000};
-static const struct terms Q = {10, 5, 20, 2, 2000, 0, 1000000};
+static const struct terms P = {10, 5, 20, 2, 0, 1000, 1000000, 0, 0};
+static const struct terms Q = {10, 5, 20, 2, 2000, 0, 1000000, 0, 0};
 static const struct fund_return P_RETURNS[2] = {{5000, 5000}, {15000, 5000}};
 
 /* A record and a list. They are lent with zeros behind them where a length asks for more. */
@@ -307,6 +316,8 @@ static inline void pack_record(struct input *in, struct terms c)
     for (size_t i = 0; i < 6; i++)
         put(in->record + 2 * i, 2, fields[i]);
     put(in->record + 12, 4, c.discount);
+    put(in->record + 16, 2, c.step);
+    put(in->record + 18, 2, c.spare);
     in->record_len = GMWB_RECORD_BYTES;
     in->terms = c;
 }

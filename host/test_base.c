@@ -1,6 +1,6 @@
 /*
- * gmwb_check and gmwb_book: the marked cases, every refusal on both sides of its boundary, the order
- * of the checks, and random records and bookings against the second program.
+ * gmwb_check and gmwb_book: the marked cases, rates that fall, every refusal on both sides of its
+ * boundary, the order of the checks, and random records and bookings against the second program.
  */
 #include "contracts.h"
 
@@ -98,16 +98,73 @@ static void other_bookings(void)
     booked(P, (struct booking){1, 15, 4, 6, 16}, (struct figures){58000, 2000, 9, 0, 0});
     /* 10 x 4 / 7 is 5.7, less than 10 - 3 */
     about("proportional reset");
-    const struct terms low = {10, 1, 20, 2, 0, 1000, 1000000};
+    const struct terms low = {10, 1, 20, 2, 0, 1000, 1000000, 0, 0};
     booked(low, (struct booking){1, 7, 10, 3, 16}, (struct figures){28000, 2000, 4, 5, 0});
     about("largest figures");
-    const struct terms most = {4000, 1, 4000, 40, 0, 10000, 1};
+    const struct terms most = {4000, 1, 4000, 40, 0, 10000, 1, 0, 0};
     booked(most, (struct booking){39, 4000, 4000, 4000, 16},
            (struct figures){10000, 39990000, 0, 0, 0});
     booked(most, (struct booking){39, 4000, 4000, 1, 16},
            (struct figures){10000, 0, 3999, 3999, 0});
-    const struct terms whole = {4000, 4000, 4000, 2, 0, 0, 1};
+    const struct terms whole = {4000, 4000, 4000, 2, 0, 0, 1, 0, 0};
     booked(whole, (struct booking){1, 0, 4000, 4000, 16}, (struct figures){40000000, 0, 0, 0, 0});
+}
+
+/* ---- Rates that fall -------------------------------------------------------------------------- */
+
+/* "The rate at date i is the record's rate less (i - 1) x step, never below zero." */
+static void falling_rates(void)
+{
+    static const uint16_t steps[3] = {0, 100, 1000};
+    static const uint32_t cash[3][3] = {
+        {59000, 59000, 59000},
+        {59000, 59100, 59200},
+        {59000, 60000, 60000},
+    };
+    for (size_t i = 0; i < 3; i++) {
+        const struct terms c = {10, 5, 20, 4, 0, 1000, 1000000, steps[i], 0};
+        for (uint64_t date = 1; date <= 3; date++) {
+            uint32_t paid = cash[i][date - 1];
+            about("6 at (15, 10), step %u, date %" PRIu64, (unsigned)steps[i], date);
+            booked(c, (struct booking){date, 15, 10, 6, 16},
+                   (struct figures){paid, 60000 - paid, 9, 4, 0});
+        }
+    }
+}
+
+/* The rate reaches zero on a date or between two, and stays there; 8 x 8,192 is 0 in 16 bits. */
+static const struct {
+    uint16_t penalty, step;
+    uint64_t date, rate;
+} RATES[] = {
+    {1000, 500, 2, 500},
+    {1000, 500, 3, 0},
+    {1000, 500, 39, 0},
+    {1000, 333, 4, 1},
+    {1000, 333, 5, 0},
+    {1000, 1001, 2, 0},
+    {0, 1, 2, 0},
+    {10000, 0, 39, 10000},
+    {10000, 1, 39, 9962},
+    {10000, 263, 39, 6},
+    {10000, 264, 39, 0},
+    {10000, 8192, 9, 0},
+    {10000, 10000, 1, 10000},
+    {10000, 10000, 2, 0},
+    {10000, 10000, 39, 0},
+};
+
+/* 15 drawn at (15, 10) pays the penalty on 10. */
+static void rates_at_zero(void)
+{
+    for (size_t i = 0; i < COUNT(RATES); i++) {
+        uint64_t penalty = 10 * RATES[i].rate;
+        const struct terms c = {10, 5, 20, 40, 0, RATES[i].penalty, 1000000, RATES[i].step, 0};
+        about("rate %u, step %u, date %" PRIu64, (unsigned)RATES[i].penalty,
+              (unsigned)RATES[i].step, RATES[i].date);
+        booked(c, (struct booking){RATES[i].date, 15, 10, 15, 16},
+               (struct figures){150000 - penalty, penalty, 0, 0, 0});
+    }
 }
 
 /* ---- Refusals --------------------------------------------------------------------------------- */
@@ -195,7 +252,7 @@ static const struct {
 
 static void booking_boundaries(void)
 {
-    const struct terms three = {10, 5, 20, 3, 0, 1000, 1000000};
+    const struct terms three = {10, 5, 20, 3, 0, 1000, 1000000, 0, 0};
     struct input in = input_of(three, P_RETURNS, 2);
     for (size_t i = 0; i < COUNT(BOOKINGS); i++) {
         struct booking b = BOOKINGS[i].b;
@@ -284,7 +341,7 @@ static void random_round(uint64_t round, uint64_t *came)
     struct figures f;
     uint32_t checked = check_record(&in);
     uint32_t number = book(&in, b, &f);
-    came[number <= GMWB_REFUSED_AMOUNT ? number : 0]++;
+    tally(came, number);
     if (checked != 0)
         same("booking on a refused record", number, checked);
 }
@@ -294,16 +351,18 @@ int main(int argc, char **argv)
     uint64_t rounds = rounds_from(argc, argv, 100000);
     marked_cases();
     other_bookings();
+    falling_rates();
+    rates_at_zero();
     each_record(record_case);
     record_faults_in_order(ordered_case);
     later_checks_in_order();
     buffer_lengths();
     booking_boundaries();
     wide_numbers();
-    uint64_t came[GMWB_REFUSED_AMOUNT + 1] = {0};
+    uint64_t came[NUMBERS] = {0};
     for (uint64_t round = 0; round < rounds; round++)
         random_round(round, came);
-    static const uint32_t numbers[] = {0, 1, 2, 3, 4, 5, 6, 11, 12, 14};
+    static const uint32_t numbers[] = {0, 1, 2, 3, 4, 5, 6, 11, 12, 14, 15};
     if (rounds >= 2000)
         all_came(came, numbers, COUNT(numbers));
     return verdict("base");

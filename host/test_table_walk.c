@@ -119,7 +119,7 @@ static void walk_answered(const struct followed *f, uint32_t number, uint64_t pl
 /* For the contracts of this part: P with up to 5 dates. */
 enum { TABLE_ROOM = 4 * 21 * 11 + 9, PATH_ROOM = 6 };
 
-static const struct terms P3 = {10, 5, 20, 3, 0, 1000, 1000000};
+static const struct terms P3 = {10, 5, 20, 3, 0, 1000, 1000000, 0, 0};
 static const uint16_t ZEROS[TABLE_ROOM];
 static const uint16_t FIRST_RETURN[PATH_ROOM];
 
@@ -238,7 +238,7 @@ static void recorded_tables(void)
  */
 static void large_values(void)
 {
-    const struct terms c = {1, 1, 4000, 40, 0, 0, 1000000};
+    const struct terms c = {1, 1, 4000, 40, 0, 0, 1000000, 0, 0};
     const struct fund_return triple[1] = {{30000, 10000}};
     size_t entries = table_of(c);
     uint16_t *table = allocate(entries * sizeof *table);
@@ -309,18 +309,23 @@ static void later_checks_in_order(void)
 
 /* ---- Walks ------------------------------------------------------------------------------------ */
 
+static void pays(const struct followed *f, const uint32_t *expected)
+{
+    uint64_t place;
+    struct lent cash;
+    same("walk: number", walk(f, &place, &cash), GMWB_SUCCESS);
+    for (size_t i = 0; i < f->path_len; i++)
+        same("walk: cash", ((uint32_t *)start(cash))[i], expected[i]);
+    untouched_from("walk: cash beyond the dates", cash, f->path_len * sizeof(uint32_t));
+    take_back(cash);
+}
+
 static void cash_along(struct terms c, const uint16_t *table, const uint16_t *path,
                        const uint32_t *expected)
 {
     struct followed f = exact(input_of(c, P_RETURNS, 2), table, path);
     f.cash_len += 2;
-    uint64_t place;
-    struct lent cash;
-    same("walk: number", walk(&f, &place, &cash), GMWB_SUCCESS);
-    for (size_t i = 0; i < c.dates; i++)
-        same("walk: cash", ((uint32_t *)start(cash))[i], expected[i]);
-    untouched_from("walk: cash beyond the dates", cash, c.dates * sizeof(uint32_t));
-    take_back(cash);
+    pays(&f, expected);
 }
 
 /*
@@ -341,14 +346,65 @@ static void cash_by_hand(void)
     take_back(work);
     free(table);
     about("walks of one date");
-    const struct terms c = {10, 5, 20, 1, 0, 1000, 1000000};
+    const struct terms c = {10, 5, 20, 1, 0, 1000, 1000000, 0, 0};
     cash_along(c, NULL, (uint16_t[]){0}, (uint32_t[]){100000});
     cash_along(c, NULL, (uint16_t[]){1}, (uint32_t[]){150000});
 }
 
+/*
+ * A return that changes nothing: 7 are drawn from (20, 20), 7 from (13, 13) and 6 from (6, 6), on
+ * dates 1 to 3. The penalty falls on 2, 2 and 1; the value is the sum of the cash.
+ */
+static void falling_rates(void)
+{
+    static const uint16_t steps[4] = {0, 300, 500, 10000}, path[4];
+    static const uint32_t cashes[4][4] = {
+        {68000, 68000, 59000, 0},
+        {68000, 68600, 59600, 0},
+        {68000, 69000, 60000, 0},
+        {68000, 70000, 60000, 0},
+    };
+    const struct fund_return still[1] = {{10000, 10000}};
+    for (size_t i = 0; i < 4; i++) {
+        const struct terms c = {20, 5, 20, 4, 0, 1000, 1000000, steps[i], 0};
+        uint16_t table[3 * 21 * 21] = {0};
+        table[entry_of(c, 20, 20)] = 7;
+        table[layer_of(c) + entry_of(c, 13, 13)] = 7;
+        table[2 * layer_of(c) + entry_of(c, 6, 6)] = 6;
+        struct followed f = exact(input_of(c, still, 1), table, path);
+        about("step %u", (unsigned)steps[i]);
+        pays(&f, cashes[i]);
+        struct told t;
+        struct lent work;
+        same("value_table: number", value_table(&f, &t, &work), GMWB_SUCCESS);
+        same("value_table: value", t.value, cashes[i][0] + cashes[i][1] + cashes[i][2]);
+        take_back(work);
+    }
+}
+
+/*
+ * P's second return leads to (20, 10) on every date from 2 on. There 20 are drawn on date 9, where
+ * the rate has fallen to zero; 8 x 8,192 is 0 in 16 bits.
+ */
+static void drawn_late(void)
+{
+    const struct terms c = {10, 5, 20, 40, 0, 10000, 1000000, 8192, 0};
+    uint16_t path[40], *table = allocate(table_of(c) * sizeof *table);
+    uint32_t cash[40] = {0};
+    for (size_t i = 0; i < COUNT(path); i++)
+        path[i] = 1;
+    table[8 * layer_of(c) + entry_of(c, 20, 10)] = 20;
+    cash[8] = 200000;
+    struct followed f = exact(input_of(c, P_RETURNS, 2), table, path);
+    about("20 drawn on date 9");
+    pays(&f, cash);
+    table_answered(&f, GMWB_SUCCESS, 0);
+    free(table);
+}
+
 static void path_counts(void)
 {
-    const struct terms c = {10, 5, 20, 5, 0, 1000, 1000000};
+    const struct terms c = {10, 5, 20, 5, 0, 1000, 1000000, 0, 0};
     /* The last two would be 5 in 8 and in 16 bits. */
     static const size_t counts[] = {0, 1, 4, 5, 6, 10, 261, 65541};
     for (size_t i = 0; i < COUNT(counts); i++) {
@@ -362,7 +418,7 @@ static void path_counts(void)
 
 static void path_numbers(void)
 {
-    const struct terms c = {10, 5, 20, 5, 0, 1000, 1000000};
+    const struct terms c = {10, 5, 20, 5, 0, 1000, 1000000, 0, 0};
     uint16_t path[5] = {0};
     struct followed f = zeros_on(c);
     f.path = path;
@@ -385,7 +441,7 @@ static void path_numbers(void)
 /* A return that changes nothing and a table of zeros keep the walk in state (10, 10). */
 static void bad_entries_met(void)
 {
-    const struct terms c = {10, 5, 20, 5, 0, 1000, 1000000};
+    const struct terms c = {10, 5, 20, 5, 0, 1000, 1000000, 0, 0};
     const struct fund_return still[1] = {{10000, 10000}};
     uint16_t table[TABLE_ROOM] = {0};
     struct followed f = exact(input_of(c, still, 1), table, FIRST_RETURN);
@@ -493,7 +549,7 @@ static void shared_memory(void)
 
 /* ---- Every path ------------------------------------------------------------------------------- */
 
-enum { STEPS = 3, BRANCHES = 3, PATHS = 27 };
+enum { PATH_DATES = 3, BRANCHES = 3, PATHS = 27 };
 
 static wide power(wide base, size_t exponent)
 {
@@ -507,9 +563,9 @@ static wide power(wide base, size_t exponent)
 static wide weighed(const struct input *in, const uint16_t *path, const uint32_t *cash)
 {
     wide chance = 1, sum = 0, discount = get(in->record + 12, 4);
-    for (size_t i = 0; i < STEPS; i++) {
+    for (size_t i = 0; i < PATH_DATES; i++) {
         chance *= get(in->list + GMWB_RETURN_BYTES * path[i] + 2, 2);
-        sum += cash[i] * power(discount, i + 1) * power(1000000, STEPS - 1 - i);
+        sum += cash[i] * power(discount, i + 1) * power(1000000, PATH_DATES - 1 - i);
     }
     return chance * sum;
 }
@@ -528,7 +584,7 @@ static void every_path(const struct input *in, const uint16_t *table)
     struct told t;
     struct lent work, cash;
     wide sum = 0;
-    uint16_t path[STEPS];
+    uint16_t path[PATH_DATES];
     struct followed f = exact(*in, table, path);
     same("value_table: number", value_table(&f, &t, &work), GMWB_SUCCESS);
     take_back(work);
@@ -543,7 +599,7 @@ static void every_path(const struct input *in, const uint16_t *table)
     }
     wide one = power(10, 30);
     holds("expected cash at or above the value", sum >= t.value * one);
-    holds("expected cash less than N above the value", sum < (t.value + (wide)STEPS) * one);
+    holds("expected cash less than N above the value", sum < (t.value + (wide)PATH_DATES) * one);
 }
 
 /* A table of any amounts from the dynamic sets. */
@@ -555,17 +611,20 @@ static void fill_table(struct terms c, uint16_t *table)
 
 static void every_path_by_hand(void)
 {
-    const struct terms c = {10, 4, 20, STEPS, 150, 800, 970000};
+    static const uint16_t steps[3] = {0, 300, 10000};
     const struct fund_return returns[BRANCHES] = {{6000, 2500}, {10500, 4500}, {16000, 3000}};
-    struct input in = input_of(c, returns, BRANCHES);
-    about("every path of a contract");
-    for (uint64_t behaviour = 0; behaviour <= 2; behaviour++) {
-        struct told t;
-        struct lent work;
-        uint16_t *table = recorded(&in, behaviour, &t, &work);
-        every_path(&in, table);
-        take_back(work);
-        free(table);
+    for (size_t i = 0; i < 3; i++) {
+        const struct terms c = {10, 4, 20, PATH_DATES, 150, 800, 970000, steps[i], 0};
+        struct input in = input_of(c, returns, BRANCHES);
+        about("every path of a contract, step %u", (unsigned)steps[i]);
+        for (uint64_t behaviour = 0; behaviour <= 2; behaviour++) {
+            struct told t;
+            struct lent work;
+            uint16_t *table = recorded(&in, behaviour, &t, &work);
+            every_path(&in, table);
+            take_back(work);
+            free(table);
+        }
     }
 }
 
@@ -577,7 +636,7 @@ static void every_path_at_random(uint64_t round)
 {
     uint16_t table[RANDOM_ROOM];
     struct terms c = random_terms(TOP, TOP, DATES);
-    c.dates = STEPS;
+    c.dates = PATH_DATES;
     struct input in = random_input(c, BRANCHES);
     fill_table(c, table);
     about("every path, round %" PRIu64, round);
@@ -629,22 +688,22 @@ static void random_round(uint64_t round, uint64_t *tables, uint64_t *walks)
     struct lent work, cash;
     uint64_t place;
     uint32_t number = value_table(&f, &t, &work);
-    tables[number <= GMWB_REFUSED_AMOUNT ? number : 0]++;
+    tally(tables, number);
     take_back(work);
     number = walk(&f, &place, &cash);
-    walks[number <= GMWB_REFUSED_AMOUNT ? number : 0]++;
+    tally(walks, number);
     take_back(cash);
 }
 
 static void random_rounds(uint64_t rounds)
 {
-    uint64_t tables[GMWB_REFUSED_AMOUNT + 1] = {0}, walks[GMWB_REFUSED_AMOUNT + 1] = {0};
+    uint64_t tables[NUMBERS] = {0}, walks[NUMBERS] = {0};
     for (uint64_t round = 0; round < rounds; round++)
         random_round(round, tables, walks);
     for (uint64_t round = 0; round < rounds / 20; round++)
         every_path_at_random(round);
-    static const uint32_t by_table[] = {0, 1, 2, 3, 4, 5, 6, 7, 8, 9, 11, 14};
-    static const uint32_t by_walk[] = {0, 1, 2, 3, 4, 5, 6, 7, 8, 9, 11, 13, 14};
+    static const uint32_t by_table[] = {0, 1, 2, 3, 4, 5, 6, 7, 8, 9, 11, 14, 15};
+    static const uint32_t by_walk[] = {0, 1, 2, 3, 4, 5, 6, 7, 8, 9, 11, 13, 14, 15};
     if (rounds >= 2000) {
         all_came(tables, by_table, COUNT(by_table));
         all_came(walks, by_walk, COUNT(by_walk));
@@ -665,6 +724,8 @@ int main(int argc, char **argv)
     list_faults_in_order(ordered_case);
     later_checks_in_order();
     cash_by_hand();
+    falling_rates();
+    drawn_late();
     path_counts();
     path_numbers();
     bad_entries_met();

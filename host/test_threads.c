@@ -131,7 +131,7 @@ static struct lent random_path(struct terms c, size_t count)
     return lend_copy(path, bytes, bytes);
 }
 
-/* Half of the contracts are damaged here or there; some are so large that calls overlap for long. */
+/* Half of the contracts are damaged here or there; some are so large that calls overlap long. */
 static struct given random_given(void)
 {
     bool damaged = one_in(2);

@@ -1,6 +1,6 @@
 /*
- * gmwb_value: the marked cases, every refusal on both sides of its boundary, the order of the
- * checks, what is left in the slices, and random contracts against the second program.
+ * gmwb_value: the marked cases, rates that fall, every refusal on both sides of its boundary, the
+ * order of the checks, what is left in the slices, and random contracts against the second program.
  */
 #include "contracts.h"
 
@@ -114,19 +114,57 @@ static void marked_values(void)
     valued(P, GMWB_MIXED, 125000, 25000);
     valued(P, GMWB_DYNAMIC, 127500, 27500);
     about("case 4");
-    const struct terms one_date = {10, 5, 20, 1, 0, 1000, 1000000};
+    const struct terms one_date = {10, 5, 20, 1, 0, 1000, 1000000, 0, 0};
     for (uint64_t behaviour = 0; behaviour <= 2; behaviour++)
         valued(one_date, behaviour, 125000, 25000);
     about("case 5");
-    const struct terms discounted = {10, 5, 20, 2, 0, 1000, 950000};
+    const struct terms discounted = {10, 5, 20, 2, 0, 1000, 950000, 0, 0};
     valued(discounted, GMWB_STATIC, 115187, 15187);
     about("case 6");
     valued(Q, GMWB_STATIC, 107500, 7500);
     valued(Q, GMWB_MIXED, 110000, 10000);
     valued(Q, GMWB_DYNAMIC, 110000, 10000);
     about("margin below 0");
-    const struct terms lost = {10, 5, 20, 2, 0, 1000, 1};
+    const struct terms lost = {10, 5, 20, 2, 0, 1000, 1, 0, 0};
     valued(lost, GMWB_STATIC, 0, -100000);
+}
+
+/*
+ * "Bookings, tables and values follow it. A step of zero gives the old figures." Static pays no
+ * penalty; with one decision date no rate has fallen yet.
+ */
+static void falling_rates(void)
+{
+    static const uint16_t steps[3] = {0, 100, 1000};
+    static const uint32_t values[3][3] = {
+        {122500, 122500, 133500},
+        {122500, 123000, 133650},
+        {122500, 125000, 134375},
+    };
+    for (size_t i = 0; i < 3; i++) {
+        const struct terms c = {10, 5, 20, 4, 0, 1000, 1000000, steps[i], 0};
+        about("P with N 4, step %u", (unsigned)steps[i]);
+        for (uint64_t behaviour = 0; behaviour <= 2; behaviour++)
+            valued(c, behaviour, values[i][behaviour], (int64_t)values[i][behaviour] - 100000);
+    }
+    const struct terms one_decision = {10, 5, 20, 2, 0, 1000, 1000000, 10000, 0};
+    about("P, step 10,000");
+    valued(one_decision, GMWB_MIXED, 125000, 25000);
+    valued(one_decision, GMWB_DYNAMIC, 127500, 27500);
+}
+
+/* The rate is at zero on the last date, before it or never; 8 x 8,192 is 0 in 16 bits. */
+static void rates_at_zero(void)
+{
+    static const uint16_t steps[] = {1, 263, 264, 8192, 10000};
+    for (size_t i = 0; i < COUNT(steps); i++) {
+        const struct terms c = {10, 5, 20, 40, 0, 10000, 1000000, steps[i], 0};
+        about("P with N 40, rate 10,000, step %u", (unsigned)steps[i]);
+        for (uint64_t behaviour = 0; behaviour <= 2; behaviour++) {
+            struct valuing v = exact(input_of(c, P_RETURNS, 2), behaviour);
+            answered(&v, GMWB_SUCCESS, 0);
+        }
+    }
 }
 
 /* Value and recorded amount of a state of date 1. */
@@ -162,7 +200,7 @@ static void marked_states(void)
 /* For N = 1 the first layer holds maturity values, and no table is needed. */
 static void maturity_layer(void)
 {
-    const struct terms c = {10, 5, 20, 1, 0, 1000, 1000000};
+    const struct terms c = {10, 5, 20, 1, 0, 1000, 1000000, 0, 0};
     struct valuing v = exact(input_of(c, P_RETURNS, 2), GMWB_DYNAMIC);
     struct told t;
     struct left l;
@@ -218,7 +256,7 @@ static void behaviours(void)
 
 static void slice_lengths(void)
 {
-    const struct terms c = {10, 5, 20, 4, 0, 1000, 1000000};
+    const struct terms c = {10, 5, 20, 4, 0, 1000, 1000000, 0, 0};
     struct valuing v = exact(input_of(c, P_RETURNS, 2), GMWB_DYNAMIC);
     size_t work = v.work_len, table = v.table_len;
     /* The longest would be too short in 16 bits. */
@@ -261,7 +299,7 @@ static void all_behaviours(const char *name, uint64_t round, struct valuing v, u
         struct left l;
         uint32_t number = value(&v, &t, &l);
         take_back_left(l);
-        came[number <= GMWB_REFUSED_AMOUNT ? number : 0]++;
+        tally(came, number);
         if (number == 0)
             holds("value no lower than under the behaviour before", t.value >= before);
         before = t.value;
@@ -292,6 +330,8 @@ int main(int argc, char **argv)
     uint64_t rounds = rounds_from(argc, argv, 2000);
     marked_values();
     marked_states();
+    falling_rates();
+    rates_at_zero();
     maturity_layer();
     each_record(input_answered);
     each_list(input_answered);
@@ -300,12 +340,12 @@ int main(int argc, char **argv)
     later_checks_in_order();
     behaviours();
     slice_lengths();
-    uint64_t came[GMWB_REFUSED_AMOUNT + 1] = {0};
+    uint64_t came[NUMBERS] = {0};
     for (uint64_t round = 0; round < rounds; round++)
         random_round(round, came);
     for (uint64_t round = 0; round < rounds / 500; round++)
         larger_contract(round, came);
-    static const uint32_t numbers[] = {0, 1, 2, 3, 4, 5, 6, 7, 8, 9, 10, 11};
+    static const uint32_t numbers[] = {0, 1, 2, 3, 4, 5, 6, 7, 8, 9, 10, 11, 15};
     if (rounds >= 2000)
         all_came(came, numbers, COUNT(numbers));
     return verdict("value");

@@ -2,9 +2,10 @@
  * Valuation of guaranteed minimum withdrawal benefits: the calls of libgmwb.a for C hosts.
  *
  * Answers. Each call returns 0 on success, else the number of a refusal (enum gmwb_refusal). Checks
- * run in the order of the numbers, each call makes those for which it has the input, and the first
- * that fails is returned. A refusal changes no slice. What place, value and margin point to is
- * always written: place is 0 on success, value and margin are 0 on refusal.
+ * run in the order of the numbers, save that 15 comes after 6 and before 7; each call makes those
+ * for which it has the input, and the first that fails is returned. A refusal changes no slice.
+ * What place, value and margin point to is always written: place is 0 on success, value and margin
+ * are 0 on refusal.
  *
  * Units. Accounts, guarantees and withdrawals are whole money units; values, margins, cash and
  * penalties are ten-thousandths of a unit. Fields of records and buffers are unsigned, low byte
@@ -42,7 +43,7 @@ extern "C" {
 /* The place is 0 unless one is named. */
 enum gmwb_refusal {
     GMWB_SUCCESS = 0,
-    GMWB_REFUSED_RECORD_LENGTH = 1, /* record not 16 bytes */
+    GMWB_REFUSED_RECORD_LENGTH = 1, /* record not 20 bytes */
     GMWB_REFUSED_PREMIUM = 2,       /* top above 4,000, or premium not 1 to top */
     GMWB_REFUSED_LEVEL = 3,         /* level not 1 to premium */
     GMWB_REFUSED_DATES = 4,         /* dates not 1 to 40 */
@@ -59,13 +60,15 @@ enum gmwb_refusal {
                                        above the premium */
     GMWB_REFUSED_PATH = 13,         /* walk: count of return numbers not N (looked at first), place
                                        N; or no such return, place: the first such index */
-    GMWB_REFUSED_AMOUNT = 14        /* amount outside the dynamic set; place: supplied table, the
+    GMWB_REFUSED_AMOUNT = 14,       /* amount outside the dynamic set; place: supplied table, the
                                        first such entry; walk, the date; booking, 0 */
+    GMWB_REFUSED_STEP = 15          /* step above 10,000 or a spare byte not zero; checked after 6
+                                       and before 7 */
 };
 
 /* ---- Checking a record, booking a withdrawal -------------------------------------------------
  *
- * A contract record has 16 bytes:
+ * A contract record has 20 bytes:
  *
  *     offset  bytes  field                             range
  *          0      2  premium U                         1 to top
@@ -75,13 +78,16 @@ enum gmwb_refusal {
  *          8      2  fee per period, ten-thousandths   0 to 10,000
  *         10      2  penalty rate, ten-thousandths     0 to 10,000
  *         12      4  discount per period, millionths   1 to 1,000,000
+ *         16      2  penalty step, ten-thousandths     0 to 10,000
+ *         18      2  spare                             0
  *
  * A state is an account W, 0 to top, and a guarantee A, 0 to U; m is the smaller of G and A.
  * Decisions fall on dates 1 to N - 1, and date N is maturity. The dynamic set of a state holds the
  * amounts from 0 to the larger of W and m.
  *
- * The withdrawal of an amount t from a state:
+ * The withdrawal of an amount t from a state on date i:
  *
+ *     rate             the record's penalty rate less (i - 1) x step, never below zero
  *     cash             10,000 x t less penalty
  *     penalty          rate x (t - m) where t is above m, else 0
  *     guarantee after  A - t if t is at most m; else the smaller of A - t and A x (W - t) / W
@@ -97,18 +103,18 @@ enum gmwb_refusal {
  *         10      2  guarantee after
  *         12      4  zeros
  */
-enum { GMWB_RECORD_BYTES = 16, GMWB_BOOKING_BYTES = 16 };
+enum { GMWB_RECORD_BYTES = 20, GMWB_BOOKING_BYTES = 16 };
 
 /*
- * Checks a contract record. Returns 0 where it is accepted, else a refusal from 1 to 6, whose place
- * is 0.
+ * Checks a contract record. Returns 0 where it is accepted, else a refusal (1 to 6, 15), whose
+ * place is 0.
  */
 uint32_t gmwb_check(const uint8_t *record, size_t record_len);
 
 /*
  * Books the withdrawal of an amount on a decision date from a state of the contract. Returns 0 with
- * out filled as a booking buffer; else a refusal (1 to 6, 11, 12, 14), whose place is 0, with out
- * untouched.
+ * out filled as a booking buffer; else a refusal (1 to 6, 15, 11, 12, 14), whose place is 0, with
+ * out untouched.
  */
 uint32_t gmwb_book(const uint8_t *record, size_t record_len,
                    uint64_t date, uint64_t account, uint64_t guarantee, uint64_t amount,
@@ -153,8 +159,8 @@ enum gmwb_behaviour {
  * Values a contract under a behaviour. Returns 0 with the contract's value, the margin (value less
  * 10,000 x premium, negative where the contract is worth less than its premium), place 0, the
  * working slice as above, and in each entry of the table the recorded amount: the smallest among
- * the best. Else a refusal (1 to 11) and its place, with value 0, margin 0, work and table
- * untouched.
+ * the best. Else a refusal (1 to 6, 15, 7 to 11) and its place, with value 0, margin 0, work and
+ * table untouched.
  */
 uint32_t gmwb_value(const uint8_t *record, size_t record_len,
                     const uint8_t *list, size_t list_len,
@@ -168,7 +174,7 @@ uint32_t gmwb_value(const uint8_t *record, size_t record_len,
  * Values a contract whose holder withdraws what the table says; record, list, work and table as
  * above. Every needed entry of the table is checked against the dynamic set of its state, reachable
  * or not. Returns 0 with value, margin, place 0 and the working slice as gmwb_value does. Else a
- * refusal (1 to 9, 11, 14) and its place, with value 0, margin 0 and work untouched.
+ * refusal (1 to 6, 15, 7 to 9, 11, 14) and its place, with value 0, margin 0 and work untouched.
  */
 uint32_t gmwb_value_table(const uint8_t *record, size_t record_len,
                           const uint8_t *list, size_t list_len,
@@ -182,7 +188,7 @@ uint32_t gmwb_value_table(const uint8_t *record, size_t record_len,
  * first; record, list and table as above. The table needs all N - 1 layers and cash N entries; only
  * the table entries met are checked. Returns 0 with place 0 and cash filled with N amounts in order
  * of date, the last being the maturity payment; entries of cash beyond N are untouched. Else a
- * refusal (1 to 9, 11, 13, 14) and its place, with cash untouched.
+ * refusal (1 to 6, 15, 7 to 9, 11, 13, 14) and its place, with cash untouched.
  */
 uint32_t gmwb_walk(const uint8_t *record, size_t record_len,
                    const uint8_t *list, size_t list_len,

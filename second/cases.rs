@@ -1,9 +1,9 @@
 //! `second script`: the script of the test program, the same on every run.
 //!
 //! Its parts, each headed in the script by a line that starts with `#`: the cases of
-//! document 01, the ends of every range, every refusal alone and with the checks behind
-//! it failing too, every count of dates, slices of every length that matters, and
-//! random contracts, whole and damaged.
+//! document 01, penalty rates that fall, the ends of every range, every refusal alone and
+//! with the checks behind it failing too, every count of dates, slices of every length
+//! that matters, and random contracts, whole and damaged.
 //!
 //! The test program has room for records of 64 bytes, lists of 512, 64 return numbers,
 //! 64 bytes of a buffer, 65,536 numbers of a working slice or of cash, and 65,536
@@ -68,19 +68,48 @@ impl Draw {
         let top = 1 + self.upto(most_top - 1);
         let premium = 1 + self.upto(top - 1);
         let some = self.upto(9_999) as u16;
+        let dates = 1 + self.upto(most_dates - 1) as u16;
+        let penalty = self.one(&[0, 500, 1_000, some / 5, some, 10_000]);
+        let steps = [
+            0,
+            0,
+            1,
+            some / 20,
+            some,
+            10_000,
+            penalty / 3,
+            penalty / dates,
+        ];
         Terms {
             premium: premium as u16,
             level: 1 + self.upto(premium - 1) as u16,
             top: top as u16,
-            dates: 1 + self.upto(most_dates - 1) as u16,
+            dates,
             fee: self.one(&[0, 0, 1, 50, 150, 200, 350, some / 10, some, 10_000]),
-            penalty: self.one(&[0, 500, 1_000, some / 5, some, 10_000]),
+            penalty,
             discount: match self.upto(14) {
                 0 => 1,
                 1 => 1 + 100 * u32::from(some),
                 2..=7 => 1_000_000 - 10 * u32::from(some),
                 _ => 1_000_000,
             },
+            step: self.one(&steps),
+            spare: 0,
+        }
+    }
+
+    /// A contract with two decision dates or more, whose rate falls: to zero on the last of
+    /// them by the step `last`, sooner or never by the others.
+    fn falling(&mut self, most_top: usize, most_dates: usize) -> Terms {
+        let terms = self.terms(most_top, most_dates - 2);
+        let dates = terms.dates + 2;
+        let penalty = terms.penalty.max(self.one(&[500, 800, 1_000]));
+        let last = penalty.div_ceil(dates - 2);
+        Terms {
+            dates,
+            penalty,
+            step: self.one(&[1, penalty / dates, last, last, penalty / 2, penalty]),
+            ..terms
         }
     }
 
@@ -236,6 +265,93 @@ fn worked_by_hand(s: &mut Script) {
     }
 }
 
+// ------------------------------------------- Document 02, request (i): falling rates
+
+fn falling_rates(s: &mut Script) {
+    s.part("Document 02, request (i): P with N 4 and steps 0, 100 and 1,000, valued, supplied back, walked along every path.");
+    for step in [0, 100, 1_000] {
+        let terms = Terms {
+            dates: 4,
+            step,
+            ..P
+        };
+        for behaviour in 0..3 {
+            s.valued_and_walked(terms, &P_RETURNS, behaviour);
+            for path in 0..16 {
+                let numbers = [path / 8, path / 4 % 2, path / 2 % 2, path % 2];
+                s.walk(terms, &P_RETURNS, "=", &listed(&numbers), 4);
+            }
+        }
+    }
+    s.part("Document 02, request (i): bookings of P with N 4 and these steps at (15, 10), on every date.");
+    for step in [0, 100, 1_000] {
+        let terms = Terms {
+            dates: 4,
+            step,
+            ..P
+        };
+        for date in 0..=4 {
+            for amount in [5, 6, 15] {
+                s.book(terms, [date, 15, 10, amount], 16);
+            }
+        }
+    }
+}
+
+/// Rates and steps: the rate reaches zero on a date, between two dates or on none. With 16
+/// bits 8 × 8,192 would be 0 again.
+const RATES: [(u16, u16); 8] = [
+    (1_000, 199),
+    (1_000, 200),
+    (1_000, 201),
+    (1_000, 1_000),
+    (10_000, 263),
+    (10_000, 264),
+    (10_000, 8_192),
+    (10_000, 10_000),
+];
+
+/// A table of zeros, then one that draws 20 on a date at (20, 10), whose entry is the last of
+/// the layer. The second of P's returns leads there on every date after the first.
+fn draw_on(s: &mut Script, terms: Terms, date: usize) {
+    let zeros = format!("{}:0:1", terms.table());
+    s.value_table(terms, &P_RETURNS, terms.work(), &zeros);
+    let entry = date * terms.layer() - 1;
+    s.value_table(terms, &P_RETURNS, terms.work(), &format!("={entry}:20"));
+    let path = vec![1; terms.dates.into()];
+    s.walk(terms, &P_RETURNS, "=", &listed(&path), terms.dates.into());
+}
+
+fn rates_at_zero(s: &mut Script) {
+    s.part("Rates that reach zero on a date, between two or never: bookings on every date of P with N 40.");
+    for (penalty, step) in RATES {
+        let terms = Terms {
+            dates: 40,
+            penalty,
+            step,
+            ..P
+        };
+        for date in 1..40 {
+            s.book(terms, [date, 20, 10, 20], 16);
+        }
+    }
+    s.part("These rates: P with N 8 valued; tables that draw 20 at (20, 10) on one date, supplied and walked.");
+    for (penalty, step) in RATES {
+        let terms = Terms {
+            dates: 8,
+            penalty,
+            step,
+            ..P
+        };
+        for behaviour in 0..3 {
+            s.valued_and_walked(terms, &P_RETURNS, behaviour);
+        }
+        for date in 2..8 {
+            draw_on(s, terms, date);
+        }
+    }
+}
+
 // ------------------------------------------------------------ Ends of ranges
 
 fn ends_of_fields(s: &mut Script) {
@@ -253,6 +369,13 @@ fn ends_of_fields(s: &mut Script) {
     all.extend([0, 1, 9_999, 10_000, 10_001, 65_535].map(|penalty| Terms { penalty, ..P }));
     let discounts = [0, 1, 2, 999_999, 1_000_000, 1_000_001, 16_777_216, u32::MAX];
     all.extend(discounts.map(|discount| Terms { discount, ..P }));
+    let steps = [0, 1, 9_999, 10_000, 10_001, 65_535];
+    all.extend(steps.map(|step| Terms {
+        dates: 4,
+        step,
+        ..P
+    }));
+    all.extend([1, 255, 256, 257, 65_535].map(|spare| Terms { spare, ..P }));
     for terms in all {
         s.check(&terms.record());
         s.book(terms, [1, 15, 10, 6], 16);
@@ -272,8 +395,8 @@ fn ends_of_fields(s: &mut Script) {
 }
 
 fn lengths_of_bytes(s: &mut Script) {
-    s.part("Records of 0 to 20 bytes, of 32 and of 64.");
-    for length in (0..=20).chain([32, 64]) {
+    s.part("Records of 0 to 24 bytes, of 40 and of 64.");
+    for length in (0..=24).chain([40, 64]) {
         let mut record = P.record();
         record.resize(length, 0);
         s.check(&record);
@@ -392,9 +515,18 @@ impl Parts {
             3 => self.set(2, draw.one(&[0, self.terms.premium + 1, 65_535])),
             4 => self.set(6, draw.one(&[0, 41, 42, 65_535])),
             5 => self.set(draw.one(&[8, 10]), draw.one(&[10_001, 20_000, 65_535])),
-            _ => {
+            6 => {
                 let discount: u32 = draw.one(&[0, 1_000_001, 2_000_000, u32::MAX]);
                 self.record[12..16].copy_from_slice(&discount.to_le_bytes());
+            }
+            _ => {
+                let which = draw.upto(2);
+                if which != 0 {
+                    self.set(16, draw.one(&[10_001, 20_000, 65_535]));
+                }
+                if which != 1 {
+                    self.set(18, draw.one(&[1, 128, 256, 257, 65_535]));
+                }
             }
         }
     }
@@ -444,8 +576,8 @@ impl Parts {
     /// Spoils what check `number` looks at, and no more than that where it can be helped.
     fn spoil(&mut self, operation: &str, number: u64, draw: &mut Draw) {
         match number {
-            1 => self.record.resize(draw.one(&[0, 1, 12, 15, 17, 32]), 0),
-            2..=6 => self.spoil_record(number, draw),
+            1 => self.record.resize(draw.one(&[0, 1, 15, 16, 19, 21, 40]), 0),
+            2..=6 | 15 => self.spoil_record(number, draw),
             7..=9 => self.spoil_list(number, draw),
             10 => self.behaviour = draw.one(&[3, 4, 255, 256, 65_536, u64::MAX]),
             11 => self.spoil_lent(operation, draw),
@@ -492,11 +624,11 @@ impl Parts {
 
 /// The operations, each with the numbers of its checks in their order.
 pub const ORDERS: [(&str, &[u64]); 5] = [
-    ("check", &[1, 2, 3, 4, 5, 6]),
-    ("value", &[1, 2, 3, 4, 5, 6, 7, 8, 9, 10, 11]),
-    ("value_table", &[1, 2, 3, 4, 5, 6, 7, 8, 9, 11, 14]),
-    ("book", &[1, 2, 3, 4, 5, 6, 11, 12, 14]),
-    ("walk", &[1, 2, 3, 4, 5, 6, 7, 8, 9, 11, 13, 14]),
+    ("check", &[1, 2, 3, 4, 5, 6, 15]),
+    ("value", &[1, 2, 3, 4, 5, 6, 15, 7, 8, 9, 10, 11]),
+    ("value_table", &[1, 2, 3, 4, 5, 6, 15, 7, 8, 9, 11, 14]),
+    ("book", &[1, 2, 3, 4, 5, 6, 15, 11, 12, 14]),
+    ("walk", &[1, 2, 3, 4, 5, 6, 15, 7, 8, 9, 11, 13, 14]),
 ];
 
 /// For each check of each operation: input that fails it alone, with the next check, and
@@ -672,7 +804,7 @@ fn lengths_of_slices(s: &mut Script) {
 fn random_records(s: &mut Script) {
     s.part("Random records: any bytes, then fields near their ends.");
     for _ in 0..60 {
-        let record: Vec<u8> = (0..16).map(|_| s.draw.upto(255) as u8).collect();
+        let record: Vec<u8> = (0..20).map(|_| s.draw.upto(255) as u8).collect();
         s.check(&record);
     }
     for _ in 0..250 {
@@ -692,6 +824,8 @@ fn random_records(s: &mut Script) {
             fee: near(&mut s.draw, 10_000),
             penalty: near(&mut s.draw, 10_000),
             discount: s.draw.one(&[0, 1, 1_000_000, 1_000_001, 970_000, 970_000]),
+            step: near(&mut s.draw, 10_000),
+            spare: s.draw.one(&[0, 0, 0, 0, 0, 0, 1, 256]),
         };
         s.check(&terms.record());
     }
@@ -718,8 +852,7 @@ fn random_bookings(s: &mut Script) {
 }
 
 /// A table that is filled, supplied back whole and with one entry changed, and walked.
-fn random_contract(s: &mut Script, most_top: usize, most_dates: usize, most_returns: usize) {
-    let terms = s.draw.terms(most_top, most_dates);
+fn random_contract(s: &mut Script, terms: Terms, most_returns: usize) {
     let count = 1 + s.draw.upto(most_returns - 1);
     let returns = s.draw.returns(count);
     let (work, dates) = (terms.work(), usize::from(terms.dates));
@@ -787,15 +920,23 @@ fn random_walks(s: &mut Script) {
 fn random_contracts(s: &mut Script) {
     s.part("Random contracts, small.");
     for _ in 0..60 {
-        random_contract(s, 10, 6, 4);
+        let terms = s.draw.terms(10, 6);
+        random_contract(s, terms, 4);
+    }
+    s.part("Random contracts whose penalty rate falls.");
+    for _ in 0..40 {
+        let terms = s.draw.falling(10, 8);
+        random_contract(s, terms, 4);
     }
     s.part("Random contracts of up to 64 returns.");
     for _ in 0..6 {
-        random_contract(s, 8, 4, 64);
+        let terms = s.draw.terms(8, 4);
+        random_contract(s, terms, 64);
     }
     s.part("Random contracts with tops up to 60.");
     for _ in 0..12 {
-        random_contract(s, 60, 5, 6);
+        let terms = s.draw.terms(60, 5);
+        random_contract(s, terms, 6);
     }
 }
 
@@ -808,6 +949,8 @@ pub fn script() -> String {
     s.part("The script of the test program, written by `second script`. second/script.rs has its language.");
     unmarked(&mut s);
     worked_by_hand(&mut s);
+    falling_rates(&mut s);
+    rates_at_zero(&mut s);
     ends_of_fields(&mut s);
     lengths_of_bytes(&mut s);
     ends_of_returns(&mut s);

@@ -14,6 +14,7 @@ use std::collections::BTreeMap;
 const LEAST_OPERATIONS: u64 = 2_000;
 const LEAST_REFUSALS: u64 = 10;
 const LEAST_ACCEPTED: u64 = 100;
+const LEAST_FALLEN: u64 = 20;
 
 /// The fields of a record.
 struct Fields {
@@ -24,6 +25,8 @@ struct Fields {
     fee: u64,
     penalty: u64,
     discount: u64,
+    step: u64,
+    spare: u64,
 }
 
 fn number_at(bytes: &[u8], offset: usize, width: usize) -> u64 {
@@ -41,6 +44,8 @@ impl Fields {
             fee: number_at(record, 8, 2),
             penalty: number_at(record, 10, 2),
             discount: number_at(record, 12, 4),
+            step: number_at(record, 16, 2),
+            spare: number_at(record, 18, 2),
         }
     }
 
@@ -54,6 +59,16 @@ impl Fields {
 
     fn m(&self, guarantee: u64) -> u64 {
         self.level.min(guarantee)
+    }
+
+    fn rate(&self, date: u64) -> u64 {
+        self.penalty.saturating_sub((date - 1) * self.step)
+    }
+
+    /// Date, account and guarantee of an entry of the table.
+    fn state(&self, entry: u64) -> (u64, u64, u64) {
+        let (row, state) = (self.premium + 1, entry % self.layer());
+        (entry / self.layer() + 1, state / row, state % row)
     }
 
     fn account_after(&self, balance: u64, factor: u64) -> u64 {
@@ -73,12 +88,13 @@ fn returns(list: &[u8]) -> Vec<(u64, u64)> {
 fn record_fails(number: u64, record: &[u8]) -> bool {
     let c = Fields::of(record);
     match number {
-        1 => record.len() != 16,
+        1 => record.len() != 20,
         2 => c.top > 4_000 || c.premium == 0 || c.premium > c.top,
         3 => c.level == 0 || c.level > c.premium,
         4 => c.dates == 0 || c.dates > 40,
         5 => c.fee > 10_000 || c.penalty > 10_000,
-        _ => c.discount == 0 || c.discount > 1_000_000,
+        6 => c.discount == 0 || c.discount > 1_000_000,
+        _ => c.step > 10_000 || c.spare != 0,
     }
 }
 
@@ -93,43 +109,71 @@ fn list_fails(number: u64, list: &[u8]) -> bool {
     }
 }
 
-/// Whether an entry of a supplied table, of those the contract needs, is not admissible.
-fn table_fails(c: &Fields, table: &[u16]) -> bool {
-    let bad = |(entry, amount): (u64, &u16)| {
-        let (w, a) = (
-            entry % c.layer() / (c.premium + 1),
-            entry % c.layer() % (c.premium + 1),
-        );
-        u64::from(*amount) > w.max(c.m(a))
-    };
-    (0..c.table()).zip(table).any(bad)
+/// An amount drawn in a state on a date.
+struct Drawn {
+    date: u64,
+    account: u64,
+    guarantee: u64,
+    amount: u64,
 }
 
-/// Whether a walk meets an amount that is not admissible.
-fn walk_fails(c: &Fields, list: &[u8], table: &[u16], numbers: &[u16]) -> bool {
+impl Drawn {
+    fn fails(&self, c: &Fields) -> bool {
+        self.amount > self.account.max(c.m(self.guarantee))
+    }
+
+    fn above_m(&self, c: &Fields) -> bool {
+        self.amount > c.m(self.guarantee)
+    }
+}
+
+/// Every entry of a table, of those the contract needs.
+fn drawn_in_table(c: &Fields, table: &[u16]) -> Vec<Drawn> {
+    let entries = (0..c.table()).zip(table).map(|(entry, amount)| {
+        let (date, account, guarantee) = c.state(entry);
+        Drawn {
+            date,
+            account,
+            guarantee,
+            amount: u64::from(*amount),
+        }
+    });
+    entries.collect()
+}
+
+/// What a walk meets, as far as it leads; an amount that is not admissible ends it.
+fn drawn_on_walk(c: &Fields, list: &[u8], table: &[u16], numbers: &[u16]) -> Vec<Drawn> {
     let returns = returns(list);
-    let mut balance = c.premium;
-    let mut guarantee = c.premium;
+    let mut met = Vec::new();
+    let (mut balance, mut guarantee) = (c.premium, c.premium);
     for (date, number) in (1..c.dates).zip(numbers) {
         let Some((factor, _)) = returns.get(usize::from(*number)) else {
-            return false;
+            break;
         };
         let account = c.account_after(balance, *factor);
         let entry = (date - 1) * c.layer() + account * (c.premium + 1) + guarantee;
         let Some(amount) = table.get(entry as usize).map(|t| u64::from(*t)) else {
-            return false;
+            break;
         };
-        if amount > account.max(c.m(guarantee)) {
-            return true;
+        let drawn = Drawn {
+            date,
+            account,
+            guarantee,
+            amount,
+        };
+        let (above_m, ends) = (drawn.above_m(c), drawn.fails(c));
+        met.push(drawn);
+        if ends {
+            break;
         }
         let mut after = guarantee.saturating_sub(amount);
-        if amount > c.m(guarantee) {
+        if above_m {
             after = after.min(guarantee * (account - amount) / account);
         }
         balance = account.saturating_sub(amount);
         guarantee = after;
     }
-    false
+    met
 }
 
 fn name_of(operation: &Operation) -> &'static str {
@@ -183,7 +227,9 @@ fn other_fails(number: u64, operation: &Operation) -> bool {
     match operation {
         Operation::Check { .. } => false,
         Operation::Value { behaviour, .. } => number == 10 && *behaviour > 2,
-        Operation::ValueTable { table, .. } => number == 14 && table_fails(&c, table),
+        Operation::ValueTable { table, .. } => {
+            number == 14 && drawn_in_table(&c, table).iter().any(|d| d.fails(&c))
+        }
         Operation::Book {
             date,
             account,
@@ -204,7 +250,10 @@ fn other_fails(number: u64, operation: &Operation) -> bool {
             match number {
                 13 if numbers.len() as u64 != c.dates => true,
                 13 => numbers.iter().any(|n| usize::from(*n) >= count),
-                _ => number == 14 && walk_fails(&c, list, table, numbers),
+                _ => {
+                    let met = drawn_on_walk(&c, list, table, numbers);
+                    number == 14 && met.iter().any(|d| d.fails(&c))
+                }
             }
         }
     }
@@ -212,7 +261,7 @@ fn other_fails(number: u64, operation: &Operation) -> bool {
 
 fn fails(number: u64, operation: &Operation) -> bool {
     match number {
-        1..=6 => record_fails(number, record_of(operation)),
+        1..=6 | 15 => record_fails(number, record_of(operation)),
         7..=9 => list_fails(number, list_of(operation)),
         11 => lent_fails(operation),
         _ => other_fails(number, operation),
@@ -273,6 +322,7 @@ fn count_valued(tally: &mut Tally, c: &Fields, operation: &Operation) {
         ("fee 10,000", c.fee == 10_000),
         ("penalty rate 10,000", c.penalty == 10_000),
         ("discount 1", c.discount == 1),
+        ("step 10,000", c.step == 10_000),
         ("equal factors", factors.windows(2).any(|w| w[0] == w[1])),
         ("factor 0", factors.contains(&0)),
         ("factor 30,000", factors.contains(&30_000)),
@@ -288,6 +338,70 @@ fn count_valued(tally: &mut Tally, c: &Fields, operation: &Operation) {
         }
     }
     count(tally, dates_case(c.dates, *behaviour));
+    if c.step > 0 && c.dates > 2 {
+        count(tally, rate_case(c, *behaviour));
+    }
+}
+
+const ENDS: [&str; 3] = [
+    "above zero on the last decision date",
+    "at zero on the last decision date",
+    "at zero before the last decision date",
+];
+
+fn rate_at_end(behaviour: u64, end: &str) -> String {
+    format!("a rate that falls, {end}, valued under behaviour {behaviour}")
+}
+
+/// Where the rate of a valuation with a step gets to; it has two decision dates or more.
+fn rate_case(c: &Fields, behaviour: u64) -> String {
+    let last = c.dates - 1;
+    match (c.rate(last - 1), c.rate(last)) {
+        _ if c.penalty == 0 => "penalty rate 0 and a step valued".to_string(),
+        (0, _) => rate_at_end(behaviour, ENDS[2]),
+        (_, 0) => rate_at_end(behaviour, ENDS[1]),
+        _ => rate_at_end(behaviour, ENDS[0]),
+    }
+}
+
+fn fallen(name: &str, to: &str) -> String {
+    format!("{name} above m at a rate that has fallen {to}")
+}
+
+/// Whether an accepted booking, supplied table or walk draws above m on a date whose rate
+/// has fallen, and to what.
+fn count_fallen(tally: &mut Tally, c: &Fields, operation: &Operation) {
+    let drawn = match operation {
+        Operation::Check { .. } | Operation::Value { .. } => Vec::new(),
+        Operation::ValueTable { table, .. } => drawn_in_table(c, table),
+        Operation::Book {
+            date,
+            account,
+            guarantee,
+            amount,
+            ..
+        } => vec![Drawn {
+            date: *date,
+            account: *account,
+            guarantee: *guarantee,
+            amount: *amount,
+        }],
+        Operation::Walk {
+            list,
+            table,
+            numbers,
+            ..
+        } => drawn_on_walk(c, list, table, numbers),
+    };
+    let name = name_of(operation);
+    let falls = |d: &&Drawn| d.above_m(c) && c.rate(d.date) < c.penalty;
+    let rates: Vec<u64> = drawn.iter().filter(falls).map(|d| c.rate(d.date)).collect();
+    if rates.contains(&0) {
+        count(tally, fallen(name, "to zero"));
+    }
+    if rates.iter().any(|rate| *rate > 0) {
+        count(tally, fallen(name, "not to zero"));
+    }
 }
 
 /// What a refusal by short slices has that the script is to have somewhere.
@@ -309,12 +423,30 @@ fn count_short(tally: &mut Tally, c: &Fields, operation: &Operation) {
     }
 }
 
+/// What a refusal by 15 has that the script is to have somewhere.
+fn count_added(tally: &mut Tally, c: &Fields) {
+    for (case, holds) in [
+        ("step 10,001", c.step == 10_001 && c.spare == 0),
+        ("spare bytes 1, 0", c.step <= 10_000 && c.spare == 1),
+        ("spare bytes 0, 1", c.step <= 10_000 && c.spare == 256),
+        ("step and spare bytes", c.step > 10_000 && c.spare != 0),
+    ] {
+        if holds {
+            count(tally, format!("{case} refused with 15"));
+        }
+    }
+}
+
 fn count_operation(tally: &mut Tally, operation: &Operation, number: u64) {
     let name = name_of(operation);
     let c = Fields::of(record_of(operation));
     if number == 0 {
         count(tally, format!("{name} accepted"));
+        if c.step > 0 {
+            count(tally, format!("{name} accepted with a step"));
+        }
         count_valued(tally, &c, operation);
+        count_fallen(tally, &c, operation);
         if name == "check" && c.top == 4_000 {
             count(tally, "top 4,000 passes".to_string());
         }
@@ -328,6 +460,7 @@ fn count_operation(tally: &mut Tally, operation: &Operation, number: u64) {
             count(tally, "factor 30,001 refused with 8".to_string())
         }
         11 => count_short(tally, &c, operation),
+        15 => count_added(tally, &c),
         _ => {}
     }
     let mut behind = order_of(name).iter().skip_while(|n| **n != number).skip(1);
@@ -337,7 +470,7 @@ fn count_operation(tally: &mut Tally, operation: &Operation, number: u64) {
 }
 
 /// Cases that there have to be somewhere.
-const SOMEWHERE: [&str; 20] = [
+const SOMEWHERE: [&str; 26] = [
     "top 4,000 passes",
     "top 4,001 refused with 2",
     "factor 30,001 refused with 8",
@@ -347,6 +480,12 @@ const SOMEWHERE: [&str; 20] = [
     "fee 10,000 valued",
     "penalty rate 10,000 valued",
     "discount 1 valued",
+    "step 10,000 valued",
+    "penalty rate 0 and a step valued",
+    "step 10,001 refused with 15",
+    "spare bytes 1, 0 refused with 15",
+    "spare bytes 0, 1 refused with 15",
+    "step and spare bytes refused with 15",
     "equal factors valued",
     "factor 0 valued",
     "factor 30,000 valued",
@@ -365,11 +504,18 @@ fn wanted() -> Vec<(String, u64)> {
     let mut wanted = vec![("operations".to_string(), LEAST_OPERATIONS)];
     for (name, order) in ORDERS {
         wanted.push((format!("{name} accepted"), LEAST_ACCEPTED));
+        wanted.push((format!("{name} accepted with a step"), LEAST_ACCEPTED));
         wanted.extend(order.iter().map(|n| (refusal(name, *n), LEAST_REFUSALS)));
         wanted.extend(order.windows(2).map(|w| (beside(name, w[0], w[1]), 1)));
     }
     for dates in 1..=40 {
         wanted.extend((0..3).map(|behaviour| (dates_case(dates, behaviour), 1)));
+    }
+    for behaviour in 0..3 {
+        wanted.extend(ENDS.map(|end| (rate_at_end(behaviour, end), LEAST_FALLEN)));
+    }
+    for name in ["value_table", "book", "walk"] {
+        wanted.extend(["to zero", "not to zero"].map(|to| (fallen(name, to), LEAST_FALLEN)));
     }
     for name in ["value", "value_table", "walk"] {
         wanted.push((format!("top 4,000: {}", refusal(name, 11)), 1));

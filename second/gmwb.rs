@@ -1,6 +1,7 @@
-//! GMWB valuation: the rules of document 01 (01-scope.md), written plainly.
+//! GMWB valuation: the rules of document 01 (01-scope.md), with request (i) of
+//! document 02 (02-change-requests.md), written plainly.
 //!
-//! The parts follow the document: units and records, one date, values, lent
+//! The parts follow document 01: units and records, one date, values, lent
 //! slices, the operations, the program. Each function names the sentence it
 //! stands for. Every sum over the returns is made anew for each amount.
 //!
@@ -53,13 +54,13 @@ fn answer(result: Result<(), Answer>) -> Answer {
 
 /// "Values, cash and penalties are ten-thousandths of a unit."
 const UNIT: u64 = 10_000;
-/// "ten-thousandths": the whole of a fee, penalty rate, factor or weight.
+/// "ten-thousandths": the whole of a fee, penalty rate, step, factor or weight.
 const WHOLE: u64 = 10_000;
 const MOST_TOP: u64 = 4_000;
 const MOST_DATES: u64 = 40;
 const MOST_DISCOUNT: u64 = 1_000_000;
 const MOST_FACTOR: u64 = 30_000;
-const RECORD_BYTES: usize = 16;
+const RECORD_BYTES: usize = 20;
 const RETURN_BYTES: usize = 4;
 const MOST_LIST_BYTES: usize = 256;
 const BOOKING_BYTES: usize = 16;
@@ -74,6 +75,8 @@ struct Contract {
     fee: u64,
     penalty: u64,
     discount: u64,
+    step: u64,
+    spare: u64,
 }
 
 /// A return record: factor and weight, both in ten-thousandths.
@@ -88,7 +91,9 @@ fn number_in(bytes: &[u8]) -> u64 {
     bytes.iter().rev().fold(0, |n, b| n * 256 + u64::from(*b))
 }
 
-/// "A contract record has 16 bytes." Refusals 1 to 6, in the order of the table.
+/// "The record grows to 20 bytes: a penalty step in ten-thousandths at offset 16, and
+/// two spare bytes at 18, which hold zero." Refusals 1 to 6 in the order of the table,
+/// then 15, "checked after 6".
 fn read_contract(record: &[u8]) -> Result<Contract, Answer> {
     refuse_if(record.len() != RECORD_BYTES, 1, 0)?;
     let c = Contract {
@@ -99,12 +104,15 @@ fn read_contract(record: &[u8]) -> Result<Contract, Answer> {
         fee: number_in(&record[8..10]),
         penalty: number_in(&record[10..12]),
         discount: number_in(&record[12..16]),
+        step: number_in(&record[16..18]),
+        spare: number_in(&record[18..20]),
     };
     refuse_if(c.top > MOST_TOP || c.premium < 1 || c.premium > c.top, 2, 0)?;
     refuse_if(c.level < 1 || c.level > c.premium, 3, 0)?;
     refuse_if(c.dates < 1 || c.dates > MOST_DATES, 4, 0)?;
     refuse_if(c.fee > WHOLE || c.penalty > WHOLE, 5, 0)?;
     refuse_if(c.discount < 1 || c.discount > MOST_DISCOUNT, 6, 0)?;
+    refuse_if(c.step > WHOLE || c.spare != 0, 15, 0)?;
     Ok(c)
 }
 
@@ -186,15 +194,20 @@ fn admissible(c: &Contract, behaviour: Behaviour, account: u64, guarantee: u64) 
     }
 }
 
+/// "The rate at date i is the record's rate less (i − 1) × step, never below zero."
+fn rate_on(c: &Contract, date: u64) -> u64 {
+    c.penalty.saturating_sub((date - 1) * c.step)
+}
+
 /// "Penalty: rate × (t − m) where t is above m, else 0."
-fn penalty_on(c: &Contract, guarantee: u64, amount: u64) -> u64 {
-    c.penalty * amount.saturating_sub(m_of(c, guarantee))
+fn penalty_on(c: &Contract, date: u64, guarantee: u64, amount: u64) -> u64 {
+    rate_on(c, date) * amount.saturating_sub(m_of(c, guarantee))
 }
 
 /// "Cash: 10,000 × t less penalty."
 /// The rate is at most 10,000, so the penalty is never more than 10,000 × t.
-fn cash_for(c: &Contract, guarantee: u64, amount: u64) -> u64 {
-    UNIT * amount - penalty_on(c, guarantee, amount)
+fn cash_for(c: &Contract, date: u64, guarantee: u64, amount: u64) -> u64 {
+    UNIT * amount - penalty_on(c, date, guarantee, amount)
 }
 
 /// "Guarantee after: A − t if t is at most m; else the smaller of A − t and
@@ -240,10 +253,18 @@ fn discounted(c: &Contract, returns: &[Return], next: &[u32], balance: u64, guar
 }
 
 /// "a choice is worth its cash plus" the discounted sum.
-fn worth(c: &Contract, returns: &[Return], next: &[u32], w: u64, a: u64, amount: u64) -> u64 {
+fn worth(
+    c: &Contract,
+    returns: &[Return],
+    next: &[u32],
+    date: u64,
+    w: u64,
+    a: u64,
+    amount: u64,
+) -> u64 {
     let balance = balance_after(w, amount);
     let guarantee = guarantee_after(c, w, a, amount);
-    cash_for(c, a, amount) + discounted(c, returns, next, balance, guarantee)
+    cash_for(c, date, a, amount) + discounted(c, returns, next, balance, guarantee)
 }
 
 /// "A state's value under a behaviour is the largest worth among its admissible
@@ -253,13 +274,14 @@ fn best(
     c: &Contract,
     returns: &[Return],
     next: &[u32],
+    date: u64,
     w: u64,
     a: u64,
     b: Behaviour,
 ) -> (u64, u64) {
     let mut held = None;
     for amount in admissible(c, b, w, a) {
-        let worth = worth(c, returns, next, w, a, amount);
+        let worth = worth(c, returns, next, date, w, a, amount);
         match held {
             Some((most, _)) if worth <= most => {}
             _ => held = Some((worth, amount)),
@@ -337,12 +359,12 @@ fn valued(result: Result<(u32, i64), Answer>) -> Valued {
     }
 }
 
-/// "checking a record": refusals 1 to 6.
+/// "checking a record": refusals 1 to 6 and 15.
 pub fn check(record: &[u8]) -> Answer {
     answer(read_contract(record).map(|_| ()))
 }
 
-/// "valuing a contract": refusals 1 to 11.
+/// "valuing a contract": refusals 1 to 6, 15 and 7 to 11.
 pub fn value(
     record: &[u8],
     list: &[u8],
@@ -369,7 +391,7 @@ fn try_value(
     for date in (1..c.dates).rev() {
         let mut values = Vec::with_capacity(next.len());
         for (w, a) in states(&c) {
-            let (worth, amount) = best(&c, &returns, &next, w, a, behaviour);
+            let (worth, amount) = best(&c, &returns, &next, date, w, a, behaviour);
             values.push(worth as u32);
             table[layer_start(&c, date) + entry(&c, w, a)] = amount as u16;
         }
@@ -379,7 +401,7 @@ fn try_value(
     Ok(value_at_start(&c, &returns, &next))
 }
 
-/// "valuing a supplied withdrawal table": refusals 1 to 9, 11 and 14.
+/// "valuing a supplied withdrawal table": refusals 1 to 6, 15, 7 to 9, 11 and 14.
 pub fn value_table(record: &[u8], list: &[u8], work: &mut [u32], table: &[u16]) -> Valued {
     valued(try_value_table(record, list, work, table))
 }
@@ -400,7 +422,7 @@ fn try_value_table(
         let mut values = Vec::with_capacity(next.len());
         for (w, a) in states(&c) {
             let amount = u64::from(table[layer_start(&c, date) + entry(&c, w, a)]);
-            values.push(worth(&c, &returns, &next, w, a, amount) as u32);
+            values.push(worth(&c, &returns, &next, date, w, a, amount) as u32);
         }
         next = values;
     }
@@ -421,7 +443,7 @@ fn check_table(c: &Contract, table: &[u16]) -> Result<(), Answer> {
     Ok(())
 }
 
-/// "booking one withdrawal": refusals 1 to 6, 11, 12 and 14.
+/// "booking one withdrawal": refusals 1 to 6, 15, 11, 12 and 14.
 pub fn book(
     record: &[u8],
     date: u64,
@@ -449,8 +471,8 @@ fn try_book(
     refuse_if(no_decision || w > c.top || a > c.premium, 12, 0)?;
     refuse_if(amount > largest_amount(&c, w, a), 14, 0)?;
 
-    let cash = cash_for(&c, a, amount) as u32;
-    let penalty = penalty_on(&c, a, amount) as u32;
+    let cash = cash_for(&c, date, a, amount) as u32;
+    let penalty = penalty_on(&c, date, a, amount) as u32;
     let balance = balance_after(w, amount) as u16;
     let guarantee = guarantee_after(&c, w, a, amount) as u16;
     buffer[0..4].copy_from_slice(&cash.to_le_bytes());
@@ -461,7 +483,7 @@ fn try_book(
     Ok(())
 }
 
-/// "walking a contract along a given path": refusals 1 to 9, 11, 13 and 14.
+/// "walking a contract along a given path": refusals 1 to 6, 15, 7 to 9, 11, 13 and 14.
 pub fn walk(
     record: &[u8],
     list: &[u8],
@@ -491,7 +513,7 @@ fn try_walk(
     for date in 1..c.dates {
         let amount = u64::from(table[layer_start(&c, date) + entry(&c, account, guarantee)]);
         refuse_if(amount > largest_amount(&c, account, guarantee), 14, date)?;
-        paid.push(cash_for(&c, guarantee, amount) as u32);
+        paid.push(cash_for(&c, date, guarantee, amount) as u32);
         guarantee = guarantee_after(&c, account, guarantee, amount);
         let balance = balance_after(account, amount);
         let number = usize::from(numbers[date as usize]);

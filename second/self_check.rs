@@ -1,6 +1,7 @@
 //! `second self-check`: the figures of document 01's section "Contracts worked by
-//! hand", every refusal on both sides of its boundary, the order of the checks, what is
-//! left in the lent slices, and properties on random small contracts.
+//! hand", rates that fall by document 02's request (i), every refusal on both sides of
+//! its boundary, the order of the checks, what is left in the lent slices, and
+//! properties on random small contracts.
 //!
 //! The operations are only called from outside here, as an engine's caller would.
 
@@ -34,6 +35,9 @@ pub fn run() -> (u64, u64) {
     marked_values(&mut t);
     marked_states(&mut t);
     marked_bookings(&mut t);
+    stepped_values(&mut t);
+    stepped_bookings(&mut t);
+    stepped_walks(&mut t);
     printed(&mut t);
     printed_within_slices(&mut t);
     record_boundaries(&mut t);
@@ -55,6 +59,7 @@ pub fn run() -> (u64, u64) {
     for k in 0..200 {
         random_walk(&mut t, &mut draw, k);
     }
+    text_fields(&mut t);
     for _ in 0..50 {
         random_text(&mut t, &mut draw);
     }
@@ -80,10 +85,24 @@ impl Terms {
         (0..=u64::from(self.top)).flat_map(each).collect()
     }
 
+    /// The rate of a date, in signed numbers.
+    fn rate(&self, date: u64) -> i64 {
+        (i64::from(self.penalty) - (date as i64 - 1) * i64::from(self.step)).max(0)
+    }
+
+    /// The contract from a date on, which becomes its date 1.
+    fn from_date(&self, date: u64) -> Terms {
+        Terms {
+            dates: self.dates + 1 - date as u16,
+            penalty: self.rate(date) as u16,
+            ..*self
+        }
+    }
+
     /// Cash, penalty, balance and guarantee of a booking, in signed numbers.
-    fn figures(&self, w: u64, a: u64, amount: u64) -> [u64; 4] {
+    fn figures(&self, date: u64, w: u64, a: u64, amount: u64) -> [u64; 4] {
         let (m, w, a, amount) = (self.m(a) as i64, w as i64, a as i64, amount as i64);
-        let penalty = i64::from(self.penalty) * (amount - m).max(0);
+        let penalty = self.rate(date) * (amount - m).max(0);
         let mut guarantee = a - amount;
         if amount > m {
             guarantee = guarantee.min(a * (w - amount) / w).max(0);
@@ -202,6 +221,105 @@ fn marked_bookings(t: &mut Tally) {
     let low = Terms { level: 1, ..P };
     let got = booked(&low, 1, 7, 10, 3);
     t.same("proportional", got, (0, 0, [28_000, 2_000, 4, 5]));
+}
+
+/// P with four dates.
+const P4: Terms = Terms { dates: 4, ..P };
+
+/// "Bookings, tables and values follow it. A step of zero gives the old figures."
+/// Static pays no penalty, so that no step changes it.
+fn stepped_values(t: &mut Tally) {
+    for (step, values) in [
+        (0, [122_500, 122_500, 133_500]),
+        (100, [122_500, 123_000, 133_650]),
+        (1_000, [122_500, 125_000, 134_375]),
+    ] {
+        let terms = Terms { step, ..P4 };
+        for (behaviour, value) in values.into_iter().enumerate() {
+            let name = format!("P, N 4, step {step}, behaviour {behaviour}");
+            let margin = i64::from(value) - 100_000;
+            let got = value_of(&terms, behaviour as u64);
+            t.same(&name, got, (0, value, margin));
+        }
+    }
+    // Date 1 has the record's own rate, and the only decision of P falls on it.
+    for step in [1, 10_000] {
+        let got = [0, 1, 2].map(|b| value_of(&Terms { step, ..P }, b).1);
+        t.same("one decision date", got, [125_000, 125_000, 127_500]);
+    }
+}
+
+/// 15 drawn at (15, 10) pays the penalty on 10. The rate reaches zero on a date or between
+/// two, and stays there. With 16 bits 8 × 8,192 would be 0 again.
+fn stepped_bookings(t: &mut Tally) {
+    for (step, cash) in [
+        (0, [59_000, 59_000, 59_000]),
+        (100, [59_000, 59_100, 59_200]),
+        (1_000, [59_000, 60_000, 60_000]),
+    ] {
+        for (date, cash) in (1..).zip(cash) {
+            let got = booked(&Terms { step, ..P4 }, date, 15, 10, 6);
+            let name = format!("6 at (15, 10), step {step}, date {date}");
+            t.same(&name, got, (0, 0, [cash, 60_000 - cash, 9, 4]));
+        }
+    }
+    for (penalty, step, date, rate) in [
+        (1_000, 500, 2, 500),
+        (1_000, 500, 3, 0),
+        (1_000, 500, 39, 0),
+        (1_000, 333, 4, 1),
+        (1_000, 333, 5, 0),
+        (1_000, 1_001, 2, 0),
+        (0, 1, 2, 0),
+        (10_000, 10_000, 1, 10_000),
+        (10_000, 10_000, 2, 0),
+        (10_000, 10_000, 39, 0),
+        (10_000, 1, 39, 9_962),
+        (10_000, 263, 39, 6),
+        (10_000, 264, 39, 0),
+        (10_000, 8_192, 9, 0),
+    ] {
+        let terms = Terms {
+            dates: 40,
+            penalty,
+            step,
+            ..P
+        };
+        let got = booked(&terms, date, 15, 10, 15);
+        let name = format!("rate {penalty}, step {step}, date {date}");
+        t.same(&name, got, (0, 0, [150_000 - 10 * rate, 10 * rate, 0, 0]));
+    }
+}
+
+/// A return that changes nothing: 7 are drawn from (20, 20), 7 from (13, 13) and 6 from
+/// (6, 6). The penalty falls on 2, 2 and 1; the value is the sum of the cash.
+fn stepped_walks(t: &mut Tally) {
+    let still = list(&[(10_000, 10_000)]);
+    for (step, expected) in [
+        (0, [68_000, 68_000, 59_000, 0]),
+        (300, [68_000, 68_600, 59_600, 0]),
+        (500, [68_000, 69_000, 60_000, 0]),
+        (10_000, [68_000, 70_000, 60_000, 0]),
+    ] {
+        let terms = Terms {
+            premium: 20,
+            step,
+            ..P4
+        };
+        let (record, layer) = (terms.record(), terms.layer());
+        let mut table = vec![0; 3 * layer];
+        table[terms.entry(20, 20)] = 7;
+        table[layer + terms.entry(13, 13)] = 7;
+        table[2 * layer + terms.entry(6, 6)] = 6;
+        let mut cash = vec![0; 4];
+        let walked = gmwb::walk(&record, &still, &table, &[0; 4], &mut cash);
+        let name = format!("walk with step {step}");
+        t.same(&name, (walked.number, &cash[..]), (0, &expected[..]));
+        let mut work = vec![0; 2 * layer];
+        let v = gmwb::value_table(&record, &still, &mut work, &table);
+        let name = format!("table with step {step}");
+        t.same(&name, (v.number, v.value), (0, expected.iter().sum()));
+    }
 }
 
 fn printed(t: &mut Tally) {
@@ -391,7 +509,7 @@ impl Tally {
 #[rustfmt::skip]
 fn record_boundaries(t: &mut Tally) {
     t.five("P", &good_p(), FINE);
-    for length in [0, 1, 15, 17, 32] {
+    for length in [0, 1, 15, 16, 17, 18, 19, 21, 40] {
         let mut record = P.record();
         record.resize(length, 0);
         t.five("record length", &Call { record, ..good_p() }, record_fault(1));
@@ -420,6 +538,16 @@ fn record_boundaries(t: &mut Tally) {
     t.terms("discount 0", Terms { discount: 0, ..P }, 6);
     t.terms("discount 1", Terms { discount: 1, ..P }, 0);
     t.terms("discount 1,000,001", Terms { discount: 1_000_001, ..P }, 6);
+    t.terms("step 1", Terms { step: 1, ..P }, 0);
+    t.terms("step 9,999", Terms { step: 9_999, ..P }, 0);
+    t.terms("step 10,000", Terms { step: 10_000, ..P }, 0);
+    t.terms("step 10,001", Terms { step: 10_001, ..P }, 15);
+    t.terms("step 65,535", Terms { step: 65_535, ..P }, 15);
+    t.terms("spare bytes 1, 0", Terms { spare: 1, ..P }, 15);
+    t.terms("spare bytes 0, 1", Terms { spare: 256, ..P }, 15);
+    t.terms("spare bytes 1, 1", Terms { spare: 257, ..P }, 15);
+    t.terms("spare bytes 255, 255", Terms { spare: 65_535, ..P }, 15);
+    t.terms("step 10,000, spare 1", Terms { step: 10_000, spare: 1, ..P }, 15);
 }
 
 fn list_boundaries(t: &mut Tally) {
@@ -599,6 +727,8 @@ fn all_wrong() -> (Terms, Call) {
         fee: 10_001,
         penalty: 10_001,
         discount: 0,
+        step: 10_001,
+        spare: 1,
     };
     let call = Call {
         list: vec![255; 3],
@@ -633,6 +763,10 @@ fn order_of_record_checks(t: &mut Tally) {
     step(5, &terms);
     terms.penalty = 1_000;
     step(6, &terms);
+    terms.discount = 1_000_000;
+    step(15, &terms);
+    terms.step = 10_000;
+    step(15, &terms);
     call.record.pop();
     t.five("order: record length first", &call, record_fault(1));
 }
@@ -743,8 +877,8 @@ fn large_values(t: &mut Tally) {
 /// Answers to script lines, with digests worked out apart. T is the least contract: an
 /// account and a guarantee of 1, one date, one return that changes nothing.
 fn script_lines(t: &mut Tally) {
-    let p = "0a000500140002000000e80340420f00";
-    let least = "01000100010001000000000040420f00";
+    let p = "0a000500140002000000e80340420f0000000000";
+    let least = "01000100010001000000000040420f0000000000";
     let valued = "0 0 10000 0 3700988814 7 0,10000,10000,10000,0,0,0,0 -";
     t.same("digest of nothing", digest::<u32>(&[]), 7);
     t.same("digest of 0, 5", digest(&[0u16, 5]), (7 * 31 + 1) * 31 + 6);
@@ -794,6 +928,7 @@ impl Draw {
         let top = 1 + self.upto(9) as u16;
         let premium = 1 + self.upto(u64::from(top) - 1) as u16;
         let fees = [0, 300, 10_000][self.upto(2) as usize];
+        let steps = [0, 1_000, 4_000, 10_000][self.upto(3) as usize];
         Terms {
             premium,
             level: 1 + self.upto(u64::from(premium) - 1) as u16,
@@ -802,6 +937,8 @@ impl Draw {
             fee: self.upto(fees) as u16,
             penalty: self.upto(10_000) as u16 * self.upto(1) as u16,
             discount: 1_000_000 - self.upto(100_000) as u32,
+            step: self.upto(steps) as u16,
+            spare: 0,
         }
     }
 
@@ -829,41 +966,65 @@ fn open(terms: &Terms, behaviour: usize, w: u64, a: u64) -> Vec<u64> {
     }
 }
 
-/// A contract at each number of dates up to its own, so that the values of date 1 run
-/// through those of every date.
+/// The answer of a valuation, and what it leaves in the working slice and the table.
+type Run = (gmwb::Valued, Vec<u32>, Vec<u16>);
+
+/// A contract from each of its dates on, the last first, so that the values of date 1 run
+/// through those of every date. The amounts are those in the whole contract's table.
 fn random_contract(t: &mut Tally, draw: &mut Draw, k: u64) {
-    let (whole, returns) = (draw.terms(), draw.returns());
-    let mut before: Vec<Vec<u32>> = Vec::new();
-    for dates in 1..=whole.dates {
-        let terms = Terms { dates, ..whole };
-        let name = format!("random contract {k}: {terms:?} {returns:?}");
-        let runs = [0, 1, 2].map(|b| valued(&terms, &returns, b));
-        ordered(t, &name, &terms, &runs);
-        for (answer, work, table) in &runs {
-            let mut again = filled_32(work.len());
-            let (record, list) = (terms.record(), list(&returns));
-            let supplied = gmwb::value_table(&record, &list, &mut again, table);
-            t.same(&format!("{name}: supplied table"), supplied, *answer);
-            t.same(&format!("{name}: supplied table, work"), &again, work);
+    let (terms, returns) = (draw.terms(), draw.returns());
+    let whole = [0, 1, 2].map(|b| valued(&terms, &returns, b));
+    let mut next: Vec<Vec<u32>> = Vec::new();
+    for date in (1..=u64::from(terms.dates)).rev() {
+        let name = format!("random contract {k}: {terms:?} {returns:?}, date {date}");
+        let later = terms.from_date(date);
+        let runs = [0, 1, 2].map(|b| valued(&later, &returns, b));
+        ordered(t, &name, &later, &runs);
+        supplied_back(t, &name, &later, &returns, &runs);
+        for (behaviour, next) in next.iter().enumerate() {
+            let layer = (date as usize - 1) * terms.layer();
+            let left = (&runs[behaviour].1[..], &whole[behaviour].2[layer..]);
+            one_step(t, &name, &terms, &returns, (date, behaviour), next, left);
         }
-        if dates > 1 {
-            for (behaviour, (_, work, table)) in runs.iter().enumerate() {
-                let next = &before[behaviour];
-                let left = (&work[..], &table[..]);
-                one_step(t, &name, &terms, &returns, behaviour, next, left);
-            }
-        }
-        before = runs.into_iter().map(|(_, work, _)| work).collect();
+        next = runs.into_iter().map(|(_, work, _)| work).collect();
+    }
+    without_step(t, &format!("random contract {k}"), &terms, &returns, &whole);
+}
+
+/// Each table, supplied back, gets the answer of the valuation that left it.
+fn supplied_back(
+    t: &mut Tally,
+    name: &str,
+    terms: &Terms,
+    returns: &[(u16, u16)],
+    runs: &[Run; 3],
+) {
+    for (answer, work, table) in runs {
+        let mut again = filled_32(work.len());
+        let (record, list) = (terms.record(), list(returns));
+        let supplied = gmwb::value_table(&record, &list, &mut again, table);
+        t.same(&format!("{name}: supplied table"), supplied, *answer);
+        t.same(&format!("{name}: supplied table, work"), &again, work);
+    }
+}
+
+/// Without the step the value is no higher. It is the same for static, and for all where
+/// there is no decision after date 1.
+fn without_step(t: &mut Tally, name: &str, terms: &Terms, returns: &[(u16, u16)], runs: &[Run; 3]) {
+    let same_rate = Terms { step: 0, ..*terms };
+    for (behaviour, (stepped, _, _)) in runs.iter().enumerate() {
+        let (answer, _, _) = valued(&same_rate, returns, behaviour as u64);
+        let expected = if behaviour == 0 || terms.dates <= 2 {
+            answer.value
+        } else {
+            answer.value.max(stepped.value)
+        };
+        t.same(&format!("{name}: step"), stepped.value, expected);
     }
 }
 
 /// Static is at most mixed, mixed at most dynamic, in every state and at the start.
-fn ordered(
-    t: &mut Tally,
-    name: &str,
-    terms: &Terms,
-    runs: &[(gmwb::Valued, Vec<u32>, Vec<u16>); 3],
-) {
+fn ordered(t: &mut Tally, name: &str, terms: &Terms, runs: &[Run; 3]) {
     let [fixed, mixed, free] = runs;
     for (w, a) in terms.states() {
         let place = terms.entry(w, a);
@@ -874,22 +1035,22 @@ fn ordered(
     t.same(&format!("{name}: order at the start"), rising, true);
 }
 
-/// Value and amount of each state of date 1, from bookings and the values of a contract
-/// with one date fewer, whose date 1 stands as far from maturity as this one's date 2.
+/// Value and amount of each state of a date, from bookings and the values of the next
+/// date.
 fn one_step(
     t: &mut Tally,
     name: &str,
     terms: &Terms,
     returns: &[(u16, u16)],
-    behaviour: usize,
+    (date, behaviour): (u64, usize),
     next: &[u32],
     left: (&[u32], &[u16]),
 ) {
     for (w, a) in terms.states() {
         let mut best = (0, 0);
         for (index, amount) in open(terms, behaviour, w, a).into_iter().enumerate() {
-            let booking = booked(terms, 1, w, a, amount);
-            let expected = (0, 0, terms.figures(w, a, amount));
+            let booking = booked(terms, date, w, a, amount);
+            let expected = (0, 0, terms.figures(date, w, a, amount));
             t.same(&format!("{name}: booking"), booking, expected);
             let [cash, _, balance, guarantee] = booking.2;
             let mut sum: u128 = 0;
@@ -966,9 +1127,26 @@ fn follow(
     }
 }
 
+/// A step has to be given; spare bytes are zero where they are not.
+fn text_fields(t: &mut Tally) {
+    let text = include_str!("example-p.txt");
+    let packed = text::pack(&text.replace("step 0\n", ""));
+    t.same("no step", packed, Err("step is not given".into()));
+    for (line, spare) in [("", 0), ("spare 0\n", 0), ("spare 258\n", 258)] {
+        let record = Terms { spare, ..P }.record();
+        let packed = text::pack(&format!("{text}{line}"));
+        t.same("spare bytes", packed, Ok((record, list(&P_RETURNS))));
+    }
+    let shown = text::show(&P.record(), &list(&P_RETURNS));
+    t.same("example-p.txt shown", shown, Ok(text.into()));
+}
+
 /// Any record and list in words, and back.
 fn random_text(t: &mut Tally, draw: &mut Draw) {
-    let record: Vec<u8> = (0..16).map(|_| draw.upto(255) as u8).collect();
+    let mut record: Vec<u8> = (0..20).map(|_| draw.upto(255) as u8).collect();
+    if draw.upto(1) == 0 {
+        record[18..].fill(0);
+    }
     let length = 4 * draw.upto(70);
     let list: Vec<u8> = (0..length).map(|_| draw.upto(255) as u8).collect();
     let back = text::show(&record, &list).and_then(|words| text::pack(&words));
@@ -979,7 +1157,7 @@ fn random_text(t: &mut Tally, draw: &mut Draw) {
 fn random_bytes(t: &mut Tally, draw: &mut Draw) {
     let mut call = good(&draw.terms(), &draw.returns());
     for _ in 0..draw.upto(2) {
-        let place = draw.upto(15) as usize;
+        let place = draw.upto(19) as usize;
         call.record[place] = draw.upto(255) as u8;
         let place = draw.upto(call.list.len() as u64 - 1) as usize;
         call.list[place] = draw.upto(255) as u8;

@@ -10,6 +10,8 @@ pub struct Terms {
     pub fee: u16,
     pub penalty: u16,
     pub discount: u32,
+    pub step: u16,
+    pub spare: u16,
 }
 
 pub const P: Terms = Terms {
@@ -20,6 +22,8 @@ pub const P: Terms = Terms {
     fee: 0,
     penalty: 1_000,
     discount: 1_000_000,
+    step: 0,
+    spare: 0,
 };
 
 pub const Q: Terms = Terms {
@@ -45,6 +49,8 @@ impl Terms {
         ];
         let mut bytes: Vec<u8> = fields.iter().flat_map(|x| x.to_le_bytes()).collect();
         bytes.extend(self.discount.to_le_bytes());
+        bytes.extend(self.step.to_le_bytes());
+        bytes.extend(self.spare.to_le_bytes());
         bytes
     }
 

@@ -1,13 +1,16 @@
 //! A contract record and a return list as readable text, both ways.
 //!
 //! One field a line, name and decimal number parted by a single space:
-//! `premium`, `level`, `top`, `dates`, `fee`, `penalty`, `discount`, each once, in any
-//! order. Then or between them, in the order of the list, `return FACTOR WEIGHT`.
-//! Blank lines and lines that start with `#` are passed over. Only the width of a
-//! field is checked here, so that a record that the rules refuse can be written too.
+//! `premium`, `level`, `top`, `dates`, `fee`, `penalty`, `discount`, `step`, each once,
+//! in any order. Then or between them, in the order of the list, `return FACTOR WEIGHT`.
+//! `spare`, the two spare bytes, is left out where it is zero. Blank lines and lines that
+//! start with `#` are passed over. Only the width of a field is checked here, so that a
+//! record that the rules refuse can be written too.
+
+const RECORD_BYTES: usize = 20;
 
 /// Name, offset and bytes of each field of a contract record.
-const FIELDS: [(&str, usize, usize); 7] = [
+const FIELDS: [(&str, usize, usize); 9] = [
     ("premium", 0, 2),
     ("level", 2, 2),
     ("top", 4, 2),
@@ -15,7 +18,12 @@ const FIELDS: [(&str, usize, usize); 7] = [
     ("fee", 8, 2),
     ("penalty", 10, 2),
     ("discount", 12, 4),
+    ("step", 16, 2),
+    ("spare", 18, 2),
 ];
+
+/// The field that may be left out.
+const SPARE: &str = "spare";
 
 /// A decimal number: digits only, and no larger than 64 bits hold.
 pub fn number(text: &str) -> Result<u64, String> {
@@ -38,7 +46,7 @@ fn field_bytes(name: &str, text: &str, width: usize) -> Result<Vec<u8>, String> 
 
 /// Record and list from text.
 pub fn pack(text: &str) -> Result<(Vec<u8>, Vec<u8>), String> {
-    let mut record = vec![0; 16];
+    let mut record = vec![0; RECORD_BYTES];
     let mut given = [false; FIELDS.len()];
     let mut list = Vec::new();
     for line in text.lines() {
@@ -64,8 +72,9 @@ pub fn pack(text: &str) -> Result<(Vec<u8>, Vec<u8>), String> {
         let (name, offset, width) = FIELDS[place];
         record[offset..offset + width].copy_from_slice(&field_bytes(name, value, width)?);
     }
-    match given.iter().position(|g| !g) {
-        Some(place) => Err(format!("{} is not given", FIELDS[place].0)),
+    let mut fields = FIELDS.iter().zip(given);
+    match fields.find(|((name, _, _), given)| !given && *name != SPARE) {
+        Some(((name, _, _), _)) => Err(format!("{name} is not given")),
         None => Ok((record, list)),
     }
 }
@@ -76,8 +85,9 @@ fn number_in(bytes: &[u8]) -> u64 {
 
 /// Text from record and list; `pack` gives the same bytes back.
 pub fn show(record: &[u8], list: &[u8]) -> Result<String, String> {
-    if record.len() != 16 {
-        return Err(format!("the record has {} bytes, not 16", record.len()));
+    if record.len() != RECORD_BYTES {
+        let length = record.len();
+        return Err(format!("the record has {length} bytes, not {RECORD_BYTES}"));
     }
     if list.len() % 4 != 0 {
         return Err(format!(
@@ -87,7 +97,10 @@ pub fn show(record: &[u8], list: &[u8]) -> Result<String, String> {
     }
     let mut text = String::new();
     for (name, offset, width) in FIELDS {
-        text += &format!("{name} {}\n", number_in(&record[offset..offset + width]));
+        let value = number_in(&record[offset..offset + width]);
+        if name != SPARE || value != 0 {
+            text += &format!("{name} {value}\n");
+        }
     }
     for bytes in list.chunks(4) {
         let (factor, weight) = (number_in(&bytes[..2]), number_in(&bytes[2..]));

@@ -78,8 +78,9 @@ fn booked(c: Contract, date: usize, w: usize, a: usize, t: usize, buffer: &mut [
         return Outcome { number, place: 0 };
     }
     let m = date::free_amount(c.level, a);
-    let cash = date::cash(c.penalty, m, t);
-    let penalty = date::penalty(c.penalty, m, t);
+    let rate = date::rate_on(c.penalty, c.step, date);
+    let cash = date::cash(rate, m, t);
+    let penalty = date::penalty(rate, m, t);
     let guarantee = date::guarantee_after(m, w, a, t);
     fill(buffer, cash, penalty, date::balance_after(w, t), guarantee);
     Outcome {

@@ -21,6 +21,8 @@ contractOf c = record {
   fee = c .fee;
   penalty = c .penalty;
   discount = c .discount;
+  step = c .step;
+  spare = c .spare;
 }
 
 abbrev pub termsIn : Contract → Terms
@@ -32,6 +34,8 @@ termsIn c = record {
   fee = c .fee;
   penalty = c .penalty;
   discount = c .discount;
+  step = c .step;
+  spare = c .spare;
 }
 
 abbrev pub outcomeAt : ℕ → ℕ → Outcome

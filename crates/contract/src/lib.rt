@@ -23,6 +23,9 @@ pub struct Contract {
     pub fee: usize,
     pub penalty: usize,
     pub discount: usize,
+    pub step: usize,
+    // the two spare bytes
+    pub spare: usize,
 }
 
 pub enum Reading {
@@ -91,7 +94,7 @@ pub fn outside(least: usize, most: usize, x: usize) -> bool
     x < least || most < x
 }
 
-// Refusals 2 to 6, in their order.
+// The conditions of refusals 2, 5 and 15.
 fn bad_premium(top: usize, premium: usize) -> bool
     ensures { λ r. ⌜ r ≡ (ltb topMost top || outside 1 top premium) ⌝ }
 {
@@ -104,6 +107,12 @@ fn bad_rates(fee: usize, penalty: usize) -> bool
     Contract::RATE_MOST < fee || Contract::RATE_MOST < penalty
 }
 
+fn bad_step(step: usize, spare: usize) -> bool
+    ensures { λ r. ⌜ r ≡ (ltb rateMost step || not (eqb spare 0)) ⌝ }
+{
+    Contract::RATE_MOST < step || spare != 0
+}
+
 fn refused(number: u32) -> Reading
     ensures { λ r. ⌜ r ≡ refusedReading number 0 ⌝ }
 {
@@ -111,7 +120,7 @@ fn refused(number: u32) -> Reading
 }
 
 impl Contract {
-    pub const BYTES: usize = 16;
+    pub const BYTES: usize = 20;
 
     pub const TOP_MOST: usize = 4000;
 
@@ -141,6 +150,7 @@ impl Contract {
         let dates_fail = outside(1, Self::DATES_MOST, c.dates);
         let rates_fail = bad_rates(c.fee, c.penalty);
         let discount_fails = outside(1, Self::DISCOUNT_MOST, c.discount);
+        let step_fails = bad_step(c.step, c.spare);
         if premium_fails {
             return refused(2);
         }
@@ -155,6 +165,9 @@ impl Contract {
         }
         if discount_fails {
             return refused(6);
+        }
+        if step_fails {
+            return refused(15);
         }
         Reading::Accepted(c)
     }
@@ -174,6 +187,8 @@ impl Contract {
             fee: word(bytes, 8),
             penalty: word(bytes, 10),
             discount: word(bytes, 12) + 65536 * word(bytes, 14),
+            step: word(bytes, 16),
+            spare: word(bytes, 18),
         };
         c.checked()
     }

@@ -3,8 +3,8 @@ ghost use mathlib.Core.Bool.{cond};
 ghost use mathlib.Core.Path.{_≡_};
 ghost use Prim.Native.Nat.{ℕ, _-_, _≤_, _<_, max, min};
 ghost use lib.Dec.{ltb};
-ghost use Rattle.rules.specs.Contract.{topMost, rateMost, discountMost, factorMost};
-ghost use Rattle.rules.specs.Date.{dynamic, freeAmount, largestAmount, surrenders, admits, penalty, cash, guaranteeAfter, balanceAfter, nextAccount, maturityValue, discounted};
+ghost use Rattle.rules.specs.Contract.{topMost, datesMost, rateMost, discountMost, factorMost};
+ghost use Rattle.rules.specs.Date.{dynamic, freeAmount, largestAmount, surrenders, admits, rateOn, penalty, cash, guaranteeAfter, balanceAfter, nextAccount, maturityValue, discounted};
 
 // An entry of a working slice, and one of a table, as a number.
 pub fn wide(x: u32) -> usize
@@ -54,6 +54,14 @@ pub fn admits_dynamic(m: usize, w: usize, t: usize) -> bool
     ensures { λ r. ⌜ r ≡ admits dynamic m w t ⌝ }
 {
     t <= largest_amount(m, w)
+}
+
+// The penalty rate on date i.
+pub fn rate_on(rate: usize, step: usize, i: usize) -> usize
+    requires { ⌜ (rate ≤ rateMost) × (step ≤ rateMost) × (i ≤ datesMost) ⌝ }
+    ensures { λ r. ⌜ (r ≡ rateOn rate step i) × (r ≤ rateMost) ⌝ }
+{
+    less(rate, less(i, 1) * step)
 }
 
 pub fn penalty(rate: usize, m: usize, t: usize) -> usize

@@ -13,7 +13,7 @@ use Rattle.slices.specs.Rows.{cells, flat, layer-stored, cells-kept, rows-le, r
 use Rattle.slices.specs.Parts.{put-long, put-in, put-above}
 use Rattle.rules.specs.Contract.{Terms, rateMost, returnsOf}
 use Rattle.rules.specs.Product.{recordedAmount}
-use Rattle.rules.specs.FixedTerm.{layerSize, fixedTerm}
+use Rattle.rules.specs.FixedTerm.{InRange, rateIn, layerSize, fixedTerm}
 use Rattle.laws.specs.Bounds.{state-value-le, value-room}
 use Rattle.rules.specs.Operations.{behaviourOf, tableSize}
 use Rattle.expect.specs.Expected.{expected, expected-le, expected-same}
@@ -180,11 +180,12 @@ module _ {behaviour : ℕ} {c : Terms} {count : ℕ} {work₀ table₀ list work
         small w a h k =
             let v = s .layers .valid in
             let u = s .listing .valid in
-            le-trans (state-value-le c (returnsOf list) v u (behaviourOf behaviour) (suc i) (at w a) (record { account = h; guarantee = k }))
-            (value-room c (returnsOf list) v u (suc i))
+            let g : InRange c (at w a) = record { account = h; guarantee = k } in
+            let most = state-value-le c (returnsOf list) v u (behaviourOf behaviour) (suc i) (at w a) g in
+            le-trans most (value-room c (returnsOf list) v u (suc i))
 
     module _ (work₁ part₁ : List ℕ)
-        (d : Dated (behaviourOf behaviour) c (returnsOf list) (c .penalty) work (midOf from (to - from) table) work₁ part₁)
+        (d : Dated (behaviourOf behaviour) c (returnsOf list) (rateIn c i) work (midOf from (to - from) table) work₁ part₁)
       where
         starts : from ≤ to
         starts = let e = p .end in omega arith
@@ -205,14 +206,14 @@ module _ {behaviour : ℕ} {c : Terms} {count : ℕ} {work₀ table₀ list work
             → cells work₁ 0 (c .premium + 1) w a ≡ valuesOn c (returnsOf list) (behaviourOf behaviour) i w a
         value-is w a h k =
             d .values w a h k
-            ∙ value-same (behaviourOf behaviour) _ _ (c .penalty) (c .level) w a (λ x y p q. sums-are x y (le-trans q k))
+            ∙ value-same (behaviourOf behaviour) _ _ (rateIn c i) (c .level) w a (λ x y p q. sums-are x y (le-trans q k))
             ∙ value-back c (returnsOf list) (behaviourOf behaviour) i w a before
 
         amount-is : (w a : ℕ) → w ≤ c .top → a ≤ c .premium
             → cells part₁ 0 (c .premium + 1) w a ≡ recordedAmount (fixedTerm c (returnsOf list)) (behaviourOf behaviour) i (at w a)
         amount-is w a h k =
             d .amounts w a h k
-            ∙ amount-same (behaviourOf behaviour) _ _ (c .penalty) (c .level) w a (λ x y p q. sums-are x y (le-trans q k))
+            ∙ amount-same (behaviourOf behaviour) _ _ (rateIn c i) (c .level) w a (λ x y p q. sums-are x y (le-trans q k))
             ∙ amount-back c (returnsOf list) (behaviourOf behaviour) i w a
 
         -- entries behind the layer
@@ -222,7 +223,8 @@ module _ {behaviour : ℕ} {c : Terms} {count : ℕ} {work₀ table₀ list work
             let l = rows-le (layerSize c) i n k in
             put-above from to table part₁ starts (layer-within p table room) part-long x (omega (arith, p .start, p .end))
 
-        pub valued-before : Valued (behaviourOf behaviour) c (returnsOf list) work₀ table₀ work₁ (putMid from (to - from) table part₁) (i - 1)
+        pub valued-before :
+            Valued (behaviourOf behaviour) c (returnsOf list) work₀ table₀ work₁ (putMid from (to - from) table part₁) (i - 1)
         valued-before = record {
           long = d .long ∙ v .long;
           long-table = put-long from to table part₁ starts (layer-within p table room) part-long ∙ v .long-table;

@@ -10,7 +10,7 @@ use Rattle.slices.specs.Rows.{cells}
 use Rattle.rules.specs.Contract.{Terms, Returns, returnsOf}
 use Rattle.rules.specs.Date.{Behaviour, maturityValue}
 use Rattle.rules.specs.Product.{stateValue, recordedAmount}
-use Rattle.rules.specs.FixedTerm.{State, freeIn, admissibleIn, limitIn, cashIn, afterIn, reachBy, expectOver, processOf, layerSize, fixedTerm}
+use Rattle.rules.specs.FixedTerm.{State, freeIn, admissibleIn, limitIn, rateIn, cashIn, afterIn, reachBy, expectOver, processOf, layerSize, fixedTerm}
 use Rattle.rules.specs.Operations.{tableSize}
 use Rattle.expect.specs.Expected.{reachedSum, expected, Listing, Layers}
 use Rattle.worth.specs.Worth.{worthOver, bestValue, bestAmount}
@@ -23,12 +23,12 @@ abbrev pub valuesOn : Terms → Returns → Behaviour → ℕ → ℕ → ℕ �
 valuesOn c rs b i w a = stateValue (fixedTerm c rs) b i (at w a)
 
 pub value-back : (c : Terms) (rs : Returns) (b : Behaviour) (i w a : ℕ) → i < c .dates
-    → bestValue b (expected c rs (valuesOn c rs b (suc i))) (c .penalty) (c .level) w a ≡ valuesOn c rs b i w a
+    → bestValue b (expected c rs (valuesOn c rs b (suc i))) (rateIn c i) (c .level) w a ≡ valuesOn c rs b i w a
 unfolding stateValue fixedTerm processOf admissibleIn limitIn freeIn cashIn afterIn reachBy expectOver worth bestValue worthOver expected reachedSum
 value-back c rs b i w a l = sym (value-step (processOf c rs) (admissibleIn c b) i (at w a) l)
 
 pub amount-back : (c : Terms) (rs : Returns) (b : Behaviour) (i w a : ℕ)
-    → bestAmount b (expected c rs (valuesOn c rs b (suc i))) (c .penalty) (c .level) w a ≡ recordedAmount (fixedTerm c rs) b i (at w a)
+    → bestAmount b (expected c rs (valuesOn c rs b (suc i))) (rateIn c i) (c .level) w a ≡ recordedAmount (fixedTerm c rs) b i (at w a)
 unfolding stateValue recordedAmount recorded fixedTerm processOf admissibleIn limitIn freeIn cashIn afterIn reachBy expectOver worth bestAmount worthOver expected reachedSum
 amount-back c rs b i w a = refl
 

@@ -119,15 +119,8 @@ pub fn all_dates(
         let part = layer_of(c, i);
         let from = part.from;
         let to = part.to;
-        one_date(
-            behaviour,
-            work,
-            &mut table[from..to],
-            list,
-            count,
-            c,
-            c.penalty,
-        );
+        let rate = date::rate_on(c.penalty, c.step, i);
+        one_date(behaviour, work, &mut table[from..to], list, count, c, rate);
         i -= 1;
     }
 }

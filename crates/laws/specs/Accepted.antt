@@ -10,7 +10,7 @@ use Rattle.decision.specs.Index.{sum, first, first-is}
 use Rattle.rules.specs.Contract.{Terms, Returns, termsOf, topMost, datesMost, rateMost, discountMost, returnBytes, returnsOf, returnsMost, factorMost, weightMost, weightTotal}
 use Rattle.rules.specs.Refusals.{Check, checkEach, Verdict, accepted, refused, verdict, numbers, numberOf, placeOf, onSuccess, outside, termsChecks, recordChecks, badReturn, listChecks}
 
--- the column of ranges, and refusals 2 to 6, for accepted terms
+-- the column of ranges, and refusals 2 to 6 and 15, for accepted terms
 pub record Valid (c : Terms) : Type 0 where
   pub top : c .top ≤ topMost
   pub premium-least : 1 ≤ c .premium
@@ -23,6 +23,8 @@ pub record Valid (c : Terms) : Type 0 where
   pub penalty : c .penalty ≤ rateMost
   pub discount-least : 1 ≤ c .discount
   pub discount : c .discount ≤ discountMost
+  pub step : c .step ≤ rateMost
+  pub spare : c .spare ≡ 0
 
 -- refusals 7 to 9, for accepted returns
 pub record ValidReturns (rs : Returns) : Type 0 where
@@ -114,7 +116,7 @@ each-passes number from n bad t k l =
 
 pub valid-terms : (c : Terms) → AllPass (termsChecks c) → Valid c
 unfolding termsChecks AllPass
-valid-terms c (top-premium, (level, (dates, (rates, (discount, done))))) =
+valid-terms c (top-premium, (level, (dates, (rates, (discount, (step-spare, done)))))) =
     record {
       top = nltb→le topMost (c .top) (nor-left (ltb topMost (c .top)) (outside 1 (c .top) (c .premium)) top-premium);
       premium-least = at-least 1 (c .top) (c .premium) (nor-right (ltb topMost (c .top)) (outside 1 (c .top) (c .premium)) top-premium);
@@ -127,11 +129,13 @@ valid-terms c (top-premium, (level, (dates, (rates, (discount, done))))) =
       penalty = nltb→le rateMost (c .penalty) (nor-right (ltb rateMost (c .fee)) (ltb rateMost (c .penalty)) rates);
       discount-least = at-least 1 discountMost (c .discount) discount;
       discount = at-most 1 discountMost (c .discount) discount;
+      step = nltb→le rateMost (c .step) (nor-left (ltb rateMost (c .step)) (not (eqb (c .spare) 0)) step-spare);
+      spare = eqb→eq (c .spare) 0 (not-not (eqb (c .spare) 0) (nor-right (ltb rateMost (c .step)) (not (eqb (c .spare) 0)) step-spare));
     }
 
 pub valid-record : (bytes : List ℕ) → AllPass (recordChecks bytes) → Valid (termsOf bytes)
 unfolding recordChecks AllPass
-valid-record bytes (sixteen, rest) = valid-terms (termsOf bytes) rest
+valid-record bytes (size, rest) = valid-terms (termsOf bytes) rest
 
 -- a list of 4 to 256 bytes in fours holds 1 to 64 records
 count-least : (n : ℕ) → 1 ≤ n → n % 4 ≡ 0 → 1 ≤ n / 4

@@ -11,17 +11,18 @@ use Rattle.rules.specs.Contract.{Terms, termsOf, topMost}
 use Rattle.rules.specs.Date.{dynamic, freeAmount, admits}
 use Rattle.rules.specs.Refusals.{Verdict, accepted, refused, verdict, numbers, numberOf, outside, recordChecks}
 use Rattle.rules.specs.Operations.{amountChecks, bookingChecks, bookingVerdict}
-use Rattle.laws.specs.Accepted.{Valid, Positive, zero-accepts, NoPlace, AllPass, all-pass, nor-left, nor-right, not-not, andThen, verdict-append}
+use Rattle.laws.specs.Accepted.{Valid, Positive, zero-accepts, NoPlace, AllPass, all-pass, nor-left, nor-right, not-not, at-most, andThen, verdict-append}
 use Rattle.laws.specs.Date.{dynamic-is}
 
-pub record Bookable (c : Terms) (w a t : ℕ) (buffer : List ℕ) : Type 0 where
+pub record Bookable (c : Terms) (i w a t : ℕ) (buffer : List ℕ) : Type 0 where
   pub sixteen : length buffer ≡ 16
+  pub date : i ≤ c .dates - 1
   pub account : w ≤ c .top
   pub guarantee : a ≤ c .premium
   pub amount : t ≤ max w (freeAmount (c .level) a)
 
 module _ (c : Terms) (date w a t : ℕ) (buffer : List ℕ) where
-  pub bookable : verdict (amountChecks c date w a t buffer) ≡ accepted → Bookable c w a t buffer
+  pub bookable : verdict (amountChecks c date w a t buffer) ≡ accepted → Bookable c date w a t buffer
   unfolding amountChecks AllPass
   bookable e = go (all-pass _ e)
     where
@@ -31,9 +32,10 @@ module _ (c : Terms) (date w a t : ℕ) (buffer : List ℕ) where
       late : Bool
       late = ltb (c .premium) a
 
-      go : AllPass (amountChecks c date w a t buffer) → Bookable c w a t buffer
+      go : AllPass (amountChecks c date w a t buffer) → Bookable c date w a t buffer
       go (sixteen, (state, (amount, done))) = record {
         sixteen = eqb→eq (length buffer) 16 (not-not (eqb (length buffer) 16) sixteen);
+        date = at-most 1 (c .dates - 1) date (nor-left (outside 1 (c .dates - 1) date) (ltb (c .top) w) (nor-left early late state));
         account = nltb→le (c .top) w (nor-right (outside 1 (c .dates - 1) date) (ltb (c .top) w) (nor-left early late state));
         guarantee = nltb→le (c .premium) a (nor-right early late state);
         amount = dynamic-is (freeAmount (c .level) a) w t (not-not (admits dynamic (freeAmount (c .level) a) w t) amount);
@@ -55,10 +57,10 @@ unfolding bookingVerdict bookingChecks
 booking-verdict bytes date w a t buffer = verdict-append (recordChecks bytes) (amountChecks (termsOf bytes) date w a t buffer)
 
 -- account, guarantee and amount are at most 4,000
-pub bookable-small : {c : Terms} {w a t : ℕ} {buffer : List ℕ} → Valid c → Bookable c w a t buffer
+pub bookable-small : {c : Terms} {i w a t : ℕ} {buffer : List ℕ} → Valid c → Bookable c i w a t buffer
     → (w ≤ topMost) × (a ≤ topMost) × (t ≤ topMost)
 unfolding freeAmount
-bookable-small {c} {w} {a} {t} v b =
+bookable-small {c} {a = a} v b =
     let l : a ≤ c .top = le-trans (b .guarantee) (v .premium) in (
       le-trans (b .account) (v .top),
       le-trans l (v .top),

@@ -11,7 +11,7 @@ use Rattle.decision.specs.Bounds.{value-bounded, start-bounded, table-bounded}
 use Rattle.rules.specs.Contract.{Terms, Returns, discountMost, weightTotal}
 use Rattle.rules.specs.Date.{Behaviour, dynamic, freeAmount, penalty, cash, nextAccount, maturityValue, discounted}
 use Rattle.rules.specs.Product.{stateValue, recordedAmount, contractValue}
-use Rattle.rules.specs.FixedTerm.{State, Held, InRange, freeIn, admissibleIn, cashIn, reachBy, expectOver, processOf, fixedTerm}
+use Rattle.rules.specs.FixedTerm.{State, Held, InRange, freeIn, admissibleIn, rateIn, cashIn, reachBy, expectOver, processOf, fixedTerm}
 use Rattle.laws.specs.Accepted.{Valid, ValidReturns}
 use Rattle.laws.specs.Date.{admits-within}
 use Rattle.laws.specs.FixedTerm.{opened, closed}
@@ -85,7 +85,7 @@ module _ (c : Terms) (rs : Returns) (v : Valid c) (u : ValidReturns rs) where
   -- .. as do cash and penalty; amounts and accounts fit 16
   pub cash-fits : (b : Behaviour) (i : ℕ) (s : State) (t : ℕ) → InRange c s → T (admissibleIn c b s t) → cashIn c i s t < 2 ^ 32
   unfolding cashIn
-  cash-fits b i s t g p = let l = cash-le (c .penalty) (freeIn c s) t in let m = amount-le b s t g p in omega (arith, v .top)
+  cash-fits b i s t g p = let l = cash-le (rateIn c i) (freeIn c s) t in let m = amount-le b s t g p in omega (arith, v .top)
 
   pub amount-fits : (b : Behaviour) (s : State) (t : ℕ) → InRange c s → T (admissibleIn c b s t) → t < 2 ^ 16
   amount-fits b s t g p = let l = amount-le b s t g p in omega (arith, v .top)

@@ -9,3 +9,4 @@ pub mod Bounds
 pub mod Walk
 pub mod Booking
 pub mod Supplied
+pub mod Step

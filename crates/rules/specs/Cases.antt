@@ -1,5 +1,5 @@
 -- Document 01, 'Contracts worked by hand': the ten marked cases in one table, with one proof that computes every row from
--- the definitions. Assumes nothing.
+-- the definitions; and cases of document 02, by its requests. Assumes nothing.
 use mathlib.Core.Bool.{Bool, false}
 use mathlib.Core.List.{List, [], _∷_, _++_, map}
 use mathlib.Core.Path.{_≡_, refl}
@@ -10,11 +10,11 @@ use Rattle.decision.specs.Index.{sum, first, firstFrom}
 use Rattle.decision.specs.Choice.{largest, smallestBest}
 use Rattle.decision.specs.Process.{worth, valueOver, value, recorded, startValue}
 use Rattle.rules.specs.Contract.{word, long, bytesOf, Terms, termsOf, returnsOf}
-use Rattle.rules.specs.Date.{Behaviour, static, mixed, dynamic, freeAmount, largestAmount, surrenders, admits, penalty, cash, guaranteeAfter, balanceAfter, nextAccount, maturityValue, discounted, margin}
+use Rattle.rules.specs.Date.{Behaviour, static, mixed, dynamic, freeAmount, largestAmount, surrenders, admits, rateOn, penalty, cash, guaranteeAfter, balanceAfter, nextAccount, maturityValue, discounted, margin}
 use Rattle.rules.specs.Product.{stateValue, recordedAmount, contractValue}
 use Rattle.rules.specs.FixedTerm.{State, freeIn, admissibleIn, limitIn, cashIn, afterIn, reachBy, expectOver, startOf, processOf, layerSize, layoutOf, fixedTerm}
 use Rattle.rules.specs.Refusals.{checkEach, Verdict, accepted, refused, verdict, numberOf, placeOf, onSuccess, outside, short, termsChecks, recordChecks, badReturn, listChecks}
-use Rattle.rules.specs.Operations.{productOf, Answer, answer, behaviourNumber, behaviourOf, tableSize, lentChecks, valuingChecks, valuingVerdict, valuingAnswer, amountChecks, bookingChecks, bookingVerdict, bookingBytes, bookingBuffer}
+use Rattle.rules.specs.Operations.{productOf, Answer, answer, behaviourNumber, behaviourOf, tableSize, lentChecks, recordVerdict, valuingChecks, valuingVerdict, valuingAnswer, amountChecks, bookingChecks, bookingVerdict, bookingBytes, bookingBuffer}
 use Rattle.rules.specs.Printed.{digits, decimal, numbered, line, nameOf, linesOf, valueLine, returnLine, lineCount, valuesText, textOf, programVerdict, printed}
 
 -- ---- contracts P and Q
@@ -28,22 +28,31 @@ packed c =
     ++ bytesOf 2 (c .fee)
     ++ bytesOf 2 (c .penalty)
     ++ bytesOf 4 (c .discount)
+    ++ bytesOf 2 (c .step)
+    ++ bytesOf 2 (c .spare)
 
 -- "U 10, G 5, top 20, N 2, fee 0, penalty 1,000, discount 1,000,000"
 unfoldable pub P : Terms
-P = record { premium = 10; level = 5; top = 20; dates = 2; fee = 0; penalty = 1000; discount = 1000000 }
+P = record { premium = 10; level = 5; top = 20; dates = 2; fee = 0; penalty = 1000; discount = 1000000; step = 0; spare = 0 }
 
 -- "P with N 1"
 P-one : Terms
-P-one = record { premium = 10; level = 5; top = 20; dates = 1; fee = 0; penalty = 1000; discount = 1000000 }
+P-one = record { premium = 10; level = 5; top = 20; dates = 1; fee = 0; penalty = 1000; discount = 1000000; step = 0; spare = 0 }
 
 -- "P with discount 950,000"
 P-discounted : Terms
-P-discounted = record { premium = 10; level = 5; top = 20; dates = 2; fee = 0; penalty = 1000; discount = 950000 }
+P-discounted = record { premium = 10; level = 5; top = 20; dates = 2; fee = 0; penalty = 1000; discount = 950000; step = 0; spare = 0 }
 
 -- "Q = P with fee 2,000, penalty 0"
 Q : Terms
-Q = record { premium = 10; level = 5; top = 20; dates = 2; fee = 2000; penalty = 0; discount = 1000000 }
+Q = record { premium = 10; level = 5; top = 20; dates = 2; fee = 2000; penalty = 0; discount = 1000000; step = 0; spare = 0 }
+
+-- P with N 4, a penalty step and spare bytes
+P-spare : ℕ → ℕ → Terms
+P-spare s x = record { premium = 10; level = 5; top = 20; dates = 4; fee = 0; penalty = 1000; discount = 1000000; step = s; spare = x }
+
+P-step : ℕ → Terms
+P-step s = P-spare s 0
 
 -- "returns (5,000, weight 5,000) and (15,000, weight 5,000)"
 unfoldable pub returnsP : List ℕ
@@ -57,8 +66,10 @@ pub data Question : Type 0 where
   stateOf : Terms → Behaviour → ℕ → ℕ → Question
   -- whether the account may be surrendered at (w, a)
   surrenderAt : Terms → ℕ → ℕ → Question
-  -- booking an amount at (w, a) on date 1
-  bookingOf : Terms → ℕ → ℕ → ℕ → Question
+  -- whether the record is accepted
+  recordOf : Terms → Question
+  -- booking an amount on a date, at (w, a)
+  bookingOf : Terms → ℕ → ℕ → ℕ → ℕ → Question
 
 pub data Told : Type 0 where
   value-margin : ℕ → ℤ → Told
@@ -83,16 +94,18 @@ valued v a = unless-refused v (value-margin (a .value) (a .margin))
 
 pub tell : Question → Told
 tell (contractOf c b) =
-    let n = layerSize c in
+    let work : List ℕ = replicate (2 * layerSize c) 0 in
+    let table : List ℕ = replicate (tableSize c) 0 in
     valued
-    (valuingVerdict (packed c) returnsP (behaviourNumber b) (replicate (2 * n) 0) (replicate n 0))
-    (valuingAnswer (packed c) returnsP (behaviourNumber b) (replicate (2 * n) 0) (replicate n 0))
+    (valuingVerdict (packed c) returnsP (behaviourNumber b) work table)
+    (valuingAnswer (packed c) returnsP (behaviourNumber b) work table)
 tell (stateOf c b w a) =
     let X = fixedTerm c (returnsOf returnsP) in
     value-amount (stateValue X b 1 (at w a)) (recordedAmount X b 1 (at w a))
 tell (surrenderAt c w a) = allowed (surrenders (freeIn c (at w a)) w w)
-tell (bookingOf c w a t) =
-    unless-refused (bookingVerdict (packed c) 1 w a t (replicate 16 0)) (booked (bookingBuffer (packed c) 1 w a t (replicate 16 0)))
+tell (recordOf c) = let v = recordVerdict (packed c) in number-place (numberOf v) (placeOf v)
+tell (bookingOf c i w a t) =
+    unless-refused (bookingVerdict (packed c) i w a t (replicate 16 0)) (booked (bookingBuffer (packed c) i w a t (replicate 16 0)))
 
 -- ---- the marked cases
 pub record Row : Type 0 where
@@ -120,14 +133,41 @@ marked =
     ∷ row 6 (contractOf Q dynamic) (value-margin 110000 (pos 10000))
     ∷ row 7 (stateOf Q mixed 12 10) (value-amount 120000 12)
     ∷ row 7 (stateOf Q dynamic 12 10) (value-amount 120000 0)
-    ∷ row 8 (bookingOf P 15 10 6) (cash-penalty-balance-guarantee 59000 1000 9 4)
-    ∷ row 9 (bookingOf P 15 10 15) (cash-penalty-balance-guarantee 140000 10000 0 0)
-    ∷ row 10 (bookingOf P 5 10 6) (number-place 14 0)
+    ∷ row 8 (bookingOf P 1 15 10 6) (cash-penalty-balance-guarantee 59000 1000 9 4)
+    ∷ row 9 (bookingOf P 1 15 10 15) (cash-penalty-balance-guarantee 140000 10000 0 0)
+    ∷ row 10 (bookingOf P 1 5 10 6) (number-place 14 0)
     ∷ []
 
 pub marked-cases : map (λ r. tell (r .asked)) marked ≡ map (λ r. r .told) marked
-unfolding sum first firstFrom largest smallestBest worth valueOver value recorded startValue word long bytesOf termsOf returnsOf freeAmount largestAmount surrenders admits penalty cash guaranteeAfter balanceAfter nextAccount maturityValue discounted margin stateValue recordedAmount contractValue freeIn admissibleIn limitIn cashIn afterIn reachBy expectOver startOf processOf layerSize layoutOf fixedTerm checkEach verdict numberOf placeOf onSuccess outside short termsChecks recordChecks badReturn listChecks productOf answer behaviourNumber behaviourOf tableSize lentChecks valuingChecks valuingVerdict valuingAnswer amountChecks bookingChecks bookingVerdict bookingBytes bookingBuffer packed P P-one P-discounted Q returnsP at unless-refused booked valued tell row marked
+unfolding sum first firstFrom largest smallestBest worth valueOver value recorded startValue word long bytesOf termsOf returnsOf freeAmount largestAmount surrenders admits rateOn penalty cash guaranteeAfter balanceAfter nextAccount maturityValue discounted margin stateValue recordedAmount contractValue freeIn admissibleIn limitIn cashIn afterIn reachBy expectOver startOf processOf layerSize layoutOf fixedTerm checkEach verdict numberOf placeOf onSuccess outside short termsChecks recordChecks badReturn listChecks productOf answer behaviourNumber behaviourOf tableSize lentChecks valuingChecks valuingVerdict valuingAnswer amountChecks bookingChecks bookingVerdict bookingBytes bookingBuffer packed P P-one P-discounted Q returnsP at unless-refused booked valued tell row marked
 marked-cases = refl
+
+-- ---- document 02 (i): contract P with N 4 at steps 0, 100 and 1,000; bookings by date; the ends of the two fields
+pub step-rows : List Row
+step-rows =
+    row 1 (contractOf (P-step 0) static) (value-margin 122500 (pos 22500))
+    ∷ row 1 (contractOf (P-step 0) mixed) (value-margin 122500 (pos 22500))
+    ∷ row 1 (contractOf (P-step 0) dynamic) (value-margin 133500 (pos 33500))
+    ∷ row 2 (contractOf (P-step 100) static) (value-margin 122500 (pos 22500))
+    ∷ row 2 (contractOf (P-step 100) mixed) (value-margin 123000 (pos 23000))
+    ∷ row 2 (contractOf (P-step 100) dynamic) (value-margin 133650 (pos 33650))
+    ∷ row 3 (contractOf (P-step 1000) static) (value-margin 122500 (pos 22500))
+    ∷ row 3 (contractOf (P-step 1000) mixed) (value-margin 125000 (pos 25000))
+    ∷ row 3 (contractOf (P-step 1000) dynamic) (value-margin 134375 (pos 34375))
+    ∷ row 4 (bookingOf (P-step 100) 1 15 10 6) (cash-penalty-balance-guarantee 59000 1000 9 4)
+    ∷ row 4 (bookingOf (P-step 100) 2 15 10 6) (cash-penalty-balance-guarantee 59100 900 9 4)
+    ∷ row 4 (bookingOf (P-step 100) 3 15 10 6) (cash-penalty-balance-guarantee 59200 800 9 4)
+    ∷ row 5 (bookingOf (P-step 1000) 2 15 10 6) (cash-penalty-balance-guarantee 60000 0 9 4)
+    ∷ row 5 (bookingOf (P-step 1000) 3 15 10 6) (cash-penalty-balance-guarantee 60000 0 9 4)
+    ∷ row 6 (recordOf (P-step 10000)) (number-place 0 0)
+    ∷ row 6 (recordOf (P-step 10001)) (number-place 15 0)
+    ∷ row 7 (recordOf (P-spare 0 1)) (number-place 15 0)
+    ∷ row 7 (recordOf (P-spare 0 256)) (number-place 15 0)
+    ∷ []
+
+pub step-cases : map (λ r. tell (r .asked)) step-rows ≡ map (λ r. r .told) step-rows
+unfolding sum first firstFrom largest smallestBest worth valueOver value recorded startValue word long bytesOf termsOf returnsOf freeAmount largestAmount surrenders admits rateOn penalty cash guaranteeAfter balanceAfter nextAccount maturityValue discounted margin stateValue recordedAmount contractValue freeIn admissibleIn limitIn cashIn afterIn reachBy expectOver startOf processOf layerSize layoutOf fixedTerm checkEach verdict numberOf placeOf onSuccess outside short termsChecks recordChecks badReturn listChecks productOf answer behaviourNumber behaviourOf tableSize lentChecks recordVerdict valuingChecks valuingVerdict valuingAnswer amountChecks bookingChecks bookingVerdict bookingBytes bookingBuffer packed P-spare P-step returnsP at unless-refused booked valued tell row step-rows
+step-cases = refl
 
 -- "The program .. prints exactly": the five lines for P, as ASCII codes
 pub printed-P : printed (packed P) returnsP
@@ -136,5 +176,5 @@ pub printed-P : printed (packed P) returnsP
     100 ∷ 121 ∷ 110 ∷ 97 ∷ 109 ∷ 105 ∷ 99 ∷ 32 ∷ 49 ∷ 50 ∷ 55 ∷ 53 ∷ 48 ∷ 48 ∷ 10 ∷
     48 ∷ 32 ∷ 53 ∷ 32 ∷ 49 ∷ 48 ∷ 32 ∷ 53 ∷ 32 ∷ 53 ∷ 32 ∷ 48 ∷ 10 ∷
     49 ∷ 32 ∷ 49 ∷ 53 ∷ 32 ∷ 49 ∷ 48 ∷ 32 ∷ 53 ∷ 32 ∷ 53 ∷ 32 ∷ 49 ∷ 10 ∷ []
-unfolding sum first firstFrom largest smallestBest worth valueOver value recorded startValue word long bytesOf termsOf returnsOf freeAmount largestAmount surrenders admits penalty cash guaranteeAfter balanceAfter nextAccount maturityValue discounted stateValue recordedAmount contractValue freeIn admissibleIn limitIn cashIn afterIn reachBy expectOver startOf processOf layerSize layoutOf fixedTerm checkEach verdict outside short termsChecks recordChecks badReturn listChecks productOf behaviourNumber tableSize lentChecks valuingChecks valuingVerdict digits decimal numbered line nameOf linesOf valueLine returnLine lineCount valuesText textOf programVerdict printed packed P returnsP
+unfolding sum first firstFrom largest smallestBest worth valueOver value recorded startValue word long bytesOf termsOf returnsOf freeAmount largestAmount surrenders admits rateOn penalty cash guaranteeAfter balanceAfter nextAccount maturityValue discounted stateValue recordedAmount contractValue freeIn admissibleIn limitIn cashIn afterIn reachBy expectOver startOf processOf layerSize layoutOf fixedTerm checkEach verdict outside short termsChecks recordChecks badReturn listChecks productOf behaviourNumber tableSize lentChecks valuingChecks valuingVerdict digits decimal numbered line nameOf linesOf valueLine returnLine lineCount valuesText textOf programVerdict printed packed P returnsP
 printed-P = refl

@@ -1,5 +1,5 @@
--- Document 01, 'Units and records': the contract record and the return list, their layout and their ranges.
--- Assumes nothing.
+-- Document 01, 'Units and records': the contract record and the return list, their layout and their ranges. Sentences marked
+-- (i) are of document 02, by its request. Assumes nothing.
 use mathlib.Core.List.{List, [], _∷_}
 use Prim.Native.Nat.{ℕ, zero, suc, _+_, _*_, _/_, _%_}
 use lib.ListN.{getD, length}
@@ -26,12 +26,14 @@ pub record Terms : Type 0 where
   pub fee : ℕ
   pub penalty : ℕ
   pub discount : ℕ
+  pub step : ℕ
+  pub spare : ℕ
 
--- "A contract record has 16 bytes."
+-- (i) "The record grows to 20 bytes"
 abbrev pub recordBytes : ℕ
-recordBytes = 16
+recordBytes = 20
 
--- the table of offsets
+-- the table of offsets, and (i) "a penalty step in ten-thousandths at offset 16, and two spare bytes at 18"
 unfoldable pub termsOf : List ℕ → Terms
 termsOf bytes = record {
   premium = word bytes 0;
@@ -41,6 +43,8 @@ termsOf bytes = record {
   fee = word bytes 8;
   penalty = word bytes 10;
   discount = long bytes 12;
+  step = word bytes 16;
+  spare = word bytes 18;
 }
 
 -- the column of ranges
@@ -50,7 +54,7 @@ topMost = 4000
 abbrev pub datesMost : ℕ
 datesMost = 40
 
--- of the fee and of the penalty rate, in ten-thousandths
+-- of the fee, the penalty rate and the penalty step, in ten-thousandths
 abbrev pub rateMost : ℕ
 rateMost = 10000
 

@@ -1,5 +1,6 @@
 -- Document 01, 'One date' and 'Values', on plain numbers: w is the account, a the guarantee, t the amount, m the smaller of
--- level and guarantee. A difference stops at 0. Assumes nothing.
+-- level and guarantee, i the date. A difference stops at 0. Sentences marked (i) are of document 02, by its request.
+-- Assumes nothing.
 use mathlib.Core.Bool.{Bool, cond, _&&_, _||_}
 use Prim.Native.Nat.{ℕ, _-_, _*_, _/_, min, max}
 use lib.Dec.{leb, ltb, eqb}
@@ -26,6 +27,10 @@ unfoldable pub admits : Behaviour → ℕ → ℕ → ℕ → Bool
 admits static m w t = eqb t m
 admits mixed m w t = eqb t m || surrenders m w t
 admits dynamic m w t = leb t (largestAmount m w)
+
+-- (i) "The rate at date i is the record's rate less (i − 1) × step, never below zero."
+unfoldable pub rateOn : ℕ → ℕ → ℕ → ℕ
+rateOn rate step i = rate - (i - 1) * step
 
 -- "Penalty: rate × (t − m) where t is above m, else 0."
 unfoldable pub penalty : ℕ → ℕ → ℕ → ℕ

@@ -17,27 +17,27 @@ use Rattle.rules.specs.Printed.{digits, decimal}
 use Rattle.rules.specs.Operations.{lentChecks, valuingChecks, tableChecks, suppliedChecks, amountChecks, bookingChecks, pathChecks, walkChecks}
 
 -- ---- "Checks run in the order of the table; an operation makes those for which it has the input."
-pub record-order : (bytes : List ℕ) → numbers (recordChecks bytes) ≡ 1 ∷ 2 ∷ 3 ∷ 4 ∷ 5 ∷ 6 ∷ []
+pub record-order : (bytes : List ℕ) → numbers (recordChecks bytes) ≡ 1 ∷ 2 ∷ 3 ∷ 4 ∷ 5 ∷ 6 ∷ 15 ∷ []
 unfolding numbers termsChecks recordChecks
 record-order bytes = refl
 
 pub valuing-order : (bytes list : List ℕ) (behaviour : ℕ) (work table : List ℕ)
-    → numbers (valuingChecks bytes list behaviour work table) ≡ 1 ∷ 2 ∷ 3 ∷ 4 ∷ 5 ∷ 6 ∷ 7 ∷ 8 ∷ 9 ∷ 10 ∷ 11 ∷ []
+    → numbers (valuingChecks bytes list behaviour work table) ≡ 1 ∷ 2 ∷ 3 ∷ 4 ∷ 5 ∷ 6 ∷ 15 ∷ 7 ∷ 8 ∷ 9 ∷ 10 ∷ 11 ∷ []
 unfolding numbers termsChecks recordChecks listChecks lentChecks valuingChecks checkEach
 valuing-order bytes list behaviour work table = refl
 
 pub supplied-order : (bytes list work table : List ℕ)
-    → numbers (suppliedChecks bytes list work table) ≡ 1 ∷ 2 ∷ 3 ∷ 4 ∷ 5 ∷ 6 ∷ 7 ∷ 8 ∷ 9 ∷ 11 ∷ 14 ∷ []
+    → numbers (suppliedChecks bytes list work table) ≡ 1 ∷ 2 ∷ 3 ∷ 4 ∷ 5 ∷ 6 ∷ 15 ∷ 7 ∷ 8 ∷ 9 ∷ 11 ∷ 14 ∷ []
 unfolding numbers termsChecks recordChecks listChecks tableChecks suppliedChecks checkEach
 supplied-order bytes list work table = refl
 
 pub booking-order : (bytes : List ℕ) (date w a t : ℕ) (buffer : List ℕ)
-    → numbers (bookingChecks bytes date w a t buffer) ≡ 1 ∷ 2 ∷ 3 ∷ 4 ∷ 5 ∷ 6 ∷ 11 ∷ 12 ∷ 14 ∷ []
+    → numbers (bookingChecks bytes date w a t buffer) ≡ 1 ∷ 2 ∷ 3 ∷ 4 ∷ 5 ∷ 6 ∷ 15 ∷ 11 ∷ 12 ∷ 14 ∷ []
 unfolding numbers termsChecks recordChecks amountChecks bookingChecks
 booking-order bytes date w a t buffer = refl
 
 pub walk-order : (bytes list table path cashes : List ℕ)
-    → numbers (walkChecks bytes list table path cashes) ≡ 1 ∷ 2 ∷ 3 ∷ 4 ∷ 5 ∷ 6 ∷ 7 ∷ 8 ∷ 9 ∷ 11 ∷ 13 ∷ 13 ∷ 14 ∷ []
+    → numbers (walkChecks bytes list table path cashes) ≡ 1 ∷ 2 ∷ 3 ∷ 4 ∷ 5 ∷ 6 ∷ 15 ∷ 7 ∷ 8 ∷ 9 ∷ 11 ∷ 13 ∷ 13 ∷ 14 ∷ []
 unfolding numbers termsChecks recordChecks listChecks pathChecks walkChecks checkEach
 walk-order bytes list table path cashes = refl
 

@@ -1,11 +1,11 @@
--- The fixed-term contract of document 01 as a product: its states, its one date, its values, its layers. Assumes nothing.
+-- The fixed-term contract of documents 01 and 02 as a product: its states, its one date, its values, its layers. Assumes nothing.
 use mathlib.Core.Bool.{Bool}
 use Prim.Native.Nat.{ℕ, _+_, _*_, _/_, _%_, _≤_}
 use Rattle.decision.specs.Index.{sum}
 use Rattle.decision.specs.Process.{Process}
 use Rattle.decision.specs.Layers.{Layout}
 use Rattle.rules.specs.Contract.{Terms, Returns}
-use Rattle.rules.specs.Date.{Behaviour, freeAmount, largestAmount, admits, cash, guaranteeAfter, balanceAfter, nextAccount, maturityValue, discounted}
+use Rattle.rules.specs.Date.{Behaviour, freeAmount, largestAmount, admits, rateOn, cash, guaranteeAfter, balanceAfter, nextAccount, maturityValue, discounted}
 use Rattle.rules.specs.Product.{Product}
 
 -- "State: account W from 0 to top, guarantee A from 0 to U."
@@ -32,8 +32,12 @@ admissibleIn c b s t = admits b (freeIn c s) (s .account) t
 unfoldable pub limitIn : Terms → State → ℕ
 limitIn c s = largestAmount (freeIn c s) (s .account)
 
+-- the penalty rate on date i: (i) "Bookings, tables and values follow it."
+abbrev pub rateIn : Terms → ℕ → ℕ
+rateIn c i = rateOn (c .penalty) (c .step) i
+
 unfoldable pub cashIn : Terms → ℕ → State → ℕ → ℕ
-cashIn c i s t = cash (c .penalty) (freeIn c s) t
+cashIn c i s t = cash (rateIn c i) (freeIn c s) t
 
 unfoldable pub afterIn : Terms → ℕ → State → ℕ → Held
 afterIn c i s t = record {

@@ -1,4 +1,4 @@
--- The rules of document 01, in the order of reading: the definitions, the cases worked by hand, and the order of the checks.
+-- The rules of documents 01 and 02, in the order of reading: the definitions, the cases worked by hand, and the order of the checks.
 pub mod Contract
 pub mod Date
 pub mod Product

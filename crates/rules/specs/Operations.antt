@@ -9,7 +9,7 @@ use lib.ListN.{getD, length, drop, replicate}
 use Rattle.rules.specs.Contract.{Terms, Returns, bytesOf, termsOf, returnsOf}
 use Rattle.rules.specs.Date.{Behaviour, static, mixed, dynamic, freeAmount, admits, penalty, cash, guaranteeAfter, balanceAfter, margin}
 use Rattle.rules.specs.Product.{Product, contractValue, valueLayer, amountLayers, suppliedValue, suppliedLayer, walkState, walkAmount, walkCash}
-use Rattle.rules.specs.FixedTerm.{State, Held, admissibleIn, layerSize, layoutOf, fixedTerm}
+use Rattle.rules.specs.FixedTerm.{State, Held, admissibleIn, rateIn, layerSize, layoutOf, fixedTerm}
 use Rattle.rules.specs.Refusals.{Check, check, checkEach, Verdict, verdict, numberOf, placeOf, onSuccess, outside, short, recordChecks, listChecks}
 
 -- the contract that a record and a list stand for
@@ -130,8 +130,8 @@ bookingVerdict bytes date w a t buffer = verdict (bookingChecks bytes date w a t
 unfoldable pub bookingBytes : Terms → ℕ → ℕ → ℕ → ℕ → List ℕ
 bookingBytes c date w a t =
     let m = freeAmount (c .level) a in
-    bytesOf 4 (cash (c .penalty) m t)
-    ++ bytesOf 4 (penalty (c .penalty) m t)
+    bytesOf 4 (cash (rateIn c date) m t)
+    ++ bytesOf 4 (penalty (rateIn c date) m t)
     ++ bytesOf 2 (balanceAfter w t)
     ++ bytesOf 2 (guaranteeAfter m w a t)
     ++ bytesOf 4 0

@@ -1,4 +1,5 @@
--- Document 01, 'What an office is told': checks, their order, and what a refusal gives. Assumes nothing.
+-- Document 01, 'What an office is told': checks, their order, and what a refusal gives. Sentences marked (i) are of document
+-- 02, by its request. Assumes nothing.
 use mathlib.Core.Bool.{Bool, true, false, cond, not, _||_}
 use mathlib.Core.List.{List, [], _∷_, map}
 use Prim.Native.Nat.{ℕ, _+_, _*_, _%_}
@@ -60,6 +61,7 @@ short needed slice = ltb (length slice) needed
 -- 4: "dates not 1 to 40"
 -- 5: "fee or penalty rate above 10,000"
 -- 6: "discount not 1 to 1,000,000"
+-- 15: (i) "step above 10,000 or a spare byte not zero, checked after 6"
 unfoldable pub termsChecks : Terms → List Check
 termsChecks c =
     check 2 0 (ltb topMost (c .top) || outside 1 (c .top) (c .premium))
@@ -67,9 +69,10 @@ termsChecks c =
     ∷ check 4 0 (outside 1 datesMost (c .dates))
     ∷ check 5 0 (ltb rateMost (c .fee) || ltb rateMost (c .penalty))
     ∷ check 6 0 (outside 1 discountMost (c .discount))
+    ∷ check 15 0 (ltb rateMost (c .step) || not (eqb (c .spare) 0))
     ∷ []
 
--- 1: "record not 16 bytes"
+-- 1: (i) "number 1 now means not 20 bytes"
 unfoldable pub recordChecks : List ℕ → List Check
 recordChecks bytes = check 1 0 (not (eqb (length bytes) recordBytes)) ∷ termsChecks (termsOf bytes)
 

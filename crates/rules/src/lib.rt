@@ -1,1 +1,1 @@
-// The rules of document 01: the definitions and what is proved of them are in specs/.
+// The rules of documents 01 and 02: the definitions and what is proved of them are in specs/.

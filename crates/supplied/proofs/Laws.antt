@@ -19,7 +19,7 @@ use Rattle.rules.specs.Contract.{Terms, rateMost, termsOf, Returns, returnsOf}
 use Rattle.rules.specs.Date.{dynamic, freeAmount, admits, balanceAfter, guaranteeAfter, maturityValue, margin}
 use Rattle.rules.specs.Product.{suppliedValue, suppliedLayer}
 use Rattle.rules.specs.Refusals.{Verdict, accepted, refused, verdict, numberOf, placeOf, onSuccess, recordChecks, listChecks}
-use Rattle.rules.specs.FixedTerm.{InRange, freeIn, admissibleIn, cashIn, afterIn, reachBy, expectOver, startOf, processOf, layerSize, layoutOf, fixedTerm}
+use Rattle.rules.specs.FixedTerm.{InRange, freeIn, admissibleIn, rateIn, cashIn, afterIn, reachBy, expectOver, startOf, processOf, layerSize, layoutOf, fixedTerm}
 use Rattle.rules.specs.Operations.{productOf, answer, workAfter, tableSize, badAt, badEntry, tableChecks, suppliedChecks, suppliedVerdict, suppliedAnswer, suppliedWork}
 use Rattle.laws.specs.Supplied.{all-admitted}
 use Rattle.laws.specs.Date.{dynamic-is, guarantee-le}
@@ -139,7 +139,11 @@ module _ {c : Terms} {count rate : ℕ} {work layer list : List ℕ} (d : OneDat
         }
 
     module _ (work₂ : List ℕ)
-        (values : work₂ ≡ stored work₁ 0 (flat (c .premium + 1) (followed (cells work₁ ((c .top + 1) * (c .premium + 1)) (c .premium + 1)) (cells layer 0 (c .premium + 1)) rate (c .level))) ((c .top + 1) * (c .premium + 1)))
+        (values : work₂
+        ≡ stored work₁ 0
+        (flat (c .premium + 1)
+        (followed (cells work₁ ((c .top + 1) * (c .premium + 1)) (c .premium + 1)) (cells layer 0 (c .premium + 1)) rate (c .level)))
+        ((c .top + 1) * (c .premium + 1)))
       where
         pub back : Back c (returnsOf list) rate work layer work₂
         unfolding layerSize
@@ -174,7 +178,9 @@ module _ (c : Terms) (table : List ℕ) (j : ℕ) (h : j < c .dates - 1) where
 
 -- ---- from one date to the date before it
 tableOn-back : (c : Terms) (rs : Returns) (table : List ℕ) (i w a : ℕ) → i < c .dates
-    → worthOver (expected c rs (tableOn c rs table (suc i))) (c .penalty) (freeAmount (c .level) a) w a (lookup (layoutOf c) table i (at w a)) ≡ tableOn c rs table i w a
+    → worthOver (expected c rs (tableOn c rs table (suc i))) (rateIn c i) (freeAmount (c .level) a) w a
+    (lookup (layoutOf c) table i (at w a))
+    ≡ tableOn c rs table i w a
 unfolding processOf cashIn afterIn reachBy expectOver freeIn worth worthOver expected reachedSum
 tableOn-back c rs table i w a l = sym (table-step (processOf c rs) (lookup (layoutOf c) table) i (at w a) l)
 
@@ -226,7 +232,7 @@ module _ {c : Terms} {count : ℕ} {work₀ table list work : List ℕ} (s : Sta
         ≡ expected c (returnsOf list) (tableOn c (returnsOf list) table (suc i)) x y
     next-sums x y k = expected-same c (returnsOf list) _ _ x y (λ w h. v .values w y h k)
 
-    pub first-before : (work₁ : List ℕ) → Back c (returnsOf list) (c .penalty) work (midOf from (to - from) table) work₁
+    pub first-before : (work₁ : List ℕ) → Back c (returnsOf list) (rateIn c i) work (midOf from (to - from) table) work₁
         → First (tableOn c (returnsOf list) table (suc (i - 1))) c work₀ work₁
     first-before work₁ d = record {
       long = d .long ∙ v .long;
@@ -235,8 +241,8 @@ module _ {c : Terms} {count : ℕ} {work₀ table list work : List ℕ} (s : Sta
           let m = freeAmount (c .level) a in
           let up : i ≡ suc (i - 1) = omega arith in
           d .values w a h l
-          ∙ ap (worthOver sums (c .penalty) m w a) (amount-is w a h l)
-          ∙ worth-same _ _ (c .penalty) m w a (lookup (layoutOf c) table i (at w a)) (λ x y p q. next-sums x y (le-trans q l))
+          ∙ ap (worthOver sums (rateIn c i) m w a) (amount-is w a h l)
+          ∙ worth-same _ _ (rateIn c i) m w a (lookup (layoutOf c) table i (at w a)) (λ x y p q. next-sums x y (le-trans q l))
           ∙ tableOn-back c (returnsOf list) table i w a before
           ∙ ap (λ (n : ℕ). tableOn c (returnsOf list) table n w a) up;
       rest = λ x h. d .rest x h ∙ v .rest x h;

@@ -151,7 +151,8 @@ fn follow_dates(work: &mut [u32], table: &[u16], list: &[u8], count: usize, c: C
         let part = dates::layer_of(c, i);
         let from = part.from;
         let to = part.to;
-        follow_date(work, &table[from..to], list, count, c, c.penalty);
+        let rate = date::rate_on(c.penalty, c.step, i);
+        follow_date(work, &table[from..to], list, count, c, rate);
         i -= 1;
     }
 }

@@ -45,7 +45,8 @@ module _ {c : Terms} {count : ℕ} {list table path : List ℕ} (h : Walking c c
       pub entry-in : w * (c .premium + 1) + a < length (midOf from (to - from) table)
       entry-in = rw (layer-long p table (h .entries)) (entry-within c (m .account) (m .guarantee))
 
-      pub amount-is : getD (midOf from (to - from) table) (w * (c .premium + 1) + a) 0 ≡ walkAmount (fixedTerm c (returnsOf list)) table path i
+      pub amount-is :
+          getD (midOf from (to - from) table) (w * (c .premium + 1) + a) 0 ≡ walkAmount (fixedTerm c (returnsOf list)) table path i
       unfolding walkAmount fixedTerm
       amount-is =
           layer-entry p table (h .entries) (m .account) (m .guarantee)

@@ -157,7 +157,8 @@ fn cash_on(c: Contract, i: usize, place: Place, t: usize) -> usize
     requires { ⌜ Valid (termsIn c) × (i < c .dates) × (t ≤ topMost) ⌝ }
     ensures { λ r. ⌜ (r ≡ cashIn (termsIn c) i (at (place .account) (place .guarantee)) t) × (r ≤ 40000000) ⌝ }
 {
-    date::cash(c.penalty, date::free_amount(c.level, place.guarantee), t)
+    let rate = date::rate_on(c.penalty, c.step, i);
+    date::cash(rate, date::free_amount(c.level, place.guarantee), t)
 }
 
 // Pays the cash of each date, and at maturity.

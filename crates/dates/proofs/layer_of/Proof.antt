@@ -22,11 +22,17 @@ sub-from c = search needs
 
 mul-from : tie.Need-mul-from
 unfolding layerSize tableSize
-mul-from c = let d = dates-le (c .before .before .pre .0) in omega (arith, date-layer (termsIn (c .before .before .args .c)) (c .before .before .pre .1) (c .before .before .pre .2) .within)
+mul-from c =
+    let pre = c .before .before .pre in
+    let d = dates-le (pre .0) in
+    omega (arith, date-layer (termsIn (c .before .before .args .c)) (pre .1) (pre .2) .within)
 
 add-t6 : tie.Need-add-t6
 unfolding layerSize tableSize
-add-t6 c = let d = dates-le (c .before .before .pre .0) in omega (arith, date-layer (termsIn (c .before .before .args .c)) (c .before .before .pre .1) (c .before .before .pre .2) .within)
+add-t6 c =
+    let pre = c .before .before .pre in
+    let d = dates-le (pre .0) in
+    omega (arith, date-layer (termsIn (c .before .before .args .c)) (pre .1) (pre .2) .within)
 
 returns : tie.Need-returns
 unfolding layerSize

@@ -3,6 +3,7 @@ use Prim.Native.Nat.{_-_, _*_, _≤_}
 use lib.ListN.{set}
 use mathlib.Core.Path.{_≡_, refl, sym, ap, _∙_}
 use native.Mathlib.Nat.{mul-le-mul, le-trans}
+use borrow.Author.Needs.{needs}
 use native.Mathlib.Omega.{arith}
 use Rattle.laws.specs.Date.{account-le}
 use Rattle.rules.specs.Contract.{returnsOf}
@@ -32,14 +33,15 @@ unfolding returnsOf
 next-account-requires c κs =
     let pre = c .before .before .before .before .pre in
     let loop = c .before .before .loop in
-    (pre .1 .fee, pre .2, rw (c .word .ensures .0) (pre .0 .valid .factor (loop .k) (omega (arith, pre .0 .all))))
+    (search needs, pre .2, rw (c .word .ensures .0) (pre .0 .valid .factor (loop .k) (omega (arith, pre .0 .all))))
 
 mul-starts : tie.Need-mul-starts Inv-loop μ-loop
 mul-starts c =
     let args = c .before .before .before .before .before .args in
     let pre = c .before .before .before .before .before .pre in
     let x = args in
-    let small : c .next-account .result ≤ 4000 = rw (c .next-account .ensures) (le-trans (account-le (x .c .fee) (x .c .top) (x .balance) (c .before .word .result)) (pre .1 .top)) in
+    let held = account-le _ (x .c .top) (x .balance) (c .before .word .result) in
+    let small : c .next-account .result ≤ 4000 = rw (c .next-account .ensures) (le-trans held (pre .1 .top)) in
     omega (arith, mul-le-mul small (pre .3))
 
 mul-starts-2 : tie.Need-mul-starts-2 Inv-loop μ-loop

@@ -73,7 +73,9 @@ add-fill-maturity : tie.Need-add-fill-maturity
 add-fill-maturity c = search needs
 
 add-fill-maturity-2 : tie.Need-add-fill-maturity-2
-add-fill-maturity-2 c = search needs
+add-fill-maturity-2 c =
+    let v = c .before .before .before .before .before .before .before .before .before .before .before .before .before .before .pre .valid in
+    omega (arith, v .top, v .premium)
 
 fill-maturity-requires : tie.Need-fill-maturity-requires
 unfolding layerSize tableSize

@@ -47,22 +47,54 @@ mul-t12 c = search needs
 add-t13 : tie.Need-add-t13
 add-t13 c = search needs
 
+word-requires-9 : tie.Need-word-requires-9
+word-requires-9 c κs = search needs
+
+word-requires-10 : tie.Need-word-requires-10
+word-requires-10 c κs = search needs
+
 checked-requires : tie.Need-checked-requires
 checked-requires c κs = search needs
 
 returns-2 : tie.Need-returns-2
 unfolding recordRead verdict recordChecks termsOf long
 returns-2 c =
-    let args = c .before .before .before .before .before .before .before .before .before .before .before .args in
-    let if1 = c .before .before .before .before .before .before .before .before .before .if1 in
-    let word = c .before .before .before .before .before .before .before .before .word in
-    let word2 = c .before .before .before .before .before .before .before .word2 in
-    let word3 = c .before .before .before .before .before .before .word3 in
-    let word4 = c .before .before .before .before .before .word4 in
-    let word5 = c .before .before .before .before .word5 in
-    let word6 = c .before .before .before .word6 in
-    let word7 = c .before .before .word7 in
-    let bytes = args .bytes .now in let given : Contract = record { premium = word .result; level = word2 .result; top = word3 .result; dates = word4 .result; fee = word5 .result; penalty = word6 .result; discount = word7 .result + 65536 * c .before .word8 .result } in let same : given ≡ contractOf (termsOf bytes) = λ i. record { premium = (word .ensures .0) i; level = (word2 .ensures .0) i; top = (word3 .ensures .0) i; dates = (word4 .ensures .0) i; fee = (word5 .ensures .0) i; penalty = (word6 .ensures .0) i; discount = (word7 .ensures .0) i + 65536 * (c .before .word8 .ensures .0) i } in rw (eq-eqb _ _ (if1 .left)) (c .checked .ensures ∙ ap (λ (x : Contract). readingOf (verdict (termsChecks (termsIn x))) x) same)
+    let args = c .before .before .before .before .before .before .before .before .before .before .before .before .before .args in
+    let if1 = c .before .before .before .before .before .before .before .before .before .before .before .if1 in
+    let word = c .before .before .before .before .before .before .before .before .before .before .word in
+    let word2 = c .before .before .before .before .before .before .before .before .before .word2 in
+    let word3 = c .before .before .before .before .before .before .before .before .word3 in
+    let word4 = c .before .before .before .before .before .before .before .word4 in
+    let word5 = c .before .before .before .before .before .before .word5 in
+    let word6 = c .before .before .before .before .before .word6 in
+    let word7 = c .before .before .before .before .word7 in
+    let word8 = c .before .before .before .word8 in
+    let word9 = c .before .before .word9 in
+    let word10 = c .before .word10 in
+    let bytes = args .bytes .now in
+    let given : Contract = record {
+      premium = word .result;
+      level = word2 .result;
+      top = word3 .result;
+      dates = word4 .result;
+      fee = word5 .result;
+      penalty = word6 .result;
+      discount = word7 .result + 65536 * word8 .result;
+      step = word9 .result;
+      spare = word10 .result;
+    } in
+    let same : given ≡ contractOf (termsOf bytes) = λ i. record {
+      premium = word .ensures .0 i;
+      level = word2 .ensures .0 i;
+      top = word3 .ensures .0 i;
+      dates = word4 .ensures .0 i;
+      fee = word5 .ensures .0 i;
+      penalty = word6 .ensures .0 i;
+      discount = word7 .ensures .0 i + 65536 * word8 .ensures .0 i;
+      step = word9 .ensures .0 i;
+      spare = word10 .ensures .0 i;
+    } in
+    rw (eq-eqb _ _ (if1 .left)) (c .checked .ensures ∙ ap (λ (x : Contract). readingOf (verdict (termsChecks (termsIn x))) x) same)
 
 pub read-spec : {M : Type 1} → statement M
 read-spec =
@@ -80,5 +112,7 @@ read-spec =
     word-requires-8
     mul-t12
     add-t13
+    word-requires-9
+    word-requires-10
     checked-requires
     returns-2)
