@@ -3,7 +3,7 @@ use mathlib.Core.Bool.{Bool, not, _||_}
 use mathlib.Core.List.{List, [], _∷_, _++_}
 use mathlib.Core.Path.{_≡_, refl, ap, _∙_}
 use Prim.Native.Nat.{ℕ, _-_, _≤_, max}
-use native.Mathlib.Nat.{le-trans, max-le, min-le-right}
+use native.Mathlib.Nat.{le-trans}
 use native.Mathlib.Omega.{arith}
 use lib.Dec.{T, ltb, eqb, eqb→eq, nltb→le}
 use lib.ListN.{length}
@@ -12,7 +12,7 @@ use Rattle.rules.specs.Date.{dynamic, freeAmount, admits}
 use Rattle.rules.specs.Refusals.{Verdict, accepted, refused, verdict, numbers, numberOf, outside, recordChecks}
 use Rattle.rules.specs.Operations.{amountChecks, bookingChecks, bookingVerdict}
 use Rattle.laws.specs.Accepted.{Valid, Positive, zero-accepts, NoPlace, AllPass, all-pass, nor-left, nor-right, not-not, at-most, andThen, verdict-append}
-use Rattle.laws.specs.Date.{dynamic-is}
+use Rattle.laws.specs.Date.{dynamic-is, amount-most}
 
 pub record Bookable (c : Terms) (i w a t : ℕ) (buffer : List ℕ) : Type 0 where
   pub sixteen : length buffer ≡ 16
@@ -59,10 +59,7 @@ booking-verdict bytes date w a t buffer = verdict-append (recordChecks bytes) (a
 -- account, guarantee and amount are at most 4,000
 pub bookable-small : {c : Terms} {i w a t : ℕ} {buffer : List ℕ} → Valid c → Bookable c i w a t buffer
     → (w ≤ topMost) × (a ≤ topMost) × (t ≤ topMost)
-unfolding freeAmount
-bookable-small {c} {a = a} v b =
-    let l : a ≤ c .top = le-trans (b .guarantee) (v .premium) in (
-      le-trans (b .account) (v .top),
-      le-trans l (v .top),
-      le-trans (b .amount) (max-le (le-trans (b .account) (v .top)) (le-trans (min-le-right (c .level) a) (le-trans l (v .top)))),
-    )
+bookable-small {c} v b =
+    let account = le-trans (b .account) (v .top) in
+    let guarantee = le-trans (b .guarantee) (le-trans (v .premium) (v .top)) in
+    (account, guarantee, amount-most (c .level) account guarantee (b .amount))

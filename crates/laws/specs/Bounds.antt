@@ -1,7 +1,7 @@
 -- Values, cash, amounts and accounts of an accepted contract fit the widths of the slices. Assumes nothing.
 use mathlib.Core.Path.{ap, _∙_}
 use Prim.Native.Nat.{ℕ, _+_, _-_, _*_, _/_, _^_, _≤_, _<_}
-use native.Mathlib.Nat.{le-trans, le-of-eq, mul-le-mul, mul-le-mul-left, div-le-of-le-mul, sub-le, max-le, min-le-left, min-le-right}
+use native.Mathlib.Nat.{le-trans, le-of-eq, mul-le-mul, mul-le-mul-left, div-le-of-le-mul, sub-le, max-le, min-le-left}
 use native.Mathlib.Omega.{arith}
 use lib.Dec.{T}
 use Rattle.decision.specs.Index.{sum-le, sum-times}
@@ -9,11 +9,11 @@ use Rattle.decision.specs.Process.{Table, tableValue, Decides}
 use Rattle.decision.specs.Optimal.{recorded-best}
 use Rattle.decision.specs.Bounds.{value-bounded, start-bounded, table-bounded}
 use Rattle.rules.specs.Contract.{Terms, Returns, discountMost, weightTotal}
-use Rattle.rules.specs.Date.{Behaviour, dynamic, freeAmount, penalty, cash, nextAccount, maturityValue, discounted}
+use Rattle.rules.specs.Date.{Behaviour, dynamic, penalty, cash, nextAccount, maturityValue, discounted}
 use Rattle.rules.specs.Product.{stateValue, recordedAmount, contractValue}
 use Rattle.rules.specs.FixedTerm.{State, Held, InRange, freeIn, admissibleIn, rateIn, cashIn, reachBy, expectOver, processOf, fixedTerm}
 use Rattle.laws.specs.Accepted.{Valid, ValidReturns}
-use Rattle.laws.specs.Date.{admits-within}
+use Rattle.laws.specs.Date.{admits-within, amount-most}
 use Rattle.laws.specs.FixedTerm.{opened, closed}
 
 -- a discounted average is at most the largest value reached
@@ -29,9 +29,8 @@ cash-le rate m t = sub-le _ _
 module _ (c : Terms) (rs : Returns) (v : Valid c) (u : ValidReturns rs) where
   -- admissible amounts are at most top
   pub amount-le : (b : Behaviour) (s : State) (t : ℕ) → InRange c s → T (admissibleIn c b s t) → t ≤ c .top
-  unfolding admissibleIn freeIn freeAmount
-  amount-le b s t g p =
-      le-trans (admits-within b _ _ t p) (max-le (g .account) (le-trans (min-le-right _ _) (le-trans (g .guarantee) (v .premium))))
+  unfolding admissibleIn freeIn
+  amount-le b s t g p = amount-most (c .level) (g .account) (le-trans (g .guarantee) (v .premium)) (admits-within b _ _ t p)
 
   ends : (s : State) → InRange c s → processOf c rs .final s ≤ 10000 * c .top
   unfolding processOf maturityValue

@@ -3,11 +3,11 @@ use mathlib.Core.Bool.{Bool, true, false, cond, _&&_, _||_}
 use mathlib.Core.Logic.{_⊎_, inl, inr}
 use mathlib.Core.Path.{_≡_, refl}
 use Prim.Native.Nat.{ℕ, _-_, _*_, _/_, _≤_, _<_, min, max}
-use native.Mathlib.Nat.{le-refl, min-le-left}
+use native.Mathlib.Nat.{le-refl, le-trans, max-le, min-le-left, min-le-right}
 use native.Mathlib.Omega.{arith}
 use lib.Dec.{T, leb, ltb, eqb, eqb→eq, eqb-refl, leb→le, le→leb, ltb→lt, lt→ltb}
 use Rattle.decision.specs.Choice.{and-left, and-right, and-intro}
-use Rattle.rules.specs.Date.{Behaviour, static, mixed, dynamic, largestAmount, surrenders, admits, guaranteeAfter, nextAccount}
+use Rattle.rules.specs.Date.{Behaviour, static, mixed, dynamic, freeAmount, largestAmount, surrenders, admits, guaranteeAfter, nextAccount}
 
 -- ---- admissible amounts
 or-left : (a b : Bool) → T a → T (a || b)
@@ -62,6 +62,11 @@ pub admits-within : (b : Behaviour) (m w t : ℕ) → T (admits b m w t) → t �
 admits-within static m w t p = dynamic-is m w t (mixed-dynamic m w t (static-mixed m w t p))
 admits-within mixed m w t p = dynamic-is m w t (mixed-dynamic m w t p)
 admits-within dynamic m w t p = dynamic-is m w t p
+
+-- an amount in the dynamic set is at most what account and guarantee are
+pub amount-most : (level : ℕ) {most w a t : ℕ} → w ≤ most → a ≤ most → t ≤ max w (freeAmount level a) → t ≤ most
+unfolding freeAmount
+amount-most level {a = a} account guarantee amount = le-trans amount (max-le account (le-trans (min-le-right level a) guarantee))
 
 -- ---- movements
 -- up to m the guarantee falls by the amount

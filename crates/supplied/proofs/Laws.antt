@@ -3,7 +3,7 @@ use mathlib.Core.List.{List, _++_}
 use mathlib.Core.Logic.{inr}
 use mathlib.Core.Path.{_≡_, refl, ap, ap₂, sym, _∙_, subst}
 use Prim.Native.Nat.{ℕ, suc, _+_, _-_, _*_, _≤_, _<_, max}
-use native.Mathlib.Nat.{zero-add, le-trans, le-of-eq, max-le, min-le-right, sub-le}
+use native.Mathlib.Nat.{zero-add, le-trans, le-of-eq, min-le-right, sub-le}
 use native.Mathlib.Omega.{arith}
 use lib.Dec.{T}
 use lib.ListN.{length, getD, drop, replicate}
@@ -22,7 +22,7 @@ use Rattle.rules.specs.Refusals.{Verdict, accepted, refused, verdict, numberOf,
 use Rattle.rules.specs.FixedTerm.{InRange, freeIn, admissibleIn, rateIn, cashIn, afterIn, reachBy, expectOver, startOf, processOf, layerSize, layoutOf, fixedTerm}
 use Rattle.rules.specs.Operations.{productOf, answer, workAfter, tableSize, badAt, badEntry, tableChecks, suppliedChecks, suppliedVerdict, suppliedAnswer, suppliedWork}
 use Rattle.laws.specs.Supplied.{all-admitted}
-use Rattle.laws.specs.Date.{dynamic-is, guarantee-le}
+use Rattle.laws.specs.Date.{dynamic-is, amount-most, guarantee-le}
 use Rattle.laws.specs.Accepted.{Valid, andThen, parts-accepted, parts-refused}
 use Rattle.laws.specs.Bounds.{cash-le, table-value-le, value-room}
 use Rattle.expect.specs.Expected.{expected, reachedSum, Listing, expected-le, expected-same}
@@ -75,9 +75,7 @@ module _ {work layer : List ℕ} {base stride level rate : ℕ} (w : ℕ) (d : F
       let t = cells layer 0 stride w a in
       let m = freeAmount level a in
       let c = cash-le rate m t in
-      let w-most : w ≤ 4000 = omega (arith, d .few) in
-      let m-most : m ≤ 4000 = le-trans (min-le-right level a) (omega (arith, d .width)) in
-      let u : t ≤ 4000 = le-trans (amount-within a l) (max-le w-most m-most) in
+      let u : t ≤ 4000 = amount-most level (omega (arith, d .few)) (omega (arith, d .width)) (amount-within a l) in
       let g = le-trans (guarantee-le m w a t) (sub-le a t) in
       let s = d .small (w - t) (guaranteeAfter m w a t) (let z = sub-le w t in omega arith) (omega arith) in
       omega arith

@@ -3,7 +3,7 @@ use mathlib.Core.Bool.{not}
 use mathlib.Core.List.{List, [], _∷_, _++_}
 use mathlib.Core.Path.{_≡_, ap, ap₂, sym, _∙_, subst}
 use Prim.Native.Nat.{ℕ, suc, _+_, _-_, _*_, _≤_, _<_, max}
-use native.Mathlib.Nat.{le-trans, sub-le, max-le, min-le-right}
+use native.Mathlib.Nat.{le-trans, sub-le}
 use native.Mathlib.Numerals.{add-one}
 use native.Mathlib.Omega.{arith}
 use lib.Dec.{leb}
@@ -26,7 +26,7 @@ use Rattle.contract.specs.Reading.{outcomeAt, outcomeOf}
 use Rattle.expect.specs.Expected.{Listing}
 use Rattle.dates.specs.Back.{at}
 use Rattle.dates.specs.Layer.{DateLayer, entry-within, layer-long, layer-entry}
-use Rattle.laws.specs.Date.{account-le, guarantee-le, dynamic-is}
+use Rattle.laws.specs.Date.{account-le, amount-most, guarantee-le, dynamic-is}
 use Rattle.laws.specs.Walk.{walk-first, walk-next}
 use Rattle.walk.specs.Walked.{Walking, Met, paid, paidLast, Walked}
 
@@ -93,10 +93,9 @@ module _ {c : Terms} {rs : Returns} {table path : List ℕ} {i w a : ℕ} (m : M
   -- .. and at most 4,000
   pub amount-small : Valid c → c .dates - 1 ≤ first (badDate c rs table path) (c .dates - 1) → i < c .dates
       → walkAmount (fixedTerm c rs) table path i ≤ topMost
-  unfolding freeAmount
   amount-small v none before =
-      let lent = le-trans (m .guarantee) (le-trans (v .premium) (v .top)) in
-      le-trans (amount-within none before) (max-le (le-trans (m .account) (v .top)) (le-trans (min-le-right (c .level) a) lent))
+      let guarantee = le-trans (m .guarantee) (le-trans (v .premium) (v .top)) in
+      amount-most (c .level) (le-trans (m .account) (v .top)) guarantee (amount-within none before)
 
 -- the cash as the rules list it
 cash-list : (c : Terms) (rs : Returns) (table path cashes : List ℕ) → 1 ≤ c .dates → c .dates ≤ length cashes
