@@ -1,11 +1,11 @@
 -- What an accepted reading shows of the bytes. Assumes nothing.
-use mathlib.Core.List.{List}
-use mathlib.Core.Path.{_≡_, refl, ap, sym, _∙_, subst}
+use mathlib.Core.List.{List, _++_}
+use mathlib.Core.Path.{_≡_, refl, ap, ap₂, sym, _∙_, subst}
 use Prim.Native.Nat.{ℕ}
 use native.Mathlib.Omega.{arith}
 use Rattle.rules.specs.Contract.{Terms, termsOf, returnsOf}
 use Rattle.rules.specs.Refusals.{Verdict, accepted, refused, verdict, recordChecks, listChecks}
-use Rattle.laws.specs.Accepted.{Valid, ValidReturns, all-pass, valid-record, valid-returns}
+use Rattle.laws.specs.Accepted.{Valid, ValidReturns, all-pass, valid-record, valid-returns, andThen, verdict-append, both-terms, both-returns}
 use Rattle.contract.specs.declared.Contract.{Contract}
 use Rattle.contract.specs.declared.Returns.{Returns}
 use Rattle.contract.specs.declared.Outcome.{Outcome}
@@ -13,7 +13,8 @@ use Rattle.contract.specs.declared.Reading.{Reading}
 use Rattle.contract.specs.declared.Reading.the-variants as reading
 use Rattle.contract.specs.declared.Listing.{Listing}
 use Rattle.contract.specs.declared.Listing.the-variants as listing
-use Rattle.contract.specs.Reading.{contractOf, termsIn, readingOf, readingVerdict, listingOf, listingVerdict, recordRead, listRead}
+use Rattle.contract.specs.declared.Agreement.the-variants as agreement
+use Rattle.contract.specs.Reading.{contractOf, termsIn, outcomeAt, readingOf, readingVerdict, listingOf, listingVerdict, agreementOf, agreementVerdict, recordRead, listRead, bothRead}
 
 -- the terms c were read from the bytes
 pub record Read (bytes : List ℕ) (c : Contract) : Type 0 where
@@ -70,3 +71,66 @@ read-refused bytes o e = sym (reading-verdict bytes) ∙ ap readingVerdict e
 
 pub list-refused : (bytes : List ℕ) (o : Outcome) → listRead bytes ≡ listing.Refused o → verdict (listChecks bytes) ≡ refused (o .number) (o .place)
 list-refused bytes o e = sym (listing-verdict bytes) ∙ ap listingVerdict e
+
+-- ---- an agreement that was made or refused, by any verdict
+pub record Agreed (v : Verdict) (bytes list : List ℕ) (c : Contract) (rs : Returns) : Type 0 where
+  pub accepts : v ≡ accepted
+  pub terms : termsIn c ≡ termsOf bytes
+  pub count : rs .count ≡ returnsOf list .count
+
+module _ (v : Verdict) (bytes list : List ℕ) where
+  pub agreed : (c : Contract) (rs : Returns) → agreementOf v (termsOf bytes) (returnsOf list .count) ≡ agreement.Accepted c rs → Agreed v bytes list c rs
+  agreed c rs e = go v refl e
+    where
+      go : (x : Verdict) → v ≡ x → agreementOf x (termsOf bytes) (returnsOf list .count) ≡ agreement.Accepted c rs → Agreed v bytes list c rs
+      go accepted a e =
+          let terms : contractOf (termsOf bytes) ≡ c = cc in
+          let returns : _≡_ {A = Returns} (record { count = returnsOf list .count }) rs = cc in
+          record { accepts = a; terms = ap termsIn (sym terms); count = ap (λ (x : Returns). x .count) (sym returns) }
+      go (refused n p) a e = let z : _≡_ {A = ℕ} 0 1 = cc in absurd (omega arith)
+
+  pub disagreed : (o : Outcome) → agreementOf v (termsOf bytes) (returnsOf list .count) ≡ agreement.Refused o → v ≡ refused (o .number) (o .place)
+  disagreed o e = sym (go v) ∙ ap agreementVerdict e
+    where
+      go : (x : Verdict) → agreementVerdict (agreementOf x (termsOf bytes) (returnsOf list .count)) ≡ x
+      go accepted = refl
+      go (refused n p) = refl
+
+-- ---- a record and a list that were read
+pub record Both (bytes list : List ℕ) (c : Contract) (rs : Returns) : Type 0 where
+  pub accepts : verdict (recordChecks bytes ++ listChecks list) ≡ accepted
+  pub terms : termsIn c ≡ termsOf bytes
+  pub valid : Valid (termsIn c)
+  pub count : rs .count ≡ returnsOf list .count
+  pub returns : ValidReturns (returnsOf list)
+
+pub agreed-both : {v : Verdict} {bytes list : List ℕ} {c : Contract} {rs : Returns} → Agreed v bytes list c rs
+    → verdict (recordChecks bytes ++ listChecks list) ≡ accepted → Both bytes list c rs
+agreed-both {bytes = bytes} {list = list} told a = record {
+  accepts = a;
+  terms = told .terms;
+  valid = subst Valid (sym (told .terms)) (both-terms bytes list a);
+  count = told .count;
+  returns = both-returns bytes list a;
+}
+
+pub both-read : (bytes list : List ℕ) (c : Contract) (rs : Returns) → bothRead bytes list ≡ agreement.Accepted c rs → Both bytes list c rs
+unfolding bothRead
+both-read bytes list c rs e = let told = agreed _ bytes list c rs e in agreed-both told (told .accepts)
+
+pub both-not-read : (bytes list : List ℕ) (o : Outcome) → bothRead bytes list ≡ agreement.Refused o
+    → verdict (recordChecks bytes ++ listChecks list) ≡ refused (o .number) (o .place)
+unfolding bothRead
+both-not-read bytes list o e = disagreed _ bytes list o e
+
+-- reading both is reading the one and then the other
+pub both-accepted : {bytes list : List ℕ} {c : Contract} {rs : Returns} → Read bytes c → Listed list rs → agreement.Accepted c rs ≡ bothRead bytes list
+unfolding bothRead
+both-accepted {bytes} {list} known told =
+    let e = verdict-append (recordChecks bytes) (listChecks list) ∙ ap₂ andThen (known .accepts) (told .accepts) in
+    rw e (ap₂ agreement.Accepted (ap contractOf (known .terms)) (ap (λ (n : ℕ). record { count = n }) (told .count)))
+
+pub both-refused : (bytes list : List ℕ) (n p : ℕ) → andThen (verdict (recordChecks bytes)) (verdict (listChecks list)) ≡ refused n p
+    → agreement.Refused (outcomeAt n p) ≡ bothRead bytes list
+unfolding bothRead
+both-refused bytes list n p e = rw (verdict-append (recordChecks bytes) (listChecks list) ∙ e)

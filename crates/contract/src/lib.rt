@@ -7,7 +7,7 @@ ghost use lib.ListN.{length};
 ghost use Rattle.decision.specs.Index.{sum, first};
 ghost use Rattle.rules.specs.Contract.{word, topMost, rateMost, returnBytes, returnsMost, returnsOf};
 ghost use Rattle.rules.specs.Refusals.{outside, verdict, termsChecks, badReturn};
-ghost use Rattle.contract.specs.Reading.{readingOf, readingVerdict, listingVerdict, outcomeOf, refusedReading, refusedListing, termsIn, recordRead, listRead};
+ghost use Rattle.contract.specs.Reading.{readingOf, readingVerdict, listingVerdict, agreementVerdict, outcomeOf, refusedReading, refusedListing, termsIn, recordRead, listRead, bothRead};
 
 // A number and its place: 0 and 0 for success.
 pub struct Outcome {
@@ -43,6 +43,12 @@ pub enum Listing {
     Refused(Outcome),
 }
 
+// What a call is given, once its checks have passed.
+pub enum Agreement {
+    Accepted(Contract, Returns),
+    Refused(Outcome),
+}
+
 impl Reading {
     // The number and place of each case.
     pub fn outcome(self) -> Outcome
@@ -70,6 +76,21 @@ impl Listing {
                 place: 0,
             },
             Listing::Refused(outcome) => outcome,
+        }
+    }
+}
+
+impl Agreement {
+    pub fn outcome(self) -> Outcome
+        ensures { λ r. ⌜ r ≡ outcomeOf (agreementVerdict self) ⌝ }
+    {
+        let agreement = self;
+        match agreement {
+            Agreement::Accepted(_, _) => Outcome {
+                number: 0,
+                place: 0,
+            },
+            Agreement::Refused(outcome) => outcome,
         }
     }
 }
@@ -262,4 +283,19 @@ impl Returns {
         }
         Listing::Accepted(Returns { count })
     }
+}
+
+// Record and list: the record is read whole before the list is looked at.
+pub fn read(bytes: &[u8], list: &[u8]) -> Agreement
+    ensures { λ r. ⌜ r ≡ bothRead (now (bytes .entry)) (now (list .entry)) ⌝ }
+{
+    let reading = Contract::read(bytes);
+    let Reading::Accepted(c) = reading else {
+        return Agreement::Refused(reading.outcome());
+    };
+    let listing = Returns::read(list);
+    let Listing::Accepted(returns) = listing else {
+        return Agreement::Refused(listing.outcome());
+    };
+    Agreement::Accepted(c, returns)
 }

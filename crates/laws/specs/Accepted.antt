@@ -1,7 +1,7 @@
 -- What holds of terms and returns that no condition turns away. Assumes nothing.
 use mathlib.Core.Bool.{Bool, true, false, cond, not, _||_}
 use mathlib.Core.List.{List, [], _∷_, _++_}
-use mathlib.Core.Path.{_≡_, refl, ap, ap₂, _∙_}
+use mathlib.Core.Path.{_≡_, refl, ap, _∙_}
 use Prim.Native.Nat.{ℕ, _+_, _*_, _/_, _%_, _≤_, _<_}
 use native.Mathlib.Omega.{arith}
 use lib.Dec.{T, ltb, eqb, eqb→eq, nltb→le, not-T}
@@ -185,16 +185,24 @@ verdict-append (k ∷ ks) ls = go (k .failed) (verdict-append ks ls)
     go true e = refl
     go false e = e
 
--- .. in three: the record's, the list's, the operation's own
-pub parts-accepted : (ks ls ms : List Check) → verdict ks ≡ accepted → verdict ls ≡ accepted → verdict (ks ++ ls ++ ms) ≡ verdict ms
-parts-accepted ks ls ms e f =
-    verdict-append (ks ++ ls) ms
-    ∙ ap (λ (v : Verdict). andThen v (verdict ms)) (verdict-append ks ls ∙ ap₂ andThen e f)
+pub then-accepted : (ks ls : List Check) → verdict ks ≡ accepted → verdict (ks ++ ls) ≡ verdict ls
+then-accepted ks ls e = verdict-append ks ls ∙ ap (λ (v : Verdict). andThen v (verdict ls)) e
 
-pub parts-refused : (ks ls ms : List Check) {n p : ℕ} → andThen (verdict ks) (verdict ls) ≡ refused n p → verdict (ks ++ ls ++ ms) ≡ refused n p
-parts-refused ks ls ms e =
-    verdict-append (ks ++ ls) ms
-    ∙ ap (λ (v : Verdict). andThen v (verdict ms)) (verdict-append ks ls ∙ e)
+pub then-refused : (ks ls : List Check) {n p : ℕ} → verdict ks ≡ refused n p → verdict (ks ++ ls) ≡ refused n p
+then-refused ks ls e = verdict-append ks ls ∙ ap (λ (v : Verdict). andThen v (verdict ls)) e
+
+pub then-earlier : (ks ls : List Check) → verdict (ks ++ ls) ≡ accepted → verdict ks ≡ accepted
+then-earlier ks ls e = passes ks (pass-left ks ls (all-pass _ e))
+
+pub then-later : (ks ls : List Check) → verdict (ks ++ ls) ≡ accepted → verdict ls ≡ accepted
+then-later ks ls e = passes ls (pass-right ks ls (all-pass _ e))
+
+-- a record and a list that are accepted
+pub both-terms : (bytes list : List ℕ) → verdict (recordChecks bytes ++ listChecks list) ≡ accepted → Valid (termsOf bytes)
+both-terms bytes list e = valid-record bytes (pass-left (recordChecks bytes) _ (all-pass _ e))
+
+pub both-returns : (bytes list : List ℕ) → verdict (recordChecks bytes ++ listChecks list) ≡ accepted → ValidReturns (returnsOf list)
+both-returns bytes list e = valid-returns list (pass-right (recordChecks bytes) _ (all-pass _ e))
 
 -- ---- what a verdict tells
 pub success-reports : {A : Type 0} {v : Verdict} (new old : A) → v ≡ accepted → onSuccess v new old ≡ new

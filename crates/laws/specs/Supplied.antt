@@ -19,7 +19,7 @@ use Rattle.rules.specs.FixedTerm.{State, InRange, admissibleIn, layerSize, layo
 use Rattle.rules.specs.Refusals.{checkEach, accepted, refused, verdict, short, recordChecks, listChecks}
 use Rattle.rules.specs.Operations.{productOf, answer, behaviourOf, tableSize, valuingChecks, valuingVerdict, valuingAnswer, valuingTable, badAt, badEntry, tableChecks, suppliedChecks, suppliedVerdict, suppliedAnswer}
 use Rattle.rules.specs.Facts.{supplied-order}
-use Rattle.laws.specs.Accepted.{Valid, Positive, zero-accepts, AllPass, all-pass, passes, pass-left, pass-right, not-not, valid-record, parts-accepted, success-reports}
+use Rattle.laws.specs.Accepted.{Valid, Positive, zero-accepts, AllPass, all-pass, pass-right, not-not, then-accepted, then-earlier, both-terms, success-reports}
 use Rattle.laws.specs.FixedTerm.{opened, size-some, sound}
 use Rattle.laws.specs.Demand.{table-attains}
 use Rattle.laws.specs.ThirdDemand.{valuing-accepts, valuing-terms, valuing-leaves}
@@ -71,7 +71,8 @@ module _ (bytes list work table : List ℕ) (zero-number : suppliedAnswer bytes 
   checks = all-pass _ supplied-accepts
 
   valid : Valid (termsOf bytes)
-  valid = valid-record bytes (pass-left (recordChecks bytes) _ (pass-left (recordChecks bytes ++ listChecks list) _ checks))
+  unfolding suppliedVerdict suppliedChecks
+  valid = both-terms bytes list (then-earlier _ _ supplied-accepts)
 
   none-bad : tableSize (termsOf bytes) ≤ first (badEntry (termsOf bytes) table) (tableSize (termsOf bytes))
   unfolding tableChecks AllPass checkEach
@@ -142,10 +143,9 @@ module _ (bytes list : List ℕ) (behaviour : ℕ) (work table work' : List ℕ)
     back-accepted =
         let c = termsOf bytes in
         let v = valuing-terms bytes list behaviour work table yes-to in
-        let before = pass-left (recordChecks bytes ++ listChecks list) _ (all-pass _ yes-to) in
         let rest = drop (tableSize c) table in
         let long = long-enough c (returnsOf list) v (behaviourOf behaviour) rest in
-        parts-accepted (recordChecks bytes) (listChecks list) _ (passes _ (pass-left (recordChecks bytes) _ before)) (passes _ (pass-right (recordChecks bytes) _ before))
+        then-accepted (recordChecks bytes ++ listChecks list) _ (then-earlier _ _ yes-to)
         ∙ table-accepted c work' left (lent-long c work' left room long)
         (le-ltb _ _ (none-found (badEntry c left) (tableSize c) (recorded-good c (returnsOf list) v (behaviourOf behaviour) rest)))
 

@@ -10,9 +10,9 @@ use Rattle.rules.specs.Contract.{termsOf, returnsOf}
 use Rattle.rules.specs.Date.{Behaviour, static, mixed, dynamic}
 use Rattle.rules.specs.Product.{Product, contractValue, amountLayers, ThirdDemand, Claim}
 use Rattle.rules.specs.FixedTerm.{State, Held, fixedTerm}
-use Rattle.rules.specs.Refusals.{Check, Verdict, accepted, verdict, numbers, numberOf, onSuccess, recordChecks, listChecks}
+use Rattle.rules.specs.Refusals.{Check, Verdict, accepted, verdict, numbers, numberOf, onSuccess}
 use Rattle.rules.specs.Operations.{productOf, answer, behaviourNumber, behaviourOf, tableSize, valuingChecks, valuingVerdict, valuingAnswer, valuingTable}
-use Rattle.laws.specs.Accepted.{Valid, ValidReturns, Positive, zero-accepts, AllPass, all-pass, pass-left, pass-right, valid-record, valid-returns}
+use Rattle.laws.specs.Accepted.{Valid, ValidReturns, Positive, zero-accepts, then-earlier, both-terms, both-returns}
 use Rattle.laws.specs.Demand.{Sound, table-attains, demand}
 use Rattle.laws.specs.FixedTerm.{sound}
 use Rattle.rules.specs.Facts.{valuing-order}
@@ -33,11 +33,11 @@ module _ (bytes list : List ℕ) (behaviour : ℕ) (work table : List ℕ) where
   -- .. and the terms and returns are in range
   pub valuing-terms : valuingVerdict bytes list behaviour work table ≡ accepted → Valid (termsOf bytes)
   unfolding valuingVerdict valuingChecks
-  valuing-terms a = valid-record bytes (pass-left (recordChecks bytes) _ (pass-left (recordChecks bytes ++ listChecks list) _ (all-pass _ a)))
+  valuing-terms a = both-terms bytes list (then-earlier _ _ a)
 
   pub valuing-returns : valuingVerdict bytes list behaviour work table ≡ accepted → ValidReturns (returnsOf list)
   unfolding valuingVerdict valuingChecks
-  valuing-returns a = valid-returns list (pass-right (recordChecks bytes) _ (pass-left (recordChecks bytes ++ listChecks list) _ (all-pass _ a)))
+  valuing-returns a = both-returns bytes list (then-earlier _ _ a)
 
   -- what it then reports and leaves
   pub valuing-reports : valuingVerdict bytes list behaviour work table ≡ accepted

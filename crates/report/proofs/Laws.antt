@@ -7,7 +7,7 @@ use native.Mathlib.Nat.{zero-mul, zero-add, le-refl}
 use native.Mathlib.Decide.{decLe}
 use native.Mathlib.Omega.{arith}
 use borrow.Author.Tests.{lt-ltb, le-ltb}
-use lib.Dec.{ltb, nltb→le}
+use lib.Dec.{ltb}
 use lib.ListN.{length, getD, drop, replicate, length-append, length-replicate}
 use lib.Seq.{drop-append-seam}
 use Rattle.decision.specs.Index.{length-tabulate}
@@ -19,14 +19,15 @@ use Rattle.rules.specs.FixedTerm.{InRange, fixedTerm, processOf, startOf, reach
 use Rattle.rules.specs.Refusals.{check, Verdict, accepted, refused, verdict, numberOf, placeOf, onSuccess, short, recordChecks, listChecks}
 use Rattle.rules.specs.Operations.{productOf, answer, behaviourNumber, behaviourOf, tableSize, lentChecks, valuingChecks, valuingVerdict, workAfter, valuingAnswer, valuingWork, valuingTable}
 use Rattle.rules.specs.Printed.{decimal, line, nameOf, refusedWord, linesOf, valueLine, returnLine, lineCount, valuesText, textOf, programVerdict, printed}
-use Rattle.laws.specs.Accepted.{Valid, AllPass, all-pass, passes, pass-left, pass-right, nor-right, refusal-keeps}
+use Rattle.laws.specs.Accepted.{Valid, then-earlier, refusal-keeps}
 use Rattle.laws.specs.Date.{account-le}
 use Rattle.laws.specs.Demand.{table-filled}
 use Rattle.laws.specs.FixedTerm.{sound}
+use Rattle.laws.specs.Valuing.{valuing-room}
 use Rattle.laws.specs.ThirdDemand.{valuing-accepts, valuing-terms, valuing-reports, valuing-leaves}
 use Rattle.contract.specs.declared.Contract.{Contract}
 use Rattle.contract.specs.Reading.{termsIn}
-use Rattle.contract.specs.Accepted.{Read, Listed}
+use Rattle.contract.specs.Accepted.{Both}
 use Rattle.contract.specs.declared.Returns as listed
 use Rattle.valuing.specs.First.{ready}
 use Rattle.valuing.specs.declared.Answer as declared
@@ -42,7 +43,7 @@ unfolding caseOf
 not-both e f = let z : _≡_ {A = ℕ} 0 1 = ap caseOf (sym e ∙ f) in omega arith
 
 -- ---- how many lines
-module _ {bytes : List ℕ} (list : List ℕ) {c : Contract} (x : Read bytes c) where
+module _ {bytes list : List ℕ} {c : Contract} {rs : listed.Returns} (x : Both bytes list c rs) where
   dates-are : c .dates ≡ termsOf bytes .dates
   dates-are = ap (λ (t : Terms). t .dates) (x .terms)
 
@@ -112,19 +113,15 @@ module _ (bytes list : List ℕ) where
 
   -- what was accepted, and that the tables have room
   pub filled : {t₀ t₁ t₂ : List ℕ} → programVerdict bytes list ≡ accepted → length t₀ ≡ 16384 → length t₁ ≡ 16384 → length t₂ ≡ 16384 → Filled bytes list t₀ t₁ t₂
-  unfolding programVerdict behaviourNumber valuingVerdict valuingChecks lentChecks AllPass short
+  unfolding programVerdict behaviourNumber valuingVerdict valuingChecks
   filled a l₀ l₁ l₂ =
       let work = replicate {A = ℕ} 8192 0 in
       let table = replicate {A = ℕ} 16384 0 in
       let c = termsOf bytes in
-      let checks = all-pass (valuingChecks bytes list 0 work table) a in
-      let read = pass-left (recordChecks bytes ++ listChecks list) _ checks in
-      let lent = pass-right (recordChecks bytes ++ listChecks list) _ checks in
-      let within = nltb→le (length table) (tableSize c) (nor-right (short (2 * layerSize c) work) (short (tableSize c) table) (lent .1 .0)) in
+      let within = valuing-room bytes list 0 work table a .entries in
       let room = subst (λ (n : ℕ). tableSize c ≤ n) (length-replicate {A = ℕ} 16384 0) within in
       record {
-        record-accepted = passes (recordChecks bytes) (pass-left (recordChecks bytes) _ read);
-        list-accepted = passes (listChecks list) (pass-right (recordChecks bytes) _ read);
+        accepts = then-earlier (recordChecks bytes ++ listChecks list) _ a;
         static-room = omega (arith, room, l₀);
         mixed-room = omega (arith, room, l₁);
         dynamic-room = omega (arith, room, l₂);
@@ -184,14 +181,14 @@ module _ (bytes list : List ℕ) where
         ∙ ap (textOf (productOf bytes list)) (sym a)
 
 -- ---- terms and returns that were read, with their tables
-pub tabled : {bytes list t₀ t₁ t₂ : List ℕ} {c : Contract} {returns : listed.Returns} → Read bytes c → Listed list returns → 2 ≤ c .dates
+pub tabled : {bytes list t₀ t₁ t₂ : List ℕ} {c : Contract} {returns : listed.Returns} → Both bytes list c returns → 2 ≤ c .dates
     → Filled bytes list t₀ t₁ t₂ → Tabled (termsIn c) (returns .count) list t₀ t₁ t₂
-tabled {t₀ = t₀} {t₁ = t₁} {t₂ = t₂} {c = c} x y h f =
+tabled {t₀ = t₀} {t₁ = t₁} {t₂ = t₂} {c = c} x h f =
     let room : (t : List ℕ) → tableSize (termsOf _) ≤ length t → layerSize (termsIn c) ≤ length t =
     λ t l. one-layer (termsIn c) (length t) h (subst (λ (z : Terms). tableSize z ≤ length t) (sym (x .terms)) l) in
     record {
       valid = x .valid;
-      listing = ready x y .listing;
+      listing = ready x .listing;
       static-layer = room t₀ (f .static-room);
       mixed-layer = room t₁ (f .mixed-room);
       dynamic-layer = room t₂ (f .dynamic-room);

@@ -39,8 +39,7 @@ pub record Tabled (c : Terms) (count : ℕ) (list statics mixeds dynamics : List
 
 -- a record and a list that are accepted, and tables with room for every decision date
 pub record Filled (bytes list statics mixeds dynamics : List ℕ) : Type 0 where
-  pub record-accepted : verdict (recordChecks bytes) ≡ accepted
-  pub list-accepted : verdict (listChecks list) ≡ accepted
+  pub accepts : verdict (recordChecks bytes ++ listChecks list) ≡ accepted
   pub static-room : tableSize (termsOf bytes) ≤ length statics
   pub mixed-room : tableSize (termsOf bytes) ≤ length mixeds
   pub dynamic-room : tableSize (termsOf bytes) ≤ length dynamics

@@ -11,10 +11,8 @@ ghost use Rattle.rules.specs.Printed.{digits, decimal, line, nameOf, refusedWor
 ghost use Rattle.contract.specs.Reading.{termsIn};
 ghost use Rattle.report.specs.Text.{Put, Counts};
 ghost use Rattle.report.specs.Tables.{tableLine, Tabled, Filled, tableLeft, workLeft};
+use contract::Agreement;
 use contract::Contract;
-use contract::Listing;
-use contract::Reading;
-use contract::Returns;
 
 fn byte(out: &mut [u8], at: usize, b: u8) -> usize
     requires { ⌜ at < length (now out) ⌝ }
@@ -187,17 +185,13 @@ fn all_lines(
     requires { ⌜ at + 8064 ≤ length (now out) ⌝ }
     ensures { λ r. ⌜ Put 8064 (now (out .entry)) at (linesOf (tableLine (termsOf (now (bytes .entry))) (returnsOf (now (list .entry))) (now (statics .entry)) (now (mixeds .entry)) (now (dynamics .entry))) (lineCount (productOf (now (bytes .entry)) (now (list .entry))))) r (now (out .exit)) ⌝ }
 {
-    let reading = Contract::read(bytes);
-    let Reading::Accepted(c) = reading else {
+    let agreement = contract::read(bytes, list);
+    let Agreement::Accepted(c, returns) = agreement else {
         return at;
     };
     if c.dates < 2 {
         return at;
     }
-    let listing = Returns::read(list);
-    let Listing::Accepted(returns) = listing else {
-        return at;
-    };
     return_lines(c, list, returns.count, statics, mixeds, dynamics, out, at)
 }
 

@@ -70,19 +70,27 @@ valuingChecks bytes list behaviour work table =
 unfoldable pub valuingVerdict : List ℕ → List ℕ → ℕ → List ℕ → List ℕ → Verdict
 valuingVerdict bytes list behaviour work table = verdict (valuingChecks bytes list behaviour work table)
 
+-- what valuing reports and leaves, by its verdict
+abbrev pub valuedAnswer : Verdict → List ℕ → List ℕ → ℕ → Answer
+valuedAnswer v bytes list behaviour =
+    answer v (contractValue (productOf bytes list) (behaviourOf behaviour)) (termsOf bytes .premium)
+
+abbrev pub valuedWork : Verdict → List ℕ → List ℕ → ℕ → List ℕ → List ℕ
+valuedWork v bytes list behaviour work =
+    workAfter v (layerSize (termsOf bytes)) (valueLayer (productOf bytes list) (behaviourOf behaviour)) work
+
+abbrev pub valuedTable : Verdict → List ℕ → List ℕ → ℕ → List ℕ → List ℕ
+valuedTable v bytes list behaviour table =
+    onSuccess v (amountLayers (productOf bytes list) (behaviourOf behaviour) ++ drop (tableSize (termsOf bytes)) table) table
+
 unfoldable pub valuingAnswer : List ℕ → List ℕ → ℕ → List ℕ → List ℕ → Answer
-valuingAnswer bytes list behaviour work table =
-    answer (valuingVerdict bytes list behaviour work table) (contractValue (productOf bytes list) (behaviourOf behaviour)) (termsOf bytes .premium)
+valuingAnswer bytes list behaviour work table = valuedAnswer (valuingVerdict bytes list behaviour work table) bytes list behaviour
 
 unfoldable pub valuingWork : List ℕ → List ℕ → ℕ → List ℕ → List ℕ → List ℕ
-valuingWork bytes list behaviour work table =
-    workAfter (valuingVerdict bytes list behaviour work table) (layerSize (termsOf bytes)) (valueLayer (productOf bytes list) (behaviourOf behaviour)) work
+valuingWork bytes list behaviour work table = valuedWork (valuingVerdict bytes list behaviour work table) bytes list behaviour work
 
 unfoldable pub valuingTable : List ℕ → List ℕ → ℕ → List ℕ → List ℕ → List ℕ
-valuingTable bytes list behaviour work table =
-    onSuccess (valuingVerdict bytes list behaviour work table)
-    (amountLayers (productOf bytes list) (behaviourOf behaviour) ++ drop (tableSize (termsOf bytes)) table)
-    table
+valuingTable bytes list behaviour work table = valuedTable (valuingVerdict bytes list behaviour work table) bytes list behaviour table
 
 -- ---- valuing a supplied table
 -- "checked in every entry, reachable or not, against the dynamic set": amount t at entry e of a layer, and entry e of a table

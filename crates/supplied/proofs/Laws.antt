@@ -23,7 +23,7 @@ use Rattle.rules.specs.FixedTerm.{InRange, freeIn, admissibleIn, rateIn, cashIn
 use Rattle.rules.specs.Operations.{productOf, answer, workAfter, tableSize, badAt, badEntry, tableChecks, suppliedChecks, suppliedVerdict, suppliedAnswer, suppliedWork}
 use Rattle.laws.specs.Supplied.{all-admitted}
 use Rattle.laws.specs.Date.{dynamic-is, amount-most, guarantee-le}
-use Rattle.laws.specs.Accepted.{Valid, andThen, parts-accepted, parts-refused}
+use Rattle.laws.specs.Accepted.{Valid, then-accepted, then-refused}
 use Rattle.laws.specs.Bounds.{cash-le, table-value-le, value-room}
 use Rattle.expect.specs.Expected.{expected, reachedSum, Listing, expected-le, expected-same}
 use Rattle.worth.specs.Worth.{worthOver, worth-same}
@@ -303,16 +303,16 @@ module _ (bytes list work table : List ℕ) (r : declared.Answer) where
     pub answer-is : r ≡ answerOf (suppliedAnswer bytes list work table)
     pub work-is : work' ≡ suppliedWork bytes list work table
 
-  pub whole : (work' : List ℕ) → verdict (recordChecks bytes) ≡ accepted → verdict (listChecks list) ≡ accepted → (c : Terms) → c ≡ termsOf bytes
+  pub whole : (work' : List ℕ) → verdict (recordChecks bytes ++ listChecks list) ≡ accepted → (c : Terms) → c ≡ termsOf bytes
       → Answered c (returnsOf list) (verdict (tableChecks c work table)) work table r work' → Whole work'
   unfolding suppliedVerdict suppliedChecks suppliedAnswer suppliedWork productOf
-  whole work' e f c same a =
-      let all = parts-accepted (recordChecks bytes) (listChecks list) (tableChecks (termsOf bytes) work table) e f in
+  whole work' e c same a =
+      let all = then-accepted (recordChecks bytes ++ listChecks list) (tableChecks (termsOf bytes) work table) e in
       let b = subst (λ (x : Terms). Answered x (returnsOf list) (verdict (tableChecks x work table)) work table r work') same a in
       record { answer-is = rw all (b .answer-is); work-is = rw all (b .work-is) }
 
-  pub whole-refused : (n p : ℕ) → andThen (verdict (recordChecks bytes)) (verdict (listChecks list)) ≡ refused n p → r ≡ refusal n p → Whole work
+  pub whole-refused : (n p : ℕ) → verdict (recordChecks bytes ++ listChecks list) ≡ refused n p → r ≡ refusal n p → Whole work
   unfolding suppliedVerdict suppliedChecks suppliedAnswer suppliedWork answer workAfter onSuccess numberOf placeOf
   whole-refused n p e f =
-      let all = parts-refused (recordChecks bytes) (listChecks list) (tableChecks (termsOf bytes) work table) e in
+      let all = then-refused (recordChecks bytes ++ listChecks list) (tableChecks (termsOf bytes) work table) e in
       record { answer-is = rw all f; work-is = rw all }

@@ -15,11 +15,9 @@ ghost use Rattle.worth.specs.Worth.{worthOver};
 ghost use Rattle.valuing.specs.Answered.{answerOf, Ready};
 ghost use Rattle.valuing.specs.First.{First};
 ghost use Rattle.supplied.specs.Followed.{State, followed, Following, OneDate, Back, tableOn, Starting, Answered};
+use contract::Agreement;
 use contract::Contract;
-use contract::Listing;
 use contract::Outcome;
-use contract::Reading;
-use contract::Returns;
 use valuing::Answer;
 
 // Refusal 14 of entry e of a date's layer.
@@ -185,13 +183,9 @@ pub fn value(bytes: &[u8], list: &[u8], work: &mut [u32], table: &[u16]) -> Answ
     ensures { λ r. ⌜ r ≡ answerOf (suppliedAnswer (now (bytes .entry)) (now (list .entry)) (now (work .entry)) (now (table .entry))) ⌝ }
     ensures { λ _. ⌜ now (work .exit) ≡ suppliedWork (now (bytes .entry)) (now (list .entry)) (now (work .entry)) (now (table .entry)) ⌝ }
 {
-    let reading = Contract::read(bytes);
-    let Reading::Accepted(c) = reading else {
-        return valuing::refused(reading.outcome());
-    };
-    let listing = Returns::read(list);
-    let Listing::Accepted(returns) = listing else {
-        return valuing::refused(listing.outcome());
+    let agreement = contract::read(bytes, list);
+    let Agreement::Accepted(c, returns) = agreement else {
+        return valuing::refused(agreement.outcome());
     };
     valued(c, list, returns.count, work, table)
 }

@@ -1,8 +1,8 @@
 -- The margin's arithmetic, and the layers as the rules write them. Assumes nothing.
-use mathlib.Core.Bool.{Bool, true, false, cond}
+use mathlib.Core.Bool.{Bool, true, false, cond, _||_}
 use mathlib.Core.List.{List, _++_}
 use mathlib.Core.Logic.{inl, inr, _⊎_}
-use mathlib.Core.Path.{_≡_, refl, ap, sym, _∙_, subst}
+use mathlib.Core.Path.{_≡_, refl, ap, ap₂, sym, _∙_, subst}
 use Prim.Native.Nat.{ℕ, zero, suc, _+_, _-_, _*_, _/_, _%_, _≤_, _<_}
 use native.Mathlib.Nat.{mod-lt, div-add-mod', div-lt-iff-lt-mul, zero-add}
 use native.Mathlib.Omega.{arith}
@@ -15,20 +15,26 @@ use Rattle.decision.specs.Process.{startValue, Attained}
 use Rattle.decision.specs.Layers.{lookup, layer, layers}
 use Rattle.slices.specs.Stored.{stored, length-stored, is-stored, stored-front}
 use Rattle.slices.specs.Rows.{cells, flat}
-use Rattle.rules.specs.Contract.{Terms, termsOf, Returns, returnsOf}
+use Rattle.rules.specs.Contract.{Terms, Returns}
 use Rattle.rules.specs.Date.{Behaviour, maturityValue, margin}
 use Rattle.rules.specs.Product.{contractValue, valueLayer, amountLayers, stateValue, recordedAmount, Claim}
 use Rattle.rules.specs.FixedTerm.{fixedTerm, processOf, expectOver, startOf, reachBy, layoutOf, layerSize}
-use Rattle.rules.specs.Refusals.{Verdict, accepted, refused, verdict, numberOf, placeOf, onSuccess, recordChecks, listChecks}
-use Rattle.rules.specs.Operations.{productOf, answer, workAfter, behaviourOf, tableSize, lentChecks, valuingChecks, valuingVerdict, valuingAnswer, valuingWork, valuingTable}
-use Rattle.laws.specs.Accepted.{Valid, andThen, parts-accepted, parts-refused}
+use Rattle.rules.specs.Refusals.{refused, verdict, numberOf, placeOf, onSuccess, short, recordChecks, listChecks}
+use Rattle.rules.specs.Operations.{productOf, answer, workAfter, behaviourOf, tableSize, lentChecks, valuingChecks, valuingVerdict, valuingAnswer, valuingTable}
+use Rattle.laws.specs.Accepted.{Valid, then-accepted, then-refused}
 use Rattle.laws.specs.FixedTerm.{size-some}
 use Rattle.laws.specs.ThirdDemand.{valuing-claim}
+use Rattle.laws.specs.Valuing.{behaviour-refused, lent-refused, lent-accepted}
+use Rattle.contract.specs.declared.Agreement.the-variants as agreement
+use Rattle.contract.specs.declared.Contract.{Contract}
+use Rattle.contract.specs.declared.Outcome.{Outcome}
 use Rattle.contract.specs.declared.Returns as listed
+use Rattle.contract.specs.Accepted.{Both, both-not-read}
+use Rattle.contract.specs.Reading.{termsIn, contractOf, outcomeAt, bothRead}
 use Rattle.expect.specs.Expected.{expected, reachedSum, Listing, expected-same}
 use Rattle.dates.specs.Back.{at, valuesOn, Valued, Starting}
 use Rattle.valuing.specs.declared.Answer as declared
-use Rattle.valuing.specs.Answered.{answerOf, refusal, Settled, Answered}
+use Rattle.valuing.specs.Answered.{valuingAgreed, Settled, Answered, Reported}
 use Rattle.valuing.specs.First.{First, first-layer, first-from, first-mature}
 
 pub diff : (a b : ℕ) → pos a -ℤ pos b ≡ subℕ a b
@@ -107,48 +113,56 @@ starting {c} {work' = work'} work valid listing known room room-table e = record
 }
 
 -- ---- what terms that were read answer
-module _ {b : Behaviour} {c : Terms} {rs : Returns} {v : Verdict} {work table : List ℕ} where
-  pub answered-refused : (n p : ℕ) (r : declared.Answer) → v ≡ refused n p → r ≡ refusal n p → Answered b c rs v work table r work table
-  unfolding answer workAfter onSuccess numberOf placeOf
-  answered-refused n p r e f = record { answer-is = rw e f; work-is = rw e; table-is = rw e }
+pub answered : {b : Behaviour} {c : Terms} {rs : Returns} {work table work' table' : List ℕ} (r : declared.Answer) (work'' : List ℕ)
+    → Valid c → layerSize c + layerSize c ≤ length work → tableSize c ≤ length table
+    → Valued b c rs work table work' table' 0 → Settled c rs work' r work'' → Answered b c rs work table r work'' table'
+unfolding answer workAfter onSuccess numberOf placeOf
+answered {b} {c} {rs} r work'' valid room room-table d s =
+    let value : r .value ≡ contractValue (fixedTerm c rs) b = s .value-is ∙ contract-value d valid in record {
+      answer-is = λ i. record {
+        number = s .number-is i;
+        place = s .place-is i;
+        value = value i;
+        margin = (s .margin-is ∙ ap (λ (x : ℕ). margin x (c .premium)) value) i;
+      };
+      work-is = s .work-is ∙ work-layers d room;
+      table-is = table-layers d room-table (size-some c);
+    }
 
-  pub answered-accepted : {work' table' : List ℕ} (r : declared.Answer) (work'' : List ℕ) → v ≡ accepted → Valid c
-      → layerSize c + layerSize c ≤ length work → tableSize c ≤ length table
-      → Valued b c rs work table work' table' 0 → Settled c rs work' r work'' → Answered b c rs v work table r work'' table'
-  unfolding answer workAfter onSuccess numberOf placeOf
-  answered-accepted r work'' e valid room room-table d s =
-      let value : r .value ≡ contractValue (fixedTerm c rs) b = s .value-is ∙ contract-value d valid in record {
-        answer-is = rw e (λ i. record {
-          number = s .number-is i;
-          place = s .place-is i;
-          value = value i;
-          margin = (s .margin-is ∙ ap (λ (x : ℕ). margin x (c .premium)) value) i;
-        });
-        work-is = rw e (s .work-is ∙ work-layers d room);
-        table-is = rw e (table-layers d room-table some);
-      }
-    where
-      some : 0 < layerSize c
-      some = size-some c
+-- ---- the checks of a valuation, one after the other
+module _ (bytes list : List ℕ) (behaviour : ℕ) (work table : List ℕ) where
+  check-refused : (n p : ℕ) → valuingVerdict bytes list behaviour work table ≡ refused n p
+      → agreement.Refused (outcomeAt n p) ≡ valuingAgreed bytes list behaviour work table
+  check-refused n p e = rw e
+
+  pub check-read : (o : Outcome) → bothRead bytes list ≡ agreement.Refused o → agreement.Refused o ≡ valuingAgreed bytes list behaviour work table
+  unfolding valuingVerdict valuingChecks
+  check-read o e = check-refused (o .number) (o .place) (then-refused (recordChecks bytes ++ listChecks list) _ (both-not-read bytes list o e))
+
+  module _ {c : Contract} {rs : listed.Returns} (known : Both bytes list c rs) where
+    lently : valuingVerdict bytes list behaviour work table ≡ verdict (lentChecks (termsIn c) behaviour work table)
+    unfolding valuingVerdict valuingChecks
+    lently = rw (known .terms) (then-accepted (recordChecks bytes ++ listChecks list) _ (known .accepts))
+
+    pub check-behaviour : ltb 2 behaviour ≡ true → agreement.Refused (outcomeAt 10 0) ≡ valuingAgreed bytes list behaviour work table
+    check-behaviour e = check-refused 10 0 (lently ∙ behaviour-refused (termsIn c) behaviour work table e)
+
+    pub check-short : ltb 2 behaviour ≡ false → (short (2 * layerSize (termsIn c)) work || short (tableSize (termsIn c)) table) ≡ true
+        → agreement.Refused (outcomeAt 11 0) ≡ valuingAgreed bytes list behaviour work table
+    check-short e f = check-refused 11 0 (lently ∙ lent-refused (termsIn c) behaviour work table e f)
+
+    pub check-passed : ltb 2 behaviour ≡ false → (short (2 * layerSize (termsIn c)) work || short (tableSize (termsIn c)) table) ≡ false
+        → agreement.Accepted c rs ≡ valuingAgreed bytes list behaviour work table
+    check-passed e f =
+        rw (lently ∙ lent-accepted (termsIn c) behaviour work table e f)
+        (ap₂ agreement.Accepted (ap contractOf (known .terms)) (ap (λ (n : ℕ). record { count = n }) (known .count)))
 
 -- ---- what a call answers, on any input
-module _ (bytes list : List ℕ) (behaviour : ℕ) (work table : List ℕ) (r : declared.Answer) (work' table' : List ℕ) where
-  pub record Whole : Type 0 where
-    pub answer-is : r ≡ answerOf (valuingAnswer bytes list behaviour work table)
-    pub work-is : work' ≡ valuingWork bytes list behaviour work table
-    pub table-is : table' ≡ valuingTable bytes list behaviour work table
-
-  -- terms and returns that were read
-  pub whole : verdict (recordChecks bytes) ≡ accepted → verdict (listChecks list) ≡ accepted → (c : Terms) → c ≡ termsOf bytes
-      → Answered (behaviourOf behaviour) c (returnsOf list) (verdict (lentChecks c behaviour work table)) work table r work' table' → Whole
-  unfolding valuingVerdict valuingChecks valuingAnswer valuingWork valuingTable productOf
-  whole e f c same a =
-      let all = parts-accepted (recordChecks bytes) (listChecks list) (lentChecks (termsOf bytes) behaviour work table) e f in
-      let b = subst (λ (x : Terms). Answered (behaviourOf behaviour) x (returnsOf list) (verdict (lentChecks x behaviour work table)) work table r work' table') same a in
-      record { answer-is = rw all (b .answer-is); work-is = rw all (b .work-is); table-is = rw all (b .table-is) }
-
+module _ (bytes list : List ℕ) (behaviour : ℕ) (work table : List ℕ) where
   -- the claim follows from the equations
-  pub claimed : Whole → r .number ≡ 0 → Claim (productOf bytes list) (behaviourOf behaviour) (r .value) table'
+  pub claimed : {r : declared.Answer} {work' table' : List ℕ} → Reported (valuingVerdict bytes list behaviour work table) bytes list behaviour work table r work' table'
+      → r .number ≡ 0 → Claim (productOf bytes list) (behaviourOf behaviour) (r .value) table'
+  unfolding valuingAnswer valuingTable
   claimed w zero-number =
       let X = productOf bytes list in
       let b = behaviourOf behaviour in
@@ -157,12 +171,3 @@ module _ (bytes list : List ℕ) (behaviour : ℕ) (work table : List ℕ) (r : 
         value = ap (λ (x : declared.Answer). x .value) (w .answer-is) ∙ told .value;
         attained = subst (λ (t : List ℕ). Attained (X .process) (X .admissible b) (X .layout .InRange) (lookup (X .layout) t)) (sym (w .table-is)) (told .attained);
       }
-
-module _ (bytes list : List ℕ) (behaviour : ℕ) (work table : List ℕ) (r : declared.Answer) where
-  -- a record or a list that was refused
-  pub whole-refused : (n p : ℕ) → andThen (verdict (recordChecks bytes)) (verdict (listChecks list)) ≡ refused n p → r ≡ refusal n p
-      → Whole bytes list behaviour work table r work table
-  unfolding valuingVerdict valuingChecks valuingAnswer valuingWork valuingTable answer workAfter onSuccess numberOf placeOf
-  whole-refused n p e f =
-      let all = parts-refused (recordChecks bytes) (listChecks list) (lentChecks (termsOf bytes) behaviour work table) e in
-      record { answer-is = rw all f; work-is = rw all; table-is = rw all }

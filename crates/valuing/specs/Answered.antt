@@ -1,19 +1,21 @@
 -- What the calls answer, and what the valuing of terms that were read leaves. Assumes nothing.
 use mathlib.Core.List.{List, _++_}
-use mathlib.Core.Path.{_≡_}
-use Prim.Native.Nat.{ℕ, _+_}
+use mathlib.Core.Path.{_≡_, subst}
+use Prim.Native.Nat.{ℕ, _+_, _≤_}
 use lib.IntN.{pos}
-use lib.ListN.{drop}
+use lib.ListN.{length, drop}
 use Rattle.slices.specs.Stored.{stored}
 use Rattle.slices.specs.Rows.{cells}
-use Rattle.rules.specs.Contract.{Terms, Returns}
+use Rattle.rules.specs.Contract.{Terms, Returns, termsOf, returnsOf}
 use Rattle.rules.specs.Date.{Behaviour, margin}
 use Rattle.rules.specs.Product.{contractValue, valueLayer, amountLayers}
 use Rattle.rules.specs.FixedTerm.{fixedTerm, layerSize}
-use Rattle.rules.specs.Refusals.{Verdict, onSuccess}
-use Rattle.rules.specs.Operations.{Answer, answer, workAfter, tableSize}
+use Rattle.rules.specs.Refusals.{Verdict, accepted, refused, numberOf, placeOf, onSuccess}
+use Rattle.rules.specs.Operations.{productOf, Answer, answer, workAfter, behaviourOf, tableSize, valuingVerdict, valuedAnswer, valuedWork, valuedTable}
 use Rattle.laws.specs.Accepted.{Valid}
 use Rattle.expect.specs.Expected.{expected, Listing, Layers}
+use Rattle.contract.specs.declared.Agreement.{Agreement}
+use Rattle.contract.specs.Reading.{agreementOf}
 use Rattle.valuing.specs.declared.Answer as declared
 
 -- the struct and the record of the rules hold the same fields
@@ -23,10 +25,22 @@ answerOf a = record { number = a .number; place = a .place; value = a .value; ma
 abbrev pub refusal : ℕ → ℕ → declared.Answer
 refusal n p = record { number = n; place = p; value = 0; margin = pos 0 }
 
+-- what is agreed once the checks of a valuation pass
+abbrev pub valuingAgreed : List ℕ → List ℕ → ℕ → List ℕ → List ℕ → Agreement
+valuingAgreed bytes list behaviour work table =
+    agreementOf (valuingVerdict bytes list behaviour work table) (termsOf bytes) (returnsOf list .count)
+
 -- terms and returns that were read
 pub record Ready (c : Terms) (count : ℕ) (list : List ℕ) : Type 0 where
   pub valid : Valid c
   pub listing : Listing list count
+
+-- .. and slices that are long enough, under a behaviour
+pub record Lent (behaviour : ℕ) (c : Terms) (count : ℕ) (list work table : List ℕ) : Type 0 where
+  pub known : behaviour ≤ 2
+  pub ready : Ready c count list
+  pub room : layerSize c + layerSize c ≤ length work
+  pub room-table : tableSize c ≤ length table
 
 pub record Settling (c : Terms) (count : ℕ) (work list : List ℕ) : Type 0 where
   pub listing : Listing list count
@@ -40,8 +54,26 @@ pub record Settled (c : Terms) (rs : Returns) (work : List ℕ) (r : declared.An
   pub margin-is : r .margin ≡ margin (r .value) (c .premium)
   pub work-is : work' ≡ stored work (layerSize c) (λ (i : ℕ). 0) (layerSize c)
 
--- the answer of a verdict, and both slices
-pub record Answered (b : Behaviour) (c : Terms) (rs : Returns) (v : Verdict) (work table : List ℕ) (r : declared.Answer) (work' table' : List ℕ) : Type 0 where
-  pub answer-is : r ≡ answerOf (answer v (contractValue (fixedTerm c rs) b) (c .premium))
-  pub work-is : work' ≡ workAfter v (layerSize c) (valueLayer (fixedTerm c rs) b) work
-  pub table-is : table' ≡ onSuccess v (amountLayers (fixedTerm c rs) b ++ drop (tableSize c) table) table
+-- the answer, and both slices
+pub record Answered (b : Behaviour) (c : Terms) (rs : Returns) (work table : List ℕ) (r : declared.Answer) (work' table' : List ℕ) : Type 0 where
+  pub answer-is : r ≡ answerOf (answer accepted (contractValue (fixedTerm c rs) b) (c .premium))
+  pub work-is : work' ≡ workAfter accepted (layerSize c) (valueLayer (fixedTerm c rs) b) work
+  pub table-is : table' ≡ amountLayers (fixedTerm c rs) b ++ drop (tableSize c) table
+
+-- ---- what a call that values reports and leaves, on any input
+pub record Reported (v : Verdict) (bytes list : List ℕ) (behaviour : ℕ) (work table : List ℕ) (r : declared.Answer) (work' table' : List ℕ) : Type 0 where
+  pub answer-is : r ≡ answerOf (valuedAnswer v bytes list behaviour)
+  pub work-is : work' ≡ valuedWork v bytes list behaviour work
+  pub table-is : table' ≡ valuedTable v bytes list behaviour table
+
+module _ {v : Verdict} {bytes list : List ℕ} {behaviour : ℕ} {work table : List ℕ} {r : declared.Answer} where
+  pub reported-refused : (n p : ℕ) → v ≡ refused n p → r ≡ refusal n p → Reported v bytes list behaviour work table r work table
+  unfolding answer workAfter onSuccess numberOf placeOf
+  reported-refused n p e f = record { answer-is = rw e f; work-is = rw e; table-is = rw e }
+
+  pub reported : {work' table' : List ℕ} {c : Terms} → v ≡ accepted → c ≡ termsOf bytes
+      → Answered (behaviourOf behaviour) c (returnsOf list) work table r work' table' → Reported v bytes list behaviour work table r work' table'
+  unfolding onSuccess productOf
+  reported {work' = work'} {table' = table'} e same a =
+      let b = subst (λ (x : Terms). Answered (behaviourOf behaviour) x (returnsOf list) work table r work' table') same a in
+      record { answer-is = rw e (b .answer-is); work-is = rw e (b .work-is); table-is = rw e (b .table-is) }

@@ -12,15 +12,18 @@ use Rattle.slices.specs.Rows.{cells, flat, layer-stored}
 use Rattle.rules.specs.Contract.{Terms, returnsOf}
 use Rattle.rules.specs.Date.{maturityValue}
 use Rattle.rules.specs.FixedTerm.{layerSize}
-use Rattle.laws.specs.Accepted.{Valid}
+use Rattle.rules.specs.Refusals.{recordChecks, listChecks}
+use Rattle.rules.specs.Operations.{valuingChecks, valuingVerdict}
+use Rattle.laws.specs.Accepted.{Valid, ValidReturns, then-earlier}
+use Rattle.laws.specs.Valuing.{valuing-room}
 use Rattle.contract.specs.declared.Outcome.{Outcome}
 use Rattle.contract.specs.declared.Contract.{Contract}
-use Rattle.contract.specs.declared.Returns as listed
+use Rattle.contract.specs.declared.Returns.{Returns}
 use Rattle.contract.specs.Reading.{termsIn}
-use Rattle.contract.specs.Accepted.{Read, Listed}
+use Rattle.contract.specs.Accepted.{Agreed, Both, agreed-both}
 use Rattle.expect.specs.Expected.{Listing}
 use Rattle.valuing.specs.declared.Answer as declared
-use Rattle.valuing.specs.Answered.{refusal, Ready, Settling}
+use Rattle.valuing.specs.Answered.{refusal, Ready, Lent, Settling}
 
 -- the first layer holds f, and what stands behind both layers is kept
 pub record First (f : ℕ → ℕ → ℕ) (c : Terms) (work work' : List ℕ) : Type 0 where
@@ -70,14 +73,26 @@ settling work valid listing room long = record { listing = listing; layers = rec
 abbrev pub refused-by : Outcome → declared.Answer
 refused-by o = refusal (o .number) (o .place)
 
-pub listing : {list : List ℕ} {returns : listed.Returns} → Listed list returns → Listing list (returns .count)
+pub listing : {list : List ℕ} (n : ℕ) → n ≡ returnsOf list .count → ValidReturns (returnsOf list) → Listing list n
 unfolding returnsOf
-listing {list} told = record {
-  few = rw (told .count) (told .valid .count);
-  long = rw (told .count) (let d = div-add-mod' (length list) 4 in omega arith);
-  valid = told .valid;
-  all = told .count;
+listing {list} n e valid = record {
+  few = rw e (valid .count);
+  long = rw e (let d = div-add-mod' (length list) 4 in omega arith);
+  valid = valid;
+  all = e;
 }
 
-pub ready : {bytes list : List ℕ} {c : Contract} {returns : listed.Returns} → Read bytes c → Listed list returns → Ready (termsIn c) (returns .count) list
-ready known told = record { valid = known .valid; listing = listing told }
+pub ready : {bytes list : List ℕ} {c : Contract} {rs : Returns} → Both bytes list c rs → Ready (termsIn c) (rs .count) list
+ready {rs = rs} known = record { valid = known .valid; listing = listing (rs .count) (known .count) (known .returns) }
+
+-- what a valuation that is accepted was given
+pub lent : (bytes list : List ℕ) (behaviour : ℕ) (work table : List ℕ) {c : Contract} {rs : Returns}
+    → Agreed (valuingVerdict bytes list behaviour work table) bytes list c rs → Lent behaviour (termsIn c) (rs .count) list work table
+unfolding valuingVerdict valuingChecks
+lent bytes list behaviour work table told =
+    let room = valuing-room bytes list behaviour work table (told .accepts) in record {
+      known = room .known;
+      ready = ready (agreed-both told (then-earlier (recordChecks bytes ++ listChecks list) _ (told .accepts)));
+      room = rw (told .terms) (room .layers);
+      room-table = rw (told .terms) (room .entries);
+    }

@@ -7,16 +7,14 @@ ghost use Rattle.rules.specs.Contract.{topMost, returnsOf};
 ghost use Rattle.rules.specs.Date.{margin};
 ghost use Rattle.rules.specs.Product.{Claim};
 ghost use Rattle.rules.specs.FixedTerm.{layerSize};
-ghost use Rattle.rules.specs.Refusals.{short, verdict};
-ghost use Rattle.rules.specs.Operations.{productOf, behaviourOf, tableSize, lentChecks, valuingAnswer, valuingWork, valuingTable};
+ghost use Rattle.rules.specs.Refusals.{short};
+ghost use Rattle.rules.specs.Operations.{productOf, behaviourOf, tableSize, valuingAnswer, valuingWork, valuingTable};
 ghost use Rattle.laws.specs.Accepted.{Valid};
 ghost use Rattle.contract.specs.Reading.{termsIn};
-ghost use Rattle.valuing.specs.Answered.{answerOf, refusal, Ready, Settling, Settled, Answered};
+ghost use Rattle.valuing.specs.Answered.{answerOf, refusal, valuingAgreed, Lent, Settling, Settled, Answered};
+use contract::Agreement;
 use contract::Contract;
-use contract::Listing;
 use contract::Outcome;
-use contract::Reading;
-use contract::Returns;
 
 pub struct Answer {
     pub number: u32,
@@ -71,8 +69,31 @@ pub fn settle(work: &mut [u32], list: &[u8], count: usize, c: Contract) -> Answe
     }
 }
 
-// Values a contract whose terms and returns were read.
-fn valued(
+// What a valuation is given, checked in order: record, list, behaviour, the lengths of the slices.
+pub fn check(bytes: &[u8], list: &[u8], behaviour: usize, work: &[u32], table: &[u16]) -> Agreement
+    ensures { λ r. ⌜ r ≡ valuingAgreed (now (bytes .entry)) (now (list .entry)) behaviour (now (work .entry)) (now (table .entry)) ⌝ }
+{
+    let agreement = contract::read(bytes, list);
+    let Agreement::Accepted(c, _) = agreement else {
+        return agreement;
+    };
+    if 2 < behaviour {
+        return Agreement::Refused(Outcome {
+            number: 10,
+            place: 0,
+        });
+    }
+    if too_short(c, work, table) {
+        return Agreement::Refused(Outcome {
+            number: 11,
+            place: 0,
+        });
+    }
+    agreement
+}
+
+// Values a contract whose checks have passed.
+pub fn valued(
     c: Contract,
     list: &[u8],
     count: usize,
@@ -80,21 +101,9 @@ fn valued(
     work: &mut [u32],
     table: &mut [u16],
 ) -> Answer
-    requires { ⌜ Ready (termsIn c) count (now list) ⌝ }
-    ensures { λ r. ⌜ Answered (behaviourOf behaviour) (termsIn c) (returnsOf (now (list .entry))) (verdict (lentChecks (termsIn c) behaviour (now (work .entry)) (now (table .entry)))) (now (work .entry)) (now (table .entry)) r (now (work .exit)) (now (table .exit)) ⌝ }
+    requires { ⌜ Lent behaviour (termsIn c) count (now list) (now work) (now table) ⌝ }
+    ensures { λ r. ⌜ Answered (behaviourOf behaviour) (termsIn c) (returnsOf (now (list .entry))) (now (work .entry)) (now (table .entry)) r (now (work .exit)) (now (table .exit)) ⌝ }
 {
-    if 2 < behaviour {
-        return refused(Outcome {
-            number: 10,
-            place: 0,
-        });
-    }
-    if too_short(c, &work[..], &table[..]) {
-        return refused(Outcome {
-            number: 11,
-            place: 0,
-        });
-    }
     dates::fill_maturity(work, c.premium + 1, c.top + 1);
     dates::all_dates(behaviour, work, table, list, count, c);
     settle(work, list, count, c)
@@ -113,13 +122,9 @@ pub fn value(
     ensures { λ _. ⌜ now (table .exit) ≡ valuingTable (now (bytes .entry)) (now (list .entry)) behaviour (now (work .entry)) (now (table .entry)) ⌝ }
     ensures { λ r. ⌜ (r .number ≡ 0 → Claim (productOf (now (bytes .entry)) (now (list .entry))) (behaviourOf behaviour) (r .value) (now (table .exit))) ⌝ }
 {
-    let reading = Contract::read(bytes);
-    let Reading::Accepted(c) = reading else {
-        return refused(reading.outcome());
-    };
-    let listing = Returns::read(list);
-    let Listing::Accepted(returns) = listing else {
-        return refused(listing.outcome());
+    let agreement = check(bytes, list, behaviour, &work[..], &table[..]);
+    let Agreement::Accepted(c, returns) = agreement else {
+        return refused(agreement.outcome());
     };
     valued(c, list, returns.count, behaviour, work, table)
 }

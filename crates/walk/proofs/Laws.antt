@@ -20,7 +20,7 @@ use Rattle.rules.specs.Product.{walkState, walkAmount, walkCash}
 use Rattle.rules.specs.FixedTerm.{State, startOf, reachBy, afterIn, cashIn, freeIn, admissibleIn, processOf, layoutOf, fixedTerm}
 use Rattle.rules.specs.Refusals.{Verdict, accepted, refused, verdict, numberOf, placeOf, onSuccess, recordChecks, listChecks}
 use Rattle.rules.specs.Operations.{productOf, tableSize, badDate, pathChecks, walkChecks, walkVerdict, walkCashes}
-use Rattle.laws.specs.Accepted.{Valid, not-not, andThen, parts-accepted, parts-refused}
+use Rattle.laws.specs.Accepted.{Valid, not-not, then-accepted, then-refused}
 use Rattle.contract.specs.declared.Outcome.{Outcome}
 use Rattle.contract.specs.Reading.{outcomeAt, outcomeOf}
 use Rattle.expect.specs.Expected.{Listing}
@@ -134,18 +134,18 @@ module _ (bytes list table path cashes : List ℕ) (r : Outcome) where
     pub outcome-is : r ≡ outcomeOf (walkVerdict bytes list table path cashes)
     pub cash-is : cashes' ≡ walkCashes bytes list table path cashes
 
-  pub whole : (cashes' : List ℕ) → verdict (recordChecks bytes) ≡ accepted → verdict (listChecks list) ≡ accepted → (c : Terms) → c ≡ termsOf bytes
+  pub whole : (cashes' : List ℕ) → verdict (recordChecks bytes ++ listChecks list) ≡ accepted → (c : Terms) → c ≡ termsOf bytes
       → Walked c (returnsOf list) (verdict (pathChecks c (returnsOf list) table path cashes)) table path cashes r cashes' → Whole cashes'
   unfolding walkVerdict walkChecks walkCashes productOf
-  whole cashes' e f c same a =
-      let all = parts-accepted (recordChecks bytes) (listChecks list) (pathChecks (termsOf bytes) (returnsOf list) table path cashes) e f in
+  whole cashes' e c same a =
+      let all = then-accepted (recordChecks bytes ++ listChecks list) (pathChecks (termsOf bytes) (returnsOf list) table path cashes) e in
       let b = subst (λ (x : Terms). Walked x (returnsOf list) (verdict (pathChecks x (returnsOf list) table path cashes)) table path cashes r cashes') same a in
       record { outcome-is = rw all (b .outcome-is); cash-is = rw all (b .cash-is) }
 
-  pub whole-refused : (n p : ℕ) → andThen (verdict (recordChecks bytes)) (verdict (listChecks list)) ≡ refused n p → r ≡ outcomeAt n p → Whole cashes
+  pub whole-refused : (n p : ℕ) → verdict (recordChecks bytes ++ listChecks list) ≡ refused n p → r ≡ outcomeAt n p → Whole cashes
   unfolding walkVerdict walkChecks walkCashes onSuccess numberOf placeOf
   whole-refused n p e f =
-      let all = parts-refused (recordChecks bytes) (listChecks list) (pathChecks (termsOf bytes) (returnsOf list) table path cashes) e in
+      let all = then-refused (recordChecks bytes ++ listChecks list) (pathChecks (termsOf bytes) (returnsOf list) table path cashes) e in
       record { outcome-is = rw all f; cash-is = rw all }
 
 -- every number on the path is that of a return

@@ -17,11 +17,9 @@ ghost use Rattle.contract.specs.Reading.{termsIn, outcomeAt, outcomeOf};
 ghost use Rattle.dates.specs.Back.{at};
 ghost use Rattle.valuing.specs.Answered.{Ready};
 ghost use Rattle.walk.specs.Walked.{Walking, Met, paid, paidLast, Walked};
+use contract::Agreement;
 use contract::Contract;
-use contract::Listing;
 use contract::Outcome;
-use contract::Reading;
-use contract::Returns;
 
 // The account and guarantee that are met.
 pub struct Place {
@@ -222,13 +220,9 @@ pub fn walk(bytes: &[u8], list: &[u8], table: &[u16], path: &[u16], cash: &mut [
     ensures { λ r. ⌜ r ≡ outcomeOf (walkVerdict (now (bytes .entry)) (now (list .entry)) (now (table .entry)) (now (path .entry)) (now (cash .entry))) ⌝ }
     ensures { λ _. ⌜ now (cash .exit) ≡ walkCashes (now (bytes .entry)) (now (list .entry)) (now (table .entry)) (now (path .entry)) (now (cash .entry)) ⌝ }
 {
-    let reading = Contract::read(bytes);
-    let Reading::Accepted(c) = reading else {
-        return reading.outcome();
-    };
-    let listing = Returns::read(list);
-    let Listing::Accepted(returns) = listing else {
-        return listing.outcome();
+    let agreement = contract::read(bytes, list);
+    let Agreement::Accepted(c, returns) = agreement else {
+        return agreement.outcome();
     };
     walked(c, list, returns.count, table, path, cash)
 }

@@ -3,7 +3,7 @@ use Prim.Native.Nat.{ℕ, _*_}
 use borrow.Author.Needs.{needs}
 use mathlib.Core.Path.{ap, ap₂, sym, _∙_}
 use native.Mathlib.Omega.{arith}
-use Rattle.contract.specs.Accepted.{read-accepted, read-refused, list-accepted, list-refused}
+use Rattle.contract.specs.Accepted.{both-read, both-not-read}
 use Rattle.report.specs.Tables.{tableLine}
 use Rattle.report.specs.Text.{put-none, put-eq, put-most}
 use Rattle.rules.specs.Contract.{Terms, termsOf, returnsOf}
@@ -15,8 +15,8 @@ use Rattle.report.proofs.all_lines.Tie as tie
 read-requires : tie.Need-read-requires
 read-requires c κs = search needs
 
-enum-known-reading : tie.Need-enum-known-reading
-enum-known-reading c = search needs
+enum-known-agreement : tie.Need-enum-known-agreement
+enum-known-agreement c = search needs
 
 enum-told : tie.Need-enum-told
 enum-told c = search needs
@@ -24,9 +24,7 @@ enum-told c = search needs
 returns : tie.Need-returns
 returns c =
     let args = c .before .before .before .before .before .before .before .before .before .args in
-    let pre = c .before .before .before .before .before .before .before .before .before .pre in
-    let read = c .before .before .read in
-    absurd (not-both (pre .0 .record-accepted) (read-refused (args .bytes .now) _ (sym (read .ensures) ∙ c .enum-told .given .1)))
+    absurd (not-both (c .before .before .before .before .before .before .before .before .before .pre .0 .accepts) (both-not-read (args .bytes .now) (args .list .now) _ (sym (c .before .before .read .ensures) ∙ c .enum-told .given .1)))
 
 returns-2 : tie.Need-returns-2
 unfolding linesOf
@@ -34,70 +32,36 @@ returns-2 c =
     let args = c .before .before .before .before .before .before .before .before .before .before .before .before .args in
     let bytes₀ = args .bytes .now in
     let list₀ = args .list .now in
-    let read = c .before .before .before .before .before .read in
-    let reading = c .before .before .before .reading in
-    let known = read-accepted bytes₀ _ (sym (read .ensures) ∙ reading .given .1) in
-    put-eq (ap (linesOf (tableLine (termsOf bytes₀) (returnsOf list₀) (args .statics .now) (args .mixeds .now) (args .dynamics .now))) (sym (no-lines list₀ known (c .if1 .taken)))) (put-none _ _ _)
-
-read-requires-2 : tie.Need-read-requires-2
-read-requires-2 c κs = search needs
-
-enum-known-listing : tie.Need-enum-known-listing
-enum-known-listing c = search needs
-
-enum-told-2 : tie.Need-enum-told-2
-enum-told-2 c = search needs
-
-returns-3 : tie.Need-returns-3
-returns-3 c =
-    let args = c .before .before .before .before .before .before .before .before .before .before .before .before .before .before .before .args in
-    let pre = c .before .before .before .before .before .before .before .before .before .before .before .before .before .before .before .pre in
-    let read2 = c .before .before .read2 in
-    absurd (not-both (pre .0 .list-accepted) (list-refused (args .list .now) _ (sym (read2 .ensures) ∙ c .enum-told2 .given .1)))
+    let known = both-read bytes₀ list₀ _ _ (sym (c .before .before .before .before .before .read .ensures) ∙ c .before .before .before .agreement .given .1) in
+    put-eq (ap (linesOf (tableLine (termsOf bytes₀) (returnsOf list₀) (args .statics .now) (args .mixeds .now) (args .dynamics .now))) (sym (no-lines known (c .if1 .taken)))) (put-none _ _ _)
 
 return-lines-requires : tie.Need-return-lines-requires
 return-lines-requires c κs =
-    let args = c .before .before .before .before .before .before .before .before .before .before .before .before .before .before .before .before .before .args in
-    let pre = c .before .before .before .before .before .before .before .before .before .before .before .before .before .before .before .before .before .pre in
-    let read = c .before .before .before .before .before .before .before .before .before .before .read in
-    let reading = c .before .before .before .before .before .before .before .before .reading in
-    let if1 = c .before .before .before .before .before .if1 in
-    let read2 = c .before .before .before .before .read2 in
-    let listing = c .before .before .listing in
-    let known = read-accepted (args .bytes .now) _ (sym (read .ensures) ∙ reading .given .1) in
-    let listed = list-accepted (args .list .now) _ (sym (read2 .ensures) ∙ listing .given .1) in
-    (tabled known listed (if1 .left) (pre .0), omega (arith, pre .1, listed .count, listed .valid .count))
+    let args = c .before .before .before .before .before .before .before .before .before .before .before .before .before .args in
+    let pre = c .before .before .before .before .before .before .before .before .before .before .before .before .before .pre in
+    let known = both-read (args .bytes .now) (args .list .now) _ _ (sym (c .before .before .before .before .before .before .read .ensures) ∙ c .before .before .before .before .agreement .given .1) in
+    (tabled known (c .before .if1 .left) (pre .0), omega (arith, pre .1, known .count, known .returns .count))
 
 same-length : tie.Need-same-length
 same-length c = search needs
 
-returns-4 : tie.Need-returns-4
-returns-4 c =
-    let args = c .before .before .before .before .before .before .before .before .before .before .before .before .before .before .before .before .before .before .before .before .args in
+returns-3 : tie.Need-returns-3
+returns-3 c =
+    let args = c .before .before .before .before .before .before .before .before .before .before .before .before .before .before .before .before .args in
     let list₀ = args .list .now in
-    let read = c .before .before .before .before .before .before .before .before .before .before .before .before .before .read in
-    let reading = c .before .before .before .before .before .before .before .before .before .before .before .reading in
-    let if1 = c .before .before .before .before .before .before .before .before .if1 in
-    let read2 = c .before .before .before .before .before .before .before .read2 in
-    let listing = c .before .before .before .before .before .listing in
-    let return-lines = c .before .before .return-lines in
-    let known = read-accepted (args .bytes .now) _ (sym (read .ensures) ∙ reading .given .1) in
-    let listed = list-accepted list₀ _ (sym (read2 .ensures) ∙ listing .given .1) in
-    put-eq (ap₂ (λ (t : Terms) (n : ℕ). linesOf (tableLine t (returnsOf list₀) (args .statics .now) (args .mixeds .now) (args .dynamics .now)) n) (known .terms) (listed .count ∙ sym (some-lines list₀ known (if1 .left)))) (put-most {m = 126 * listing .given .0 .0 .count} (omega (arith, listed .count, listed .valid .count)) (return-lines .ensures))
+    let agreement = c .before .before .before .before .before .before .before .agreement in
+    let known = both-read (args .bytes .now) list₀ _ _ (sym (c .before .before .before .before .before .before .before .before .before .read .ensures) ∙ agreement .given .1) in
+    put-eq (ap₂ (λ (t : Terms) (n : ℕ). linesOf (tableLine t (returnsOf list₀) (args .statics .now) (args .mixeds .now) (args .dynamics .now)) n) (known .terms) (known .count ∙ sym (some-lines known (c .before .before .before .before .if1 .left)))) (put-most {m = 126 * agreement .given .0 .1 .0 .count} (omega (arith, known .count, known .returns .count)) (c .before .before .return-lines .ensures))
 
 pub all-lines-spec : {M : Type 1} → statement M
 all-lines-spec =
     tie.close
     (tie.spec
     read-requires
-    enum-known-reading
+    enum-known-agreement
     enum-told
     returns
     returns-2
-    read-requires-2
-    enum-known-listing
-    enum-told-2
-    returns-3
     return-lines-requires
     same-length
-    returns-4)
+    returns-3)

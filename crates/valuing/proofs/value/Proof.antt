@@ -1,22 +1,22 @@
 -- `valuing::value` meets its contract. Assumes nothing.
 use borrow.Author.Needs.{needs}
-use mathlib.Core.Path.{sym, ap, ap₂, _∙_}
-use Rattle.contract.specs.Accepted.{read-accepted, read-refused, list-accepted, list-refused}
-use Rattle.contract.specs.Reading.{readingVerdict, listingVerdict, outcomeOf}
-use Rattle.contract.specs.declared.Listing.{Listing}
-use Rattle.contract.specs.declared.Reading.{Reading}
-use Rattle.laws.specs.Accepted.{andThen}
-use Rattle.rules.specs.Refusals.{Verdict, verdict, numberOf, placeOf, listChecks}
-use Rattle.valuing.specs.First.{refused-by, ready}
-use Rattle.valuing.proofs.Laws.{whole, whole-refused, claimed}
+use mathlib.Core.Path.{sym, ap, _∙_}
+use Rattle.contract.specs.Accepted.{agreed, disagreed}
+use Rattle.contract.specs.Reading.{agreementVerdict, outcomeOf}
+use Rattle.contract.specs.declared.Agreement.{Agreement}
+use Rattle.rules.specs.Operations.{valuingVerdict, valuingAnswer, valuingWork, valuingTable}
+use Rattle.rules.specs.Refusals.{numberOf, placeOf}
+use Rattle.valuing.specs.Answered.{reported, reported-refused}
+use Rattle.valuing.specs.First.{refused-by, lent}
+use Rattle.valuing.proofs.Laws.{claimed}
 use Rattle.valuing.proofs.value.Statement.{statement}
 use Rattle.valuing.proofs.value.Tie as tie
 
-read-requires : tie.Need-read-requires
-read-requires c κs = search needs
+check-requires : tie.Need-check-requires
+check-requires c κs = search needs
 
-enum-known-reading : tie.Need-enum-known-reading
-enum-known-reading c = search needs
+enum-known-agreement : tie.Need-enum-known-agreement
+enum-known-agreement c = search needs
 
 enum-told : tie.Need-enum-told
 enum-told c = search needs
@@ -27,110 +27,63 @@ outcome-requires c κs = search needs
 refused-requires : tie.Need-refused-requires
 refused-requires c κs = search needs
 
-returns : tie.Need-returns
-unfolding numberOf placeOf
-returns c =
-    let args = c .before .before .before .before .before .before .before .before .before .args in
-    let bytes₀ = args .bytes .now in
-    let table₀ = args .table .now in
-    let list₀ = args .list .now in
-    let behaviour₀ = args .behaviour in
-    let work₀ = args .work .now in
-    let read = c .before .before .before .before .read in
-    let enum-told-of = c .before .before .enum-told in
-    let told = enum-told-of .given .1 in
-    let refusal = read-refused bytes₀ _ (sym (read .ensures) ∙ told) in
-    let outcome = c .before .outcome .ensures ∙ ap (λ (r : Reading). outcomeOf (readingVerdict r)) told in
-    let w = whole-refused bytes₀ list₀ behaviour₀ work₀ table₀ (c .refused .result) _ _ (ap (λ (v : Verdict). andThen v (verdict (listChecks list₀))) refusal) (c .refused .ensures ∙ ap refused-by outcome) in
-    (w .answer-is, (w .work-is, (w .table-is, claimed bytes₀ list₀ behaviour₀ work₀ table₀ _ _ _ w)))
-
-read-requires-2 : tie.Need-read-requires-2
-read-requires-2 c κs = search needs
-
-enum-known-listing : tie.Need-enum-known-listing
-enum-known-listing c = search needs
-
-enum-told-2 : tie.Need-enum-told-2
-enum-told-2 c = search needs
-
-outcome-requires-2 : tie.Need-outcome-requires-2
-outcome-requires-2 c κs = search needs
-
-refused-requires-2 : tie.Need-refused-requires-2
-refused-requires-2 c κs = search needs
-
-returns-2 : tie.Need-returns-2
-unfolding numberOf placeOf
-returns-2 c =
-    let args = c .before .before .before .before .before .before .before .before .before .before .before .before .before .args in
-    let bytes₀ = args .bytes .now in
-    let table₀ = args .table .now in
-    let list₀ = args .list .now in
-    let behaviour₀ = args .behaviour in
-    let work₀ = args .work .now in
-    let read = c .before .before .before .before .before .before .before .before .read in
-    let reading = c .before .before .before .before .before .before .reading in
-    let read2 = c .before .before .before .before .read2 in
-    let enum-told2 = c .before .before .enum-told2 in
-    let known = read-accepted bytes₀ _ (sym (read .ensures) ∙ reading .given .1) in
-    let told = enum-told2 .given .1 in
-    let refusal = list-refused list₀ _ (sym (read2 .ensures) ∙ told) in
-    let outcome = c .before .outcome2 .ensures ∙ ap (λ (r : Listing). outcomeOf (listingVerdict r)) told in
-    let w = whole-refused bytes₀ list₀ behaviour₀ work₀ table₀ (c .refused2 .result) _ _ (ap₂ andThen (known .accepts) refusal) (c .refused2 .ensures ∙ ap refused-by outcome) in
-    (w .answer-is, (w .work-is, (w .table-is, claimed bytes₀ list₀ behaviour₀ work₀ table₀ _ _ _ w)))
-
-valued-requires : tie.Need-valued-requires
-valued-requires c κs =
-    let args = c .before .before .before .before .before .before .before .before .before .before .before .before .before .before .args in
-    let read = c .before .before .before .before .before .before .before .before .before .read in
-    let reading = c .before .before .before .before .before .before .before .reading in
-    let read2 = c .before .before .before .before .before .read2 in
-    let listing = c .before .before .before .listing in
-    let known = read-accepted (args .bytes .now) _ (sym (read .ensures) ∙ reading .given .1) in
-    let listed = list-accepted (args .list .now) _ (sym (read2 .ensures) ∙ listing .given .1) in
-    ready known listed
-
 same-length : tie.Need-same-length
 same-length c = search needs
 
 same-length-2 : tie.Need-same-length-2
 same-length-2 c = search needs
 
-returns-3 : tie.Need-returns-3
-returns-3 c =
-    let args = c .before .before .before .before .before .before .before .before .before .before .before .before .before .before .before .before .before .before .before .args in
+returns : tie.Need-returns
+unfolding valuingAnswer valuingWork valuingTable numberOf placeOf
+returns c =
+    let args = c .before .before .before .before .before .before .before .before .before .before .before .args in
     let bytes₀ = args .bytes .now in
-    let table₀ = args .table .now in
     let list₀ = args .list .now in
-    let behaviour₀ = args .behaviour in
     let work₀ = args .work .now in
-    let read = c .before .before .before .before .before .before .before .before .before .before .before .before .before .before .read in
-    let reading = c .before .before .before .before .before .before .before .before .before .before .before .before .reading in
-    let read2 = c .before .before .before .before .before .before .before .before .before .before .read2 in
-    let listing = c .before .before .before .before .before .before .before .before .listing in
-    let valued = c .before .before .before .before .valued in
-    let known = read-accepted bytes₀ _ (sym (read .ensures) ∙ reading .given .1) in
-    let listed = list-accepted list₀ _ (sym (read2 .ensures) ∙ listing .given .1) in
-    let w = whole bytes₀ list₀ behaviour₀ work₀ table₀ (valued .result) (valued .last .1 .1 .1 .1 .0) (valued .last .1 .1 .1 .1 .1 .0) (known .accepts) (listed .accepts) _ (known .terms) (valued .ensures) in
-    (w .answer-is, (w .work-is, (w .table-is, claimed bytes₀ list₀ behaviour₀ work₀ table₀ _ _ _ w)))
+    let table₀ = args .table .now in
+    let told = c .before .before .enum-told .given .1 in
+    let outcome = c .before .outcome .ensures ∙ ap (λ (r : Agreement). outcomeOf (agreementVerdict r)) told in
+    let refusal = disagreed (valuingVerdict bytes₀ list₀ (args .behaviour) work₀ table₀) bytes₀ list₀ _ (sym (c .before .before .before .before .check .ensures) ∙ told) in
+    let w = reported-refused _ _ refusal (c .refused .ensures ∙ ap refused-by outcome) in
+    (w .answer-is, (w .work-is, (w .table-is, claimed bytes₀ list₀ (args .behaviour) work₀ table₀ w)))
+
+valued-requires : tie.Need-valued-requires
+valued-requires c κs =
+    let args = c .before .before .before .before .before .before .before .before .before .before .before .before .args in
+    lent (args .bytes .now) (args .list .now) (args .behaviour) (args .work .now) (args .table .now)
+    (agreed _ (args .bytes .now) (args .list .now) _ _ (sym (c .before .before .before .before .before .check .ensures) ∙ c .before .before .before .agreement .given .1))
+
+same-length-3 : tie.Need-same-length-3
+same-length-3 c = search needs
+
+same-length-4 : tie.Need-same-length-4
+same-length-4 c = search needs
+
+returns-2 : tie.Need-returns-2
+unfolding valuingAnswer valuingWork valuingTable
+returns-2 c =
+    let args = c .before .before .before .before .before .before .before .before .before .before .before .before .before .before .before .before .before .args in
+    let bytes₀ = args .bytes .now in
+    let list₀ = args .list .now in
+    let work₀ = args .work .now in
+    let table₀ = args .table .now in
+    let told = agreed (valuingVerdict bytes₀ list₀ (args .behaviour) work₀ table₀) bytes₀ list₀ _ _ (sym (c .before .before .before .before .before .before .before .before .before .before .check .ensures) ∙ c .before .before .before .before .before .before .before .before .agreement .given .1) in
+    let w = reported (told .accepts) (told .terms) (c .before .before .before .before .valued .ensures) in
+    (w .answer-is, (w .work-is, (w .table-is, claimed bytes₀ list₀ (args .behaviour) work₀ table₀ w)))
 
 pub value-spec : {M : Type 1} → statement M
 value-spec =
     tie.close
     (tie.spec
-    read-requires
-    enum-known-reading
+    check-requires
+    enum-known-agreement
     enum-told
     outcome-requires
     refused-requires
-    returns
-    read-requires-2
-    enum-known-listing
-    enum-told-2
-    outcome-requires-2
-    refused-requires-2
-    returns-2
-    valued-requires
     same-length
     same-length-2
-    returns-3)
+    returns
+    valued-requires
+    same-length-3
+    same-length-4
+    returns-2)

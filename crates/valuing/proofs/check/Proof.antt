@@ -1,0 +1,53 @@
+-- `valuing::check` meets its contract. Assumes nothing.
+use borrow.Author.Needs.{needs}
+use borrow.Author.Tests.{lt-ltb, le-ltb}
+use mathlib.Core.Path.{sym, _∙_}
+use Rattle.contract.specs.Accepted.{both-read}
+use Rattle.valuing.proofs.Laws.{check-read, check-behaviour, check-short, check-passed}
+use Rattle.valuing.proofs.check.Statement.{statement}
+use Rattle.valuing.proofs.check.Tie as tie
+
+read-requires : tie.Need-read-requires
+read-requires c κs = search needs
+
+enum-known-agreement : tie.Need-enum-known-agreement
+enum-known-agreement c = search needs
+
+enum-told : tie.Need-enum-told
+enum-told c = search needs
+
+returns : tie.Need-returns
+returns c =
+    let told = c .enum-told .given .1 in
+    told ∙ check-read _ _ _ _ _ _ (sym (c .before .before .read .ensures) ∙ told)
+
+returns-2 : tie.Need-returns-2
+returns-2 c =
+    let known = both-read _ _ _ _ (sym (c .before .before .before .before .read .ensures) ∙ c .before .before .agreement .given .1) in
+    check-behaviour _ _ _ _ _ known (lt-ltb _ _ (c .if1 .taken))
+
+too-short-requires : tie.Need-too-short-requires
+too-short-requires c κs = both-read _ _ _ _ (sym (c .before .before .before .before .read .ensures) ∙ c .before .before .agreement .given .1) .valid
+
+returns-3 : tie.Need-returns-3
+returns-3 c =
+    let known = both-read _ _ _ _ (sym (c .before .before .before .before .before .before .read .ensures) ∙ c .before .before .before .before .agreement .given .1) in
+    check-short _ _ _ _ _ known (le-ltb _ _ (c .before .before .if1 .left)) (sym (c .before .too-short .ensures) ∙ c .if2 .taken)
+
+returns-4 : tie.Need-returns-4
+returns-4 c =
+    let known = both-read _ _ _ _ (sym (c .before .before .before .before .before .before .read .ensures) ∙ c .before .before .before .before .agreement .given .1) in
+    check-passed _ _ _ _ _ known (le-ltb _ _ (c .before .before .if1 .left)) (sym (c .before .too-short .ensures) ∙ c .if2 .left)
+
+pub check-spec : {M : Type 1} → statement M
+check-spec =
+    tie.close
+    (tie.spec
+    read-requires
+    enum-known-agreement
+    enum-told
+    returns
+    returns-2
+    too-short-requires
+    returns-3
+    returns-4)
