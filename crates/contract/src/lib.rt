@@ -7,6 +7,10 @@ ghost use lib.ListN.{length};
 ghost use Rattle.decision.specs.Index.{sum, first};
 ghost use Rattle.rules.specs.Contract.{word, topMost, rateMost, returnBytes, returnsMost, returnsOf};
 ghost use Rattle.rules.specs.Refusals.{outside, verdict, termsChecks, badReturn};
+ghost use Rattle.rules.specs.FixedTerm.{layerSize};
+ghost use Rattle.rules.specs.Operations.{tableSize};
+ghost use Rattle.laws.specs.Accepted.{Valid};
+ghost use Rattle.laws.specs.FixedTerm.{layerMost, tableMost};
 ghost use Rattle.contract.specs.Reading.{readingOf, readingVerdict, listingVerdict, agreementVerdict, outcomeOf, refusedReading, refusedListing, termsIn, recordRead, listRead, bothRead};
 
 // A number and its place: 0 and 0 for success.
@@ -212,6 +216,23 @@ impl Contract {
             spare: word(bytes, 18),
         };
         c.checked()
+    }
+}
+
+impl Contract {
+    // The entries of a layer, and of a table.
+    pub fn layer_size(self) -> usize
+        requires { ⌜ Valid (termsIn self) ⌝ }
+        ensures { λ r. ⌜ (r ≡ layerSize (termsIn self)) × (r ≤ layerMost) ⌝ }
+    {
+        (self.top + 1) * (self.premium + 1)
+    }
+
+    pub fn table_size(self) -> usize
+        requires { ⌜ Valid (termsIn self) ⌝ }
+        ensures { λ r. ⌜ (r ≡ tableSize (termsIn self)) × (r ≤ tableMost) ⌝ }
+    {
+        (self.dates - 1) * self.layer_size()
     }
 }
 

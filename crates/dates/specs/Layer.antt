@@ -2,7 +2,7 @@
 use mathlib.Core.List.{List}
 use mathlib.Core.Path.{_≡_, refl, ap, _∙_}
 use Prim.Native.Nat.{ℕ, _+_, _-_, _*_, _≤_, _<_}
-use native.Mathlib.Nat.{le-trans, mul-le-mul}
+use native.Mathlib.Nat.{le-trans}
 use native.Mathlib.Omega.{arith}
 use lib.ListN.{length, getD}
 use borrow.Rule.Slice.PartMut.{midOf, mid-len}
@@ -12,18 +12,7 @@ use Rattle.slices.specs.Rows.{within-rows, rows-le, rows-before}
 use Rattle.rules.specs.Contract.{Terms}
 use Rattle.rules.specs.FixedTerm.{layerSize, layoutOf}
 use Rattle.rules.specs.Operations.{tableSize}
-use Rattle.laws.specs.Accepted.{Valid}
 use Rattle.dates.specs.Back.{at}
-
--- a layer has at most 4,001 × 4,001 entries, and the table 39 of them
-pub size-le : {c : Terms} → Valid c → (c .top + 1) * (c .premium + 1) ≤ 16008001
-size-le {c} v =
-    let w : c .top + 1 ≤ 4001 = omega (arith, v .top) in
-    let a : c .premium + 1 ≤ 4001 = omega (arith, v .premium, v .top) in
-    mul-le-mul w a
-
-pub dates-le : {c : Terms} → Valid c → (c .dates - 1) * ((c .top + 1) * (c .premium + 1)) ≤ 39 * 16008001
-dates-le {c} v = let d : c .dates - 1 ≤ 39 = omega (arith, v .dates) in mul-le-mul d (size-le v)
 
 -- "the layer of date i starts at entry (i − 1) × (top + 1) × (U + 1)"; it stands in the table
 pub record DateLayer (c : Terms) (i from to : ℕ) : Type 0 where

@@ -94,7 +94,7 @@ pub fn layer_of(c: Contract, i: usize) -> Part
     requires { ⌜ Valid (termsIn c) × (0 < i) × (i < c .dates) ⌝ }
     ensures { λ r. ⌜ DateLayer (termsIn c) i (r .from) (r .to) ⌝ }
 {
-    let size = (c.top + 1) * (c.premium + 1);
+    let size = c.layer_size();
     let from = (i - 1) * size;
     Part {
         from,

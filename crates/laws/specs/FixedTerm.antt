@@ -1,6 +1,6 @@
 -- The fixed-term contract is sound: it owes the third demand nothing more. Assumes nothing.
-use Prim.Native.Nat.{ℕ, _+_, _*_, _≤_, _<_}
-use native.Mathlib.Nat.{le-refl, le-trans, min-le-left, mul-le-mul-left, mul-pos}
+use Prim.Native.Nat.{ℕ, _+_, _-_, _*_, _≤_, _<_}
+use native.Mathlib.Nat.{le-refl, le-trans, min-le-left, mul-le-mul, mul-le-mul-left, mul-pos}
 use native.Mathlib.Omega.{arith}
 use Rattle.decision.specs.Index.{sum-le}
 use Rattle.decision.specs.Process.{Monotone, Open, Closed}
@@ -8,6 +8,7 @@ use Rattle.decision.specs.Layers.{Placed, low-digit, high-digit, two-digits}
 use Rattle.rules.specs.Contract.{Terms, Returns}
 use Rattle.rules.specs.Date.{Behaviour, largestAmount, nextAccount, discounted}
 use Rattle.rules.specs.FixedTerm.{InRange, freeIn, admissibleIn, limitIn, afterIn, reachBy, expectOver, startOf, processOf, layerSize, layoutOf, fixedTerm}
+use Rattle.rules.specs.Operations.{tableSize}
 use Rattle.laws.specs.Accepted.{Valid}
 use Rattle.laws.specs.Date.{static-mixed, mixed-dynamic, admits-free, admits-within, guarantee-le}
 use Rattle.laws.specs.Demand.{Sound}
@@ -44,7 +45,25 @@ pub size-some : (c : Terms) → 0 < layerSize c
 unfolding layerSize
 size-some c = mul-pos {m = c .top + 1} {n = c .premium + 1} (omega arith) (omega arith)
 
-placed : (c : Terms) → Placed (layoutOf c)
+-- a layer has at most 4,001 × 4,001 entries, and the table 39 layers
+abbrev pub layerMost : ℕ
+layerMost = 16008001
+
+abbrev pub tableMost : ℕ
+tableMost = 624312039
+
+pub size-most : {c : Terms} → Valid c → layerSize c ≤ layerMost
+unfolding layerSize
+size-most {c} v =
+    let w : c .top + 1 ≤ 4001 = omega (arith, v .top) in
+    let a : c .premium + 1 ≤ 4001 = omega (arith, v .premium, v .top) in
+    mul-le-mul w a
+
+pub table-most : {c : Terms} → Valid c → tableSize c ≤ tableMost
+unfolding tableSize
+table-most {c} v = let d : c .dates - 1 ≤ 39 = omega (arith, v .dates) in mul-le-mul d (size-most v)
+
+pub placed : (c : Terms) → Placed (layoutOf c)
 unfolding layoutOf layerSize
 placed c = record {
   placed = λ s g. two-digits (s .account) (s .guarantee) (c .top + 1) (c .premium + 1) (omega (arith, g .account)) (omega (arith, g .guarantee));

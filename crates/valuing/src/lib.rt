@@ -46,11 +46,10 @@ pub fn too_short(c: Contract, work: &[u32], table: &[u16]) -> bool
     requires { ⌜ Valid (termsIn c) ⌝ }
     ensures { λ r. ⌜ r ≡ (short (2 * layerSize (termsIn c)) (now (work .entry)) || short (tableSize (termsIn c)) (now (table .entry))) ⌝ }
 {
-    let size = (c.top + 1) * (c.premium + 1);
-    if work.len() < 2 * size {
+    if work.len() < 2 * c.layer_size() {
         return true;
     }
-    table.len() < (c.dates - 1) * size
+    table.len() < c.table_size()
 }
 
 // The answer and the working slice, once the first layer holds the values of date 1.
@@ -59,7 +58,7 @@ pub fn settle(work: &mut [u32], list: &[u8], count: usize, c: Contract) -> Answe
     ensures { λ r. ⌜ Settled (termsIn c) (returnsOf (now (list .entry))) (now (work .entry)) r (now (work .exit)) ⌝ }
 {
     let value = expect::start_value(&work[..], list, count, c);
-    let size = (c.top + 1) * (c.premium + 1);
+    let size = c.layer_size();
     dates::clear(work, size, size);
     Answer {
         number: 0,

@@ -32,8 +32,7 @@ fn too_short(c: Contract, table: &[u16], cash: &[u32]) -> bool
     requires { ⌜ Valid (termsIn c) ⌝ }
     ensures { λ r. ⌜ r ≡ (short (tableSize (termsIn c)) (now (table .entry)) || short (c .dates) (now (cash .entry))) ⌝ }
 {
-    let size = (c.top + 1) * (c.premium + 1);
-    if table.len() < (c.dates - 1) * size {
+    if table.len() < c.table_size() {
         return true;
     }
     cash.len() < c.dates

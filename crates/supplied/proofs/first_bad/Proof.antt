@@ -9,7 +9,7 @@ use Rattle.decision.specs.Index.{Searched, search-none, search-end, run-hit, ru
 use Rattle.rules.specs.FixedTerm.{layerSize}
 use Rattle.rules.specs.Operations.{tableSize, badEntry}
 use Rattle.slices.specs.Rows.{rows-step, rows-le}
-use Rattle.dates.specs.Layer.{size-le, dates-le}
+use Rattle.laws.specs.FixedTerm.{size-most, table-most}
 use Rattle.supplied.proofs.Laws.{search-fits, search-same}
 use Rattle.supplied.proofs.first_bad.Statement.{statement}
 use Rattle.supplied.proofs.first_bad.Tie as tie
@@ -27,7 +27,8 @@ add-size-2 : tie.Need-add-size-2 Inv-loop μ-loop
 add-size-2 c = omega (arith, c .before .before .before .pre .0 .premium, c .before .before .before .pre .0 .top)
 
 mul-size : tie.Need-mul-size Inv-loop μ-loop
-mul-size c = let s = size-le (c .before .before .before .pre .0) in omega arith
+unfolding layerSize
+mul-size c = let s = size-most (c .before .before .before .pre .0) in omega arith
 
 sub-last : tie.Need-sub-last Inv-loop μ-loop
 sub-last c = omega (arith, c .before .before .before .before .pre .0 .dates-least)
@@ -41,7 +42,7 @@ mul-from c =
     let args = c .before .before .before .before .before .before .args in
     let pre = c .before .before .before .before .before .before .pre in
     let f = search-fits (termsIn (args .c)) (args .table .now) (c .before .loop .j) (c .loop-test .taken) in
-    let d = dates-le (pre .0) in
+    let d = table-most (pre .0) in
     let s = rows-step ((args .c .top + 1) * (args .c .premium + 1)) (c .before .loop .j) in
     omega (arith, pre .1)
 
@@ -54,7 +55,7 @@ mul-to c =
     let args = c .before .before .before .before .before .before .args in
     let pre = c .before .before .before .before .before .before .pre in
     let f = search-fits (termsIn (args .c)) (args .table .now) (c .before .loop .j) (c .loop-test .taken) in
-    let d = dates-le (pre .0) in
+    let d = table-most (pre .0) in
     let s = rows-step ((args .c .top + 1) * (args .c .premium + 1)) (c .before .loop .j) in
     omega (arith, pre .1)
 
@@ -64,7 +65,7 @@ mul-first-in-layer c =
     let args = c .before .before .before .before .before .before .args in
     let pre = c .before .before .before .before .before .before .pre in
     let f = search-fits (termsIn (args .c)) (args .table .now) (c .before .loop .j) (c .loop-test .taken) in
-    let d = dates-le (pre .0) in
+    let d = table-most (pre .0) in
     let s = rows-step ((args .c .top + 1) * (args .c .premium + 1)) (c .before .loop .j) in
     omega (arith, pre .1)
 
@@ -74,7 +75,7 @@ sub-first-in-layer c =
     let args = c .before .before .before .before .before .before .args in
     let pre = c .before .before .before .before .before .before .pre in
     let f = search-fits (termsIn (args .c)) (args .table .now) (c .before .loop .j) (c .loop-test .taken) in
-    let d = dates-le (pre .0) in
+    let d = table-most (pre .0) in
     let s = rows-step ((args .c .top + 1) * (args .c .premium + 1)) (c .before .loop .j) in
     omega (arith, pre .1)
 
@@ -84,7 +85,7 @@ part-first-in-layer-start c =
     let args = c .before .before .before .before .before .before .args in
     let pre = c .before .before .before .before .before .before .pre in
     let f = search-fits (termsIn (args .c)) (args .table .now) (c .before .loop .j) (c .loop-test .taken) in
-    let d = dates-le (pre .0) in
+    let d = table-most (pre .0) in
     let s = rows-step ((args .c .top + 1) * (args .c .premium + 1)) (c .before .loop .j) in
     omega (arith, pre .1)
 
@@ -94,7 +95,7 @@ part-first-in-layer-end c =
     let args = c .before .before .before .before .before .before .args in
     let pre = c .before .before .before .before .before .before .pre in
     let f = search-fits (termsIn (args .c)) (args .table .now) (c .before .loop .j) (c .loop-test .taken) in
-    let d = dates-le (pre .0) in
+    let d = table-most (pre .0) in
     let s = rows-step ((args .c .top + 1) * (args .c .premium + 1)) (c .before .loop .j) in
     omega (arith, pre .1)
 
@@ -119,7 +120,7 @@ add-result c =
     let j' = loop .j in
     let loop-test = c .before .before .before .loop-test in
     let f = search-fits (termsIn (args .c)) (args .table .now) j' (loop-test .taken) in
-    let d = dates-le (pre .0) in
+    let d = table-most (pre .0) in
     let s = rows-step ((args .c .top + 1) * (args .c .premium + 1)) j' in
     omega (arith, pre .1)
 
@@ -153,7 +154,7 @@ loop-again c =
 
 mul-result : tie.Need-mul-result Inv-loop μ-loop
 unfolding layerSize tableSize
-mul-result c = let d = dates-le (c .before .before .before .before .before .before .pre .0) in omega (arith, c .before .loop .inv .within)
+mul-result c = let d = table-most (c .before .before .before .before .before .before .pre .0) in omega (arith, c .before .loop .inv .within)
 
 returns-2 : tie.Need-returns-2 Inv-loop μ-loop
 unfolding layerSize tableSize

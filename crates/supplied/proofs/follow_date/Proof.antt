@@ -1,7 +1,8 @@
 -- `supplied::follow_date` meets its contract. Assumes nothing.
 use borrow.Author.Needs.{needs}
 use native.Mathlib.Omega.{arith}
-use Rattle.dates.specs.Layer.{size-le}
+use Rattle.laws.specs.FixedTerm.{size-most}
+use Rattle.rules.specs.FixedTerm.{layerSize}
 use Rattle.supplied.proofs.Laws.{following, back}
 use Rattle.supplied.proofs.follow_date.Statement.{statement}
 use Rattle.supplied.proofs.follow_date.Tie as tie
@@ -16,7 +17,8 @@ expect-layer-requires : tie.Need-expect-layer-requires
 expect-layer-requires c κs = search needs
 
 mul-follow-layer : tie.Need-mul-follow-layer
-mul-follow-layer c = let s = size-le (c .before .before .before .before .before .before .before .before .before .before .pre .layers .valid) in omega arith
+unfolding layerSize
+mul-follow-layer c = let s = size-most (c .before .before .before .before .before .before .before .before .before .before .pre .layers .valid) in omega arith
 
 follow-layer-requires : tie.Need-follow-layer-requires
 follow-layer-requires c κs =

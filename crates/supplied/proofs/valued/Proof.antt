@@ -12,7 +12,7 @@ use Rattle.laws.specs.Valuing.{lent-room}
 use Rattle.rules.specs.FixedTerm.{layerSize}
 use Rattle.rules.specs.Operations.{tableSize}
 use Rattle.valuing.specs.Answered.{refusal}
-use Rattle.dates.specs.Layer.{size-le, dates-le}
+use Rattle.laws.specs.FixedTerm.{size-most, table-most}
 use Rattle.valuing.specs.First.{first-from, settling}
 use Rattle.supplied.proofs.Laws.{answered-refused, answered-accepted, starting}
 use Rattle.supplied.proofs.valued.Statement.{statement}
@@ -49,10 +49,12 @@ add-if2-2 : tie.Need-add-if2-2
 add-if2-2 c = search needs
 
 mul-if2 : tie.Need-mul-if2
-mul-if2 c = let s = size-le (c .before .before .before .before .before .before .before .before .before .before .pre .valid) in omega arith
+unfolding layerSize
+mul-if2 c = let s = size-most (c .before .before .before .before .before .before .before .before .before .before .pre .valid) in omega arith
 
 mul-if2-2 : tie.Need-mul-if2-2
-mul-if2-2 c = let s = dates-le (c .before .before .before .before .before .before .before .before .before .before .pre .valid) in omega arith
+unfolding layerSize tableSize
+mul-if2-2 c = let s = table-most (c .before .before .before .before .before .before .before .before .before .before .pre .valid) in omega arith
 
 refused-requires-2 : tie.Need-refused-requires-2
 refused-requires-2 c κs = search needs

@@ -1,16 +1,14 @@
 -- `valuing::settle` meets its contract. Assumes nothing.
-use Prim.Native.Nat.{_*_, _^_}
-use borrow.Author.Needs.{needs}
-use borrow.Author.Needs.{sfits-of}
-use mathlib.Core.Path.{_∙_}
-use mathlib.Core.Path.{refl}
+use Prim.Native.Nat.{ℕ, _*_, _^_}
+use borrow.Author.Needs.{needs, sfits-of}
+use mathlib.Core.Path.{refl, ap, _∙_}
 use mir.Facts.{toZ-ofZ}
 use mir.Syntax.{w64}
 use mir.Val.{SFits}
 use native.Mathlib.Omega.{arith}
 use Rattle.rules.specs.Date.{margin}
 use Rattle.rules.specs.FixedTerm.{layerSize}
-use Rattle.dates.specs.Layer.{size-le}
+use Rattle.slices.specs.Stored.{stored}
 use Rattle.valuing.proofs.Laws.{mag-sub}
 use Rattle.valuing.proofs.settle.Statement.{statement}
 use Rattle.valuing.proofs.settle.Tie as tie
@@ -18,18 +16,11 @@ use Rattle.valuing.proofs.settle.Tie as tie
 start-value-requires : tie.Need-start-value-requires
 start-value-requires c κs = search needs
 
-add-size : tie.Need-add-size
-add-size c = search needs
-
-add-size-2 : tie.Need-add-size-2
-add-size-2 c = search needs
-
-mul-size : tie.Need-mul-size
-mul-size c = let s = size-le (c .before .before .before .before .before .before .pre .layers .valid) in omega arith
+layer-size-requires : tie.Need-layer-size-requires
+layer-size-requires c κs = search needs
 
 clear-requires : tie.Need-clear-requires
-unfolding layerSize
-clear-requires c κs = c .before .before .before .before .before .before .before .pre .layers .room
+clear-requires c κs = rw (c .before .layer-size .ensures .0) (c .before .before .before .before .before .before .pre .layers .room)
 
 margin-requires : tie.Need-margin-requires
 margin-requires c κs = search needs
@@ -40,27 +31,17 @@ same-length c = search needs
 margin-fits : (c : tie.After-margin) → SFits w64 (c .margin .result)
 unfolding margin
 margin-fits c =
-    let args = c .before .before .before .before .before .before .before .before .before .before .before .args in
-    let pre = c .before .before .before .before .before .before .before .before .before .before .before .pre in
-    let start-value = c .before .before .before .before .before .before .before .start-value in
-    rw (c .margin .ensures) (sfits-of (mag-sub (start-value .result) (10000 * args .c .premium) (2 ^ 63) (omega arith) (omega (arith, pre .layers .valid .premium, pre .layers .valid .top))))
+    let valid = c .before .before .before .before .before .before .before .before .before .before .pre .layers .valid in
+    rw (c .margin .ensures) (sfits-of (mag-sub (c .before .before .before .before .before .before .start-value .result) (10000 * c .before .before .before .before .before .before .before .before .before .before .args .c .premium) (2 ^ 63) (omega arith) (omega (arith, valid .premium, valid .top))))
 
 returns : tie.Need-returns
-unfolding layerSize
-returns c =
-    let start-value = c .before .before .before .before .before .before .before .start-value in
-    let clear = c .before .before .before .clear in
-    record { number-is = refl; place-is = refl; value-is = start-value .ensures; margin-is = toZ-ofZ (margin-fits c) ∙ c .margin .ensures; work-is = clear .ensures }
+returns c = record {
+  number-is = refl;
+  place-is = refl;
+  value-is = c .before .before .before .before .before .before .start-value .ensures;
+  margin-is = toZ-ofZ (margin-fits c) ∙ c .margin .ensures;
+  work-is = c .before .before .before .clear .ensures ∙ ap (λ (n : ℕ). stored (c .before .before .before .before .before .before .before .before .before .before .args .work .now) n (λ (i : ℕ). 0) n) (c .before .before .before .before .before .layer-size .ensures .0);
+}
 
 pub settle-spec : {M : Type 1} → statement M
-settle-spec =
-    tie.close
-    (tie.spec
-    start-value-requires
-    add-size
-    add-size-2
-    mul-size
-    clear-requires
-    margin-requires
-    same-length
-    returns)
+settle-spec = tie.close (tie.spec start-value-requires layer-size-requires clear-requires margin-requires same-length returns)

@@ -1,41 +1,32 @@
 -- `valuing::too_short` meets its contract. Assumes nothing.
+use Prim.Native.Nat.{ℕ}
 use borrow.Author.Needs.{needs}
 use borrow.Author.Tests.{lt-ltb, le-ltb}
-use native.Mathlib.Omega.{arith}
-use Rattle.rules.specs.FixedTerm.{layerSize}
-use Rattle.rules.specs.Operations.{tableSize}
+use lib.Dec.{ltb}
+use lib.ListN.{length}
+use mathlib.Core.Path.{ap}
 use Rattle.rules.specs.Refusals.{short}
-use Rattle.dates.specs.Layer.{size-le, dates-le}
 use Rattle.valuing.proofs.too_short.Statement.{statement}
 use Rattle.valuing.proofs.too_short.Tie as tie
 
-add-size : tie.Need-add-size
-add-size c = search needs
-
-add-size-2 : tie.Need-add-size-2
-add-size-2 c = search needs
-
-mul-size : tie.Need-mul-size
-mul-size c = let s = size-le (c .before .before .pre) in omega arith
+layer-size-requires : tie.Need-layer-size-requires
+layer-size-requires c κs = search needs
 
 mul-if1 : tie.Need-mul-if1
-mul-if1 c = let s = size-le (c .before .before .pre) in omega arith
+mul-if1 c = search needs
 
 returns : tie.Need-returns
-unfolding short layerSize
-returns c = rw (lt-ltb _ _ (c .if1 .taken))
+unfolding short
+returns c = rw (lt-ltb _ _ (rw (c .before .layer-size .ensures .0) at (c .if1 .taken)))
 
-sub-result : tie.Need-sub-result
-sub-result c = search needs
-
-mul-result : tie.Need-mul-result
-mul-result c = let s = dates-le (c .before .before .before .before .pre) in omega arith
+table-size-requires : tie.Need-table-size-requires
+table-size-requires c κs = search needs
 
 returns-2 : tie.Need-returns-2
-unfolding short layerSize tableSize
-returns-2 c = rw (le-ltb _ _ (c .before .if1 .left))
+unfolding short
+returns-2 c =
+    rw (le-ltb _ _ (rw (c .before .before .layer-size .ensures .0) at (c .before .if1 .left)))
+    (ap (λ (n : ℕ). ltb (length (c .before .before .before .before .before .args .table .now)) n) (c .table-size .ensures .0))
 
 pub too-short-spec : {M : Type 1} → statement M
-too-short-spec =
-    tie.close
-    (tie.spec add-size add-size-2 mul-size mul-if1 returns sub-result mul-result returns-2)
+too-short-spec = tie.close (tie.spec layer-size-requires mul-if1 returns table-size-requires returns-2)
