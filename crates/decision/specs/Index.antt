@@ -1,14 +1,14 @@
 -- Functions of an index: their sum, their list, and the first index that passes a test. Assumes nothing.
 use mathlib.Core.Bool.{Bool, true, false}
 use mathlib.Core.List.{List, [], _∷_, _++_}
-use mathlib.Core.Path.{_≡_, refl, ap, sym, subst, _∙_}
+use mathlib.Core.Path.{_≡_, refl, ap, ap₂, sym, subst, _∙_}
 use Prim.Native.Nat.{ℕ, zero, suc, _+_, _-_, _*_, _≤_, _<_}
-use native.Mathlib.Nat.{le-refl, add-le-add}
+use native.Mathlib.Nat.{le-refl, add-le-add, add-zero}
 use native.Mathlib.Decide.{decLe}
 use native.Mathlib.Numerals.{add-one}
 use native.Mathlib.Omega.{arith}
 use lib.Dec.{T}
-use lib.ListN.{getD, length}
+use lib.ListN.{getD, length, replicate}
 
 -- f 0 + f 1 + .. + f (n - 1)
 unfoldable pub sum : (ℕ → ℕ) → ℕ → ℕ
@@ -48,11 +48,32 @@ unfolding sum
 sum-times f c zero = omega arith
 sum-times f c (suc n) = let e = sum-times f c n in omega arith
 
+pub sum-append : (f : ℕ → ℕ) (a b : ℕ) → sum f (a + b) ≡ sum f a + sum (λ k. f (a + k)) b
+unfolding sum
+sum-append f a zero = rw (add-zero a) (omega arith)
+sum-append f a (suc b) =
+    let e : a + suc b ≡ suc (a + b) = omega arith in
+    let before = sum-append f a b in
+    rw e (omega arith)
+
+pub sum-zeros : (f : ℕ → ℕ) (n : ℕ) → ((k : ℕ) → k < n → f k ≡ 0) → sum f n ≡ 0
+unfolding sum
+sum-zeros f zero h = refl
+sum-zeros f (suc n) h =
+    let before = sum-zeros f n (λ k l. h k (omega arith)) in
+    let last = h n (le-refl (suc n)) in
+    omega arith
+
 -- ---- lists
 pub length-tabulate : (n : ℕ) (f : ℕ → ℕ) → length (tabulate n f) ≡ n
 unfolding tabulate
 length-tabulate zero f = refl
 length-tabulate (suc n) f = ap suc (length-tabulate n (λ k. f (suc k)))
+
+pub tabulate-zeros : (n : ℕ) (f : ℕ → ℕ) → ((k : ℕ) → k < n → f k ≡ 0) → tabulate n f ≡ replicate n 0
+unfolding tabulate
+tabulate-zeros zero f h = refl
+tabulate-zeros (suc n) f h = ap₂ _∷_ (h 0 (omega arith)) (tabulate-zeros n (λ k. f (suc k)) (λ k l. h (suc k) (omega arith)))
 
 -- with anything behind
 pub getD-tabulate : (n e : ℕ) (f : ℕ → ℕ) (rest : List ℕ) → e < n → getD (tabulate n f ++ rest) e 0 ≡ f e
