@@ -1,8 +1,8 @@
 //! `check`: all programs against the plain one on random small contracts, with ties frequent,
-//! some of them spoilt so that they are refused.
+//! some of them spoilt so that they are refused; without a map of surrender and with one.
 
 use crate::inputs::{Input, Return, Terms, DYNAMIC, SPARE};
-use crate::programs::{Program, ENGINE, PLAIN, TUNED};
+use crate::programs::{Program, ENGINE, ENGINE_MAP, PLAIN, PLAIN_MAP, TUNED, TUNED_MAP};
 
 const CONTRACTS: u64 = 600;
 
@@ -67,13 +67,14 @@ fn random_returns(draw: &mut Draw) -> Vec<Return> {
 /// Changes one thing. Most of the changes are refused.
 fn spoil(draw: &mut Draw, input: &mut Input) {
     let byte = draw.next() as u8;
-    match draw.within(0, 6) {
+    match draw.within(0, 7) {
         0 => input.behaviour = 3,
         1 => input.work_len -= SPARE + 1,
         2 => input.table_len = input.table_len.saturating_sub(SPARE + 1),
         3 => input.list.truncate(draw.within(0, 3) as usize),
         4 => input.record.truncate(draw.within(0, 19) as usize),
         5 => input.record[draw.within(0, 19) as usize] = byte,
+        6 => input.map_len = input.map_len.saturating_sub(SPARE + 1),
         _ => {
             let last = input.list.len() as u64 - 1;
             input.list[draw.within(0, last) as usize] = byte;
@@ -96,46 +97,50 @@ fn large_values() -> Input {
     terms.input(&[(30_000, 10_000)], DYNAMIC)
 }
 
-/// Gives the number told, and whether all programs agree.
-fn agree(name: &str, input: &Input) -> (u64, bool) {
-    let (plain, _) = PLAIN.run(input);
+/// The plain program, then the others, without a map and with one.
+const ALIKE: [[Program; 3]; 2] = [[PLAIN, TUNED, ENGINE], [PLAIN_MAP, TUNED_MAP, ENGINE_MAP]];
+
+/// Gives the number told, and whether the other programs agree with the plain one.
+fn agree(name: &str, input: &Input, [plain, others @ ..]: [Program; 3]) -> (u64, bool) {
+    let (outcome, _) = plain.run(input);
     let differs = |program: &Program| {
-        let difference = program.run(input).0.difference(&plain);
+        let difference = program.run(input).0.difference(&outcome);
         if let Some(what) = &difference {
-            eprintln!("differ: {name}: {} from plain: {what}", program.name);
+            eprintln!(
+                "differ: {name}: {} from {}: {what}",
+                program.name, plain.name
+            );
         }
         difference.is_some()
     };
-    let differing = [TUNED, ENGINE].iter().filter(|p| differs(p)).count();
-    (plain.told.number, differing == 0)
+    let differing = others.iter().filter(|p| differs(p)).count();
+    (outcome.told.number, differing == 0)
 }
 
 /// Makes all comparisons, prints how many and gives whether all programs agree.
 pub fn run() -> bool {
     let mut draw = Draw(20_240_601);
     let (mut valued, mut refused, mut differing) = (0, 0, 0);
-    let mut count = |(number, equal): (u64, bool)| {
-        valued += u64::from(number == 0);
-        refused += u64::from(number != 0);
-        differing += u64::from(!equal);
+    let mut compare = |name: String, input: &Input| {
+        for programs in ALIKE {
+            let (number, equal) = agree(&name, input, programs);
+            valued += u64::from(number == 0);
+            refused += u64::from(number != 0);
+            differing += u64::from(!equal);
+        }
     };
     for k in 0..CONTRACTS {
         let terms = random_terms(&mut draw, if k % 10 == 0 { 60 } else { 16 });
         let returns = random_returns(&mut draw);
         for behaviour in 0..=DYNAMIC {
             let mut input = terms.input(&returns, behaviour);
-            count(agree(
-                &format!("contract {k}, behaviour {behaviour}"),
-                &input,
-            ));
+            let name = format!("contract {k}, behaviour {behaviour}");
+            compare(name.clone(), &input);
             spoil(&mut draw, &mut input);
-            count(agree(
-                &format!("spoilt contract {k}, behaviour {behaviour}"),
-                &input,
-            ));
+            compare(format!("spoilt {name}"), &input);
         }
     }
-    count(agree("large values", &large_values()));
+    compare("large values".to_string(), &large_values());
     println!("check: {valued} valued, {refused} refused, {differing} differ");
     differing == 0
 }

@@ -31,6 +31,8 @@ pub struct Input {
     pub behaviour: u64,
     pub work_len: usize,
     pub table_len: usize,
+    /// Lent where the call takes a map.
+    pub map_len: usize,
 }
 
 impl Terms {
@@ -53,12 +55,14 @@ impl Terms {
             list.extend(weight.to_le_bytes());
         }
         let layer = (usize::from(self.top) + 1) * (usize::from(self.premium) + 1);
+        let entries = (usize::from(self.dates) - 1) * layer;
         Input {
             record,
             list,
             behaviour,
             work_len: 2 * layer + SPARE,
-            table_len: (usize::from(self.dates) - 1) * layer + SPARE,
+            table_len: entries + SPARE,
+            map_len: entries.div_ceil(64) + SPARE,
         }
     }
 }

@@ -1,5 +1,5 @@
 //! Times the proved engine against the plain program and the tuned one, in one process and on
-//! the same inputs. Exit status 1 if their answers, tables or working slices differ.
+//! the same inputs. Exit status 1 if their answers, tables, working slices or maps differ.
 //! With the word `check` it times nothing and compares them on random small contracts.
 
 mod check;
@@ -10,7 +10,7 @@ mod programs;
 mod tuned;
 
 use inputs::{Input, Size, DYNAMIC, MIXED, STATIC};
-use programs::{Outcome, Program, ENGINE, PLAIN, TUNED};
+use programs::{Outcome, Program, ENGINE, ENGINE_MAP, PLAIN, TUNED, TUNED_MAP};
 use std::process::ExitCode;
 use std::thread;
 
@@ -255,6 +255,32 @@ fn time_rates(heading: &str, name: &str, sizes: &[Size], rate: fn(&Size) -> u16)
     right
 }
 
+/// Engine and tuned with a map of surrender and without.
+fn time_maps() -> bool {
+    println!("\nwith a map of surrender (top 400, U 200, G 10, N 20, 32 returns)");
+    println!("             engine                             tuned                           with a map");
+    println!("behaviour   without       with  with/without    without       with  with/without  tuned/engine");
+    let programs = [ENGINE_MAP, TUNED_MAP, ENGINE, TUNED];
+    let mut right = true;
+    for (name, behaviour) in [("dynamic", DYNAMIC), ("static", STATIC), ("mixed", MIXED)] {
+        let (seconds, equal) = timed(&programs, &at_penalty(500), behaviour);
+        right &= equal;
+        let [engine_map, tuned_map, engine, tuned] = seconds[..] else {
+            return false;
+        };
+        let columns = |without: f64, with: f64| {
+            format!("{without:>11.5}{with:>11.5}{:>14.3}", with / without)
+        };
+        println!(
+            "{name:<8}{}{}{:>14.3}",
+            columns(engine, engine_map),
+            columns(tuned, tuned_map),
+            tuned_map / engine_map
+        );
+    }
+    right
+}
+
 fn time_all() -> bool {
     let cores = thread::available_parallelism().map_or(0, |n| n.get());
     println!("cores   {cores}; each program uses one");
@@ -266,9 +292,10 @@ fn time_all() -> bool {
     }
     right &= time_rates("penalty rates", "penalty", &PENALTIES, |s| s.penalty);
     right &= time_rates("steps from penalty 2,000", "step", &STEPS, |s| s.step);
+    right &= time_maps();
     if right {
         println!(
-            "\nnumbers, values, margins, tables and working slices are equal among all that ran"
+            "\nnumbers, values, margins, tables, working slices, maps and counts are equal among all that ran"
         );
     }
     right

@@ -1,32 +1,49 @@
-//! The three programs behind one shape of call, and what a run of one leaves.
+//! The three programs, each without a map of surrender and with one, and what a run of one
+//! leaves.
 
 use crate::inputs::Input;
 use crate::{gmwb, tuned};
-use gmwb::Valued;
+use gmwb::{Mapped, Valued};
 use std::time::Instant;
 
-type Valuing = fn(&[u8], &[u8], u64, &mut [u32], &mut [u16]) -> Valued;
+#[derive(Clone, Copy)]
+enum Call {
+    Value(fn(&[u8], &[u8], u64, &mut [u32], &mut [u16]) -> Valued),
+    ValueMap(fn(&[u8], &[u8], u64, &mut [u32], &mut [u16], &mut [u64]) -> Mapped),
+}
 
 #[derive(Clone, Copy)]
 pub struct Program {
     pub name: &'static str,
-    valuing: Valuing,
+    call: Call,
 }
 
 /// The proved engine, through the C interface (include/gmwb.h).
 pub const ENGINE: Program = Program {
     name: "engine",
-    valuing: engine,
+    call: Call::Value(engine),
+};
+pub const ENGINE_MAP: Program = Program {
+    name: "engine with a map",
+    call: Call::ValueMap(engine_map),
 };
 /// second/gmwb.rs.
 pub const PLAIN: Program = Program {
     name: "plain",
-    valuing: gmwb::value,
+    call: Call::Value(gmwb::value),
+};
+pub const PLAIN_MAP: Program = Program {
+    name: "plain with a map",
+    call: Call::ValueMap(gmwb::value_map),
 };
 /// bench/tuned.rs.
 pub const TUNED: Program = Program {
     name: "tuned",
-    valuing: tuned::value,
+    call: Call::Value(tuned::value),
+};
+pub const TUNED_MAP: Program = Program {
+    name: "tuned with a map",
+    call: Call::ValueMap(tuned::value_map),
 };
 
 extern "C" {
@@ -43,6 +60,23 @@ extern "C" {
         place: *mut u64,
         value: *mut u32,
         margin: *mut i64,
+    ) -> u32;
+    fn gmwb_value_map(
+        record: *const u8,
+        record_len: usize,
+        list: *const u8,
+        list_len: usize,
+        behaviour: u64,
+        work: *mut u32,
+        work_len: usize,
+        table: *mut u16,
+        table_len: usize,
+        map: *mut u64,
+        map_len: usize,
+        place: *mut u64,
+        value: *mut u32,
+        margin: *mut i64,
+        count: *mut u64,
     ) -> u32;
 }
 
@@ -80,11 +114,50 @@ fn engine(
     }
 }
 
-/// All that a valuing call tells and leaves.
+fn engine_map(
+    record: &[u8],
+    list: &[u8],
+    behaviour: u64,
+    work: &mut [u32],
+    table: &mut [u16],
+    map: &mut [u64],
+) -> Mapped {
+    let (mut place, mut value, mut margin, mut count) = (0, 0, 0, 0);
+    // SAFETY: as in `engine`.
+    let number = unsafe {
+        gmwb_value_map(
+            record.as_ptr(),
+            record.len(),
+            list.as_ptr(),
+            list.len(),
+            behaviour,
+            work.as_mut_ptr(),
+            work.len(),
+            table.as_mut_ptr(),
+            table.len(),
+            map.as_mut_ptr(),
+            map.len(),
+            &mut place,
+            &mut value,
+            &mut margin,
+            &mut count,
+        )
+    };
+    let valued = Valued {
+        number: number.into(),
+        place,
+        value,
+        margin,
+    };
+    Mapped { valued, count }
+}
+
+/// All that a valuing call tells and leaves; count and map where it takes one.
 pub struct Outcome {
     pub told: Valued,
     work: Vec<u32>,
     table: Vec<u16>,
+    mapped: Option<(u64, Vec<u64>)>,
 }
 
 impl Program {
@@ -92,21 +165,31 @@ impl Program {
     pub fn run(&self, input: &Input) -> (Outcome, f64) {
         let mut work = vec![0xA5A5_A5A5; input.work_len];
         let mut table = vec![0xA5A5; input.table_len];
-        let Input {
-            record,
-            list,
-            behaviour,
-            ..
-        } = input;
+        let mut map = vec![0xA5A5_A5A5_A5A5_A5A5; input.map_len];
+        let (record, list, behaviour) = (&input.record, &input.list, input.behaviour);
         let start = Instant::now();
-        let told = (self.valuing)(record, list, *behaviour, &mut work, &mut table);
+        let (told, count) = match self.call {
+            Call::Value(call) => (call(record, list, behaviour, &mut work, &mut table), None),
+            Call::ValueMap(call) => {
+                let m = call(record, list, behaviour, &mut work, &mut table, &mut map);
+                (m.valued, Some(m.count))
+            }
+        };
         let seconds = start.elapsed().as_secs_f64();
-        (Outcome { told, work, table }, seconds)
+        let mapped = count.map(|count| (count, map));
+        let outcome = Outcome {
+            told,
+            work,
+            table,
+            mapped,
+        };
+        (outcome, seconds)
     }
 }
 
 impl Outcome {
-    /// Says what differs first, if anything does.
+    /// Says what differs first, if anything does; count and map are compared where both have
+    /// them.
     pub fn difference(&self, other: &Outcome) -> Option<String> {
         if self.told != other.told {
             return Some(format!("{:?} and {:?}", self.told, other.told));
@@ -115,6 +198,16 @@ impl Outcome {
         first_difference(&self.work, &other.work)
             .map(|at| place("working slice,", at))
             .or_else(|| first_difference(&self.table, &other.table).map(|at| place("table,", at)))
+            .or_else(|| self.difference_of_maps(other))
+    }
+
+    fn difference_of_maps(&self, other: &Outcome) -> Option<String> {
+        let ((count, map), (other_count, other_map)) =
+            self.mapped.as_ref().zip(other.mapped.as_ref())?;
+        if count != other_count {
+            return Some(format!("counts {count} and {other_count}"));
+        }
+        first_difference(map, other_map).map(|at| format!("map, word {at}"))
     }
 }
 

@@ -4,7 +4,8 @@
 //! second layer is filled with E(b, a), the discounted sum for balance b and guarantee a; then
 //! the first layer is overwritten with the values of the date, the table's layer with its
 //! amounts. The two lent layers hold all states. Beyond them there are only rows: one row of
-//! sums, one of values, one of amounts, and the slices of the rows that a balance leads to.
+//! sums, one of values, one of amounts, one of flags for the map of surrender, and the slices
+//! of the rows that a balance leads to.
 //!
 //! What makes it fast: every loop that costs runs along the guarantee, so that it reads rows
 //! in order and the compiler can widen it; several rows are taken at once, so that the row
@@ -12,7 +13,7 @@
 //!
 //! A value is at most 40 × 10,000 × 4,000 = 1,600,000,000, below 2^31.
 
-use crate::gmwb::Valued;
+use crate::gmwb::{Mapped, Valued};
 
 const UNIT: u32 = 10_000;
 const WHOLE: u64 = 10_000;
@@ -45,6 +46,11 @@ impl Terms {
 
     fn layer(&self) -> usize {
         (self.top + 1) * self.stride()
+    }
+
+    /// Of the table.
+    fn entries(&self) -> usize {
+        (self.dates - 1) * self.layer()
     }
 
     /// The cash of one unit above m on a date.
@@ -123,7 +129,42 @@ pub fn value(
     work: &mut [u32],
     table: &mut [u16],
 ) -> Valued {
-    let result = try_value(record, list, behaviour, work, table);
+    let read = read_valuing(record, list, behaviour, work, table);
+    told(read.map(|(terms, returns)| fill_table(&terms, &returns, behaviour, work, table)))
+}
+
+/// The same with a map of surrender.
+pub fn value_map(
+    record: &[u8],
+    list: &[u8],
+    behaviour: u64,
+    work: &mut [u32],
+    table: &mut [u16],
+    map: &mut [u64],
+) -> Mapped {
+    let result = try_value_map(record, list, behaviour, work, table, map);
+    Mapped {
+        valued: told(result.map(|(figures, _)| figures)),
+        count: result.map_or(0, |(_, count)| count),
+    }
+}
+
+fn try_value_map(
+    record: &[u8],
+    list: &[u8],
+    behaviour: u64,
+    work: &mut [u32],
+    table: &mut [u16],
+    map: &mut [u64],
+) -> Result<((u32, i64), u64), Refusal> {
+    let (terms, returns) = read_valuing(record, list, behaviour, work, table)?;
+    let entries = terms.entries();
+    refuse_if(map.len() < entries.div_ceil(64), 16, 0)?;
+    let figures = fill_table(&terms, &returns, behaviour, work, table);
+    Ok((figures, fill_map(&terms, &table[..entries], map)))
+}
+
+fn told(result: Result<(u32, i64), Refusal>) -> Valued {
     let (number, place) = result.err().unwrap_or((0, 0));
     let (value, margin) = result.unwrap_or((0, 0));
     Valued {
@@ -134,35 +175,45 @@ pub fn value(
     }
 }
 
-fn try_value(
+fn read_valuing(
     record: &[u8],
     list: &[u8],
     behaviour: u64,
-    work: &mut [u32],
-    table: &mut [u16],
-) -> Result<(u32, i64), Refusal> {
+    work: &[u32],
+    table: &[u16],
+) -> Result<(Terms, Vec<Return>), Refusal> {
     let terms = read_terms(record)?;
     let returns = read_returns(list)?;
     refuse_if(behaviour > 2, 10, 0)?;
-    let layer = terms.layer();
-    let table_len = (terms.dates - 1) * layer;
-    refuse_if(work.len() < 2 * layer || table.len() < table_len, 11, 0)?;
+    let short = work.len() < 2 * terms.layer() || table.len() < terms.entries();
+    refuse_if(short, 11, 0)?;
+    Ok((terms, returns))
+}
 
+/// Fills working slice and table; gives value and margin.
+fn fill_table(
+    terms: &Terms,
+    returns: &[Return],
+    behaviour: u64,
+    work: &mut [u32],
+    table: &mut [u16],
+) -> (u32, i64) {
+    let layer = terms.layer();
     let (values, expected) = work[..2 * layer].split_at_mut(layer);
-    let mut row = Row::new(&terms);
-    fill_maturity(&terms, values);
-    let layers = table[..table_len].chunks_exact_mut(layer).enumerate();
+    let mut row = Row::new(terms);
+    fill_maturity(terms, values);
+    let layers = table[..terms.entries()].chunks_exact_mut(layer).enumerate();
     for (index, amounts) in layers.rev() {
         let net = terms.net(index + 1);
-        expect_layer(&terms, &returns, values, expected);
+        expect_layer(terms, returns, values, expected);
         match behaviour {
-            0 => decide_static(&terms, values, expected, amounts),
-            1 => decide_mixed(&terms, net, values, expected, amounts),
-            _ => decide_dynamic(&terms, net, values, expected, amounts, &mut row),
+            0 => decide_static(terms, values, expected, amounts),
+            1 => decide_mixed(terms, net, values, expected, amounts),
+            _ => decide_dynamic(terms, net, values, expected, amounts, &mut row),
         }
     }
     expected.fill(0);
-    Ok(value_at_start(&terms, &returns, values))
+    value_at_start(terms, returns, values)
 }
 
 fn fill_maturity(terms: &Terms, values: &mut [u32]) {
@@ -449,4 +500,57 @@ fn try_above_level_reset(terms: &Terms, net: u32, expected: &[u32], account: usi
             }
         }
     }
+}
+
+// ---------------------------------------------------- The map of surrender
+
+/// Fills the map's words from the table and gives the number of set bits. A row of the table
+/// becomes flags, one byte of 0 or 1 for each entry, behind those left from the rows before;
+/// 64 flags become a word. A W above the level is above m in its whole row, another where the
+/// guarantee is below W.
+fn fill_map(terms: &Terms, table: &[u16], map: &mut [u64]) -> u64 {
+    let (stride, level) = (terms.stride(), terms.level);
+    let mut flags = vec![0; stride + 64];
+    let (mut left, mut filled) = (0, 0);
+    let accounts = (0..=terms.top).cycle();
+    for (row, account) in table.chunks_exact(stride).zip(accounts) {
+        let open = if account > level { stride } else { account };
+        let end = left + stride;
+        flag_row(&row[..open], account as u16, &mut flags[left..end]);
+        let whole = end - end % 64;
+        for flags in flags[..whole].chunks_exact(64) {
+            map[filled] = packed(flags);
+            filled += 1;
+        }
+        flags.copy_within(whole..end, 0);
+        left = end - whole;
+    }
+    if left > 0 {
+        flags[left..64].fill(0);
+        map[filled] = packed(&flags[..64]);
+        filled += 1;
+    }
+    let ones = map[..filled].iter().map(|word| word.count_ones());
+    ones.map(u64::from).sum()
+}
+
+/// The flags of a row: of the amounts given, where they equal the account; of the rest, 0.
+fn flag_row(amounts: &[u16], account: u16, flags: &mut [u8]) {
+    let (open, closed) = flags.split_at_mut(amounts.len());
+    for (flag, amount) in open.iter_mut().zip(amounts) {
+        *flag = u8::from(*amount == account);
+    }
+    closed.fill(0);
+}
+
+/// 64 flags as a word, the first as the lowest bit. The product moves the flag in byte i of
+/// eight to bit 56 + i.
+fn packed(flags: &[u8]) -> u64 {
+    let (eights, _) = flags.as_chunks();
+    let mut word = 0;
+    for (i, eight) in eights.iter().enumerate() {
+        let bits = u64::from_le_bytes(*eight).wrapping_mul(0x0102_0408_1020_4080) >> 56;
+        word |= bits << (8 * i);
+    }
+    word
 }

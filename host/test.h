@@ -27,6 +27,13 @@ uint32_t second_value(const uint8_t *record, size_t record_len,
                       uint32_t *work, size_t work_len,
                       uint16_t *table, size_t table_len,
                       uint64_t *place, uint32_t *value, int64_t *margin);
+uint32_t second_value_map(const uint8_t *record, size_t record_len,
+                          const uint8_t *list, size_t list_len,
+                          uint64_t behaviour,
+                          uint32_t *work, size_t work_len,
+                          uint16_t *table, size_t table_len,
+                          uint64_t *map, size_t map_len,
+                          uint64_t *place, uint32_t *value, int64_t *margin, uint64_t *count);
 uint32_t second_value_table(const uint8_t *record, size_t record_len,
                             const uint8_t *list, size_t list_len,
                             uint32_t *work, size_t work_len,
@@ -107,7 +114,7 @@ static inline int verdict(const char *name)
 }
 
 /* Numbers that calls answer, for counting them; any other counts as 0. */
-enum { NUMBERS = GMWB_REFUSED_STEP + 1 };
+enum { NUMBERS = GMWB_REFUSED_MAP + 1 };
 
 static inline void tally(uint64_t *came, uint32_t number)
 {
@@ -132,12 +139,13 @@ enum { FENCE = 64 };
 struct lent {
     uint8_t *block; /* fence, slice, then `after` bytes of fence */
     size_t bytes, after;
+    uint8_t set; /* bits that every byte has set before a call */
 };
 
 /* What a block holds before a call: never 0, so that zeros written are seen. */
-static inline uint8_t filling(size_t i)
+static inline uint8_t filling(struct lent s, size_t i)
 {
-    return (uint8_t)(37 * i + 11) | 1;
+    return (uint8_t)(37 * i + 11) | 1 | s.set;
 }
 
 /* Zeros; bytes is at least 1. */
@@ -151,18 +159,24 @@ static inline void *allocate(size_t bytes)
     return memory;
 }
 
-static inline struct lent fenced(size_t bytes, size_t after)
+static inline struct lent fenced(size_t bytes, size_t after, uint8_t set)
 {
-    struct lent s = {allocate(FENCE + bytes + after), bytes, after};
+    struct lent s = {allocate(FENCE + bytes + after), bytes, after, set};
     for (size_t i = 0; i < FENCE + bytes + after; i++)
-        s.block[i] = filling(i);
+        s.block[i] = filling(s, i);
     return s;
 }
 
 /* A slice that a call may change. */
 static inline struct lent lend(size_t entries, size_t width)
 {
-    return fenced(entries * width, FENCE);
+    return fenced(entries * width, FENCE, 0);
+}
+
+/* The same, all ones. */
+static inline struct lent lend_ones(size_t entries, size_t width)
+{
+    return fenced(entries * width, FENCE, 0xFF);
 }
 
 /*
@@ -171,7 +185,7 @@ static inline struct lent lend(size_t entries, size_t width)
  */
 static inline struct lent lend_copy(const void *from, size_t there, size_t bytes)
 {
-    struct lent s = fenced(bytes, bytes == 0 ? FENCE : 0);
+    struct lent s = fenced(bytes, bytes == 0 ? FENCE : 0, 0);
     size_t copied = there < bytes ? there : bytes;
     if (copied > 0)
         memcpy(s.block + FENCE, from, copied);
@@ -194,7 +208,7 @@ static inline void untouched_from(const char *name, struct lent s, size_t from)
 {
     bool kept = true;
     for (size_t i = 0; i < FENCE + s.bytes + s.after; i++)
-        kept = kept && ((i >= FENCE && i < FENCE + from) || s.block[i] == filling(i));
+        kept = kept && ((i >= FENCE && i < FENCE + from) || s.block[i] == filling(s, i));
     holds(name, kept);
 }
 
@@ -221,7 +235,7 @@ struct told {
     uint64_t before, place, between;
     uint32_t value, after_value;
     int64_t margin;
-    uint64_t after;
+    uint64_t after_margin, count, after;
 };
 
 static inline struct told untold(void)
@@ -236,10 +250,11 @@ static inline void same_told(struct told got, struct told expected)
     same("place against the second program", got.place, expected.place);
     same("value against the second program", got.value, expected.value);
     same_signed("margin against the second program", got.margin, expected.margin);
+    same("count against the second program", got.count, expected.count);
     struct told u = untold();
-    holds("only place, value and margin written",
+    holds("only place, value, margin and count written",
           got.before == u.before && got.between == u.between && got.after_value == u.after_value &&
-              got.after == u.after);
+              got.after_margin == u.after_margin && got.after == u.after);
 }
 
 /* ---- Random numbers --------------------------------------------------------------------------- */
@@ -343,6 +358,16 @@ static inline struct input input_of(struct terms c, const struct fund_return *re
 static inline struct input input_p(void)
 {
     return input_of(P, P_RETURNS, 2);
+}
+
+/* What the record says; one that is accepted may have been damaged since it was packed. */
+static inline struct terms terms_in(const struct input *in)
+{
+    const uint8_t *r = in->record;
+    struct terms c = {(uint16_t)get(r, 2), (uint16_t)get(r + 2, 2), (uint16_t)get(r + 4, 2),
+                      (uint16_t)get(r + 6, 2), (uint16_t)get(r + 8, 2), (uint16_t)get(r + 10, 2),
+                      (uint32_t)get(r + 12, 4), (uint16_t)get(r + 16, 2), (uint16_t)get(r + 18, 2)};
+    return c;
 }
 
 static inline struct lent lend_record(const struct input *in)

@@ -1,7 +1,7 @@
 /*
- * The five calls in several threads at once, on contracts that are accepted and on some that are
- * refused: each call tells and leaves what it tells and leaves when the calls are made one after
- * the other. Slices that are only read are shared by the threads.
+ * Five calls in several threads at once, all but gmwb_value_map, on contracts that are accepted and
+ * on some that are refused: each call tells and leaves what it tells and leaves when the calls are
+ * made one after the other. Slices that are only read are shared by the threads.
  */
 #define _POSIX_C_SOURCE 200809L /* barriers */
 #include <pthread.h>

@@ -2,10 +2,10 @@
  * Valuation of guaranteed minimum withdrawal benefits: the calls of libgmwb.a for C hosts.
  *
  * Answers. Each call returns 0 on success, else the number of a refusal (enum gmwb_refusal). Checks
- * run in the order of the numbers, save that 15 comes after 6 and before 7; each call makes those
- * for which it has the input, and the first that fails is returned. A refusal changes no slice.
- * What place, value and margin point to is always written: place is 0 on success, value and margin
- * are 0 on refusal.
+ * run in the order of the numbers, save that 15 comes right after 6 and 16 right after 11; each
+ * call makes those for which it has the input, and the first that fails is returned. A refusal
+ * changes no slice. What place, value, margin and count point to is always written: place is 0 on
+ * success, the others are 0 on refusal.
  *
  * Units. Accounts, guarantees and withdrawals are whole money units; values, margins, cash and
  * penalties are ten-thousandths of a unit. Fields of records and buffers are unsigned, low byte
@@ -16,9 +16,10 @@
  *
  * Slices. A slice is a pointer, aligned for its type, and the number of entries behind it (bytes
  * for a record, a list and a booking buffer). Nothing is read or written through a pointer whose
- * length is 0: it may be NULL. The pointers place, value and margin must not be NULL. Slices passed
- * as const are only read and may share memory with one another. Each slice that is not const, and
- * each object that place, value or margin points to, must be apart from all others of the call.
+ * length is 0: it may be NULL. The pointers place, value, margin and count must not be NULL. Slices
+ * passed as const are only read and may share memory with one another. Each slice that is not
+ * const, and each object that place, value, margin or count points to, must be apart from all
+ * others of the call.
  *
  * Threads. A call allocates nothing and keeps no state. Calls may run at the same time where none
  * writes what another reads or writes.
@@ -26,7 +27,8 @@
  * Time. A check and a booking take a few steps, a walk a few for each date and return. Valuing a
  * contract or a supplied table makes (N - 1) x (top + 1) x (U + 1) x returns products, and looks at
  * one amount of each state of each decision date; mixed looks at two, dynamic, on each date, at
- * about top x U x G amounts up to m and at most U^3 / 6 above it. docs/BENCHMARK.md has times.
+ * about top x U x G amounts up to m and at most U^3 / 6 above it. A map adds a look at each entry
+ * of the table. docs/BENCHMARK.md has times.
  *
  * The archive is for x86-64: size_t has 64 bits.
  */
@@ -62,8 +64,9 @@ enum gmwb_refusal {
                                        N; or no such return, place: the first such index */
     GMWB_REFUSED_AMOUNT = 14,       /* amount outside the dynamic set; place: supplied table, the
                                        first such entry; walk, the date; booking, 0 */
-    GMWB_REFUSED_STEP = 15          /* step above 10,000 or a spare byte not zero; checked after 6
-                                       and before 7 */
+    GMWB_REFUSED_STEP = 15,         /* step above 10,000 or a spare byte not zero; checked right
+                                       after 6 */
+    GMWB_REFUSED_MAP = 16           /* map shorter than needed; checked right after 11 */
 };
 
 /* ---- Checking a record, booking a withdrawal -------------------------------------------------
@@ -168,6 +171,30 @@ uint32_t gmwb_value(const uint8_t *record, size_t record_len,
                     uint32_t *work, size_t work_len,
                     uint16_t *table, size_t table_len,
                     uint64_t *place, uint32_t *value, int64_t *margin);
+
+/* ---- Valuing a contract with a map of surrender ----------------------------------------------
+ *
+ * The map shows where surrender is the recorded amount. It holds 64-bit words, with a bit for each
+ * entry of the table, the entries of all dates in their order, lowest bit first: the bit of entry e
+ * is (map[e / 64] >> (e % 64)) & 1. It is 1 where the recorded amount equals W and W is above m,
+ * else 0.
+ *
+ * The T entries that the table needs, (N - 1) x (top + 1) x (U + 1), take T / 64 words, rounded up.
+ * For N = 1 that is none, and the map's length may be 0. Bits of the last word that belong to no
+ * entry are 0. The map may be longer; words beyond those needed are untouched.
+ *
+ * Values a contract as gmwb_value does, with the same checks, place, value, margin, working slice
+ * and table. Returns 0 with these, the map as above, and count, the number of bits set in the words
+ * needed. Else a refusal (1 to 6, 15, 7 to 11, 16) and its place, with value 0, margin 0, count 0,
+ * work, table and map untouched.
+ */
+uint32_t gmwb_value_map(const uint8_t *record, size_t record_len,
+                        const uint8_t *list, size_t list_len,
+                        uint64_t behaviour,
+                        uint32_t *work, size_t work_len,
+                        uint16_t *table, size_t table_len,
+                        uint64_t *map, size_t map_len,
+                        uint64_t *place, uint32_t *value, int64_t *margin, uint64_t *count);
 
 /* ---- Valuing a supplied table ----------------------------------------------------------------
  *

@@ -75,6 +75,32 @@ unsafe extern "C" fn second_value(
 }
 
 #[no_mangle]
+unsafe extern "C" fn second_value_map(
+    record: *const u8,
+    record_len: usize,
+    list: *const u8,
+    list_len: usize,
+    behaviour: u64,
+    work: *mut u32,
+    work_len: usize,
+    table: *mut u16,
+    table_len: usize,
+    map: *mut u64,
+    map_len: usize,
+    place: *mut u64,
+    value: *mut u32,
+    margin: *mut i64,
+    count: *mut u64,
+) -> u32 {
+    let (record, list) = (lent(record, record_len), lent(list, list_len));
+    let (work, table) = (lent_mut(work, work_len), lent_mut(table, table_len));
+    let map = lent_mut(map, map_len);
+    let told = gmwb::value_map(record, list, behaviour, work, table, map);
+    *count = told.count;
+    tell(told.valued, place, value, margin)
+}
+
+#[no_mangle]
 unsafe extern "C" fn second_value_table(
     record: *const u8,
     record_len: usize,

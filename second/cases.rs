@@ -3,12 +3,15 @@
 //! Its parts, each headed in the script by a line that starts with `#`: the cases of
 //! document 01, penalty rates that fall, the ends of every range, every refusal alone and
 //! with the checks behind it failing too, every count of dates, slices of every length
-//! that matters, and random contracts, whole and damaged.
+//! that matters, and random contracts, whole and damaged. Maps of surrender stand last,
+//! in parts of the same kinds, so that the lines before them keep their seeds.
 //!
 //! The test program has room for records of 64 bytes, lists of 512, 64 return numbers,
-//! 64 bytes of a buffer, 65,536 numbers of a working slice or of cash, and 65,536
-//! amounts of a table. Nothing here asks for more.
+//! 64 bytes of a buffer, 65,536 numbers of a working slice or of cash, 65,536 amounts
+//! of a table, and 2,048 words of a map (65,536 amounts need 1,024). Nothing here asks
+//! for more.
 
+use crate::script::MOD_64;
 use crate::terms::{list, Return, Terms, P, P_RETURNS, Q};
 use std::fmt::Write;
 
@@ -19,6 +22,11 @@ impl Terms {
 
     fn table(self) -> usize {
         usize::from(self.dates).saturating_sub(1) * self.layer()
+    }
+
+    /// The words of a map.
+    fn map(self) -> usize {
+        self.table().div_ceil(64)
     }
 
     /// The end of the dynamic set of the state that has entry `entry` of a layer.
@@ -62,6 +70,19 @@ impl Draw {
     /// LEN:SEED, with some seed.
     fn filled(&mut self, length: usize) -> String {
         format!("{length}:{}", self.upto(99_999))
+    }
+
+    /// The same for a map: nearly all bits of the first word set, the upper 40 bits of 1,200
+    /// words, none, or any.
+    fn filled_map(&mut self, length: usize) -> String {
+        let seed = self.0;
+        match (length, self.upto(3)) {
+            (0, _) => "-".to_string(),
+            (_, 0) => format!("{length}:{}", MOD_64 - 1),
+            (_, 1) => format!("{length}:{}", MOD_64 - 10_000_000),
+            (_, 2) => format!("{length}:{seed}:1"),
+            _ => format!("{length}:{seed}"),
+        }
     }
 
     fn terms(&mut self, most_top: usize, most_dates: usize) -> Terms {
@@ -169,6 +190,21 @@ impl Script {
         writeln!(
             self.text,
             "value {record} {list} {behaviour} {work} {table}"
+        )
+        .unwrap();
+    }
+
+    /// A valuation with a map, the other slices just long enough.
+    fn value_map(&mut self, terms: Terms, returns: &[Return], behaviour: u64, map: usize) {
+        let (record, list) = (hex(&terms.record()), hex(&list(returns)));
+        let (work, table) = (
+            self.draw.filled(terms.work()),
+            self.draw.filled(terms.table()),
+        );
+        let map = self.draw.filled_map(map);
+        writeln!(
+            self.text,
+            "value_map {record} {list} {behaviour} {work} {table} {map}"
         )
         .unwrap();
     }
@@ -461,6 +497,7 @@ struct Parts {
     behaviour: u64,
     work: usize,
     table: Vec<u16>,
+    map: usize,
     numbers: Vec<u16>,
     cash: usize,
     state: [u64; 4],
@@ -488,6 +525,7 @@ fn whole(draw: &mut Draw, most_top: usize, most_dates: usize) -> (Terms, Parts) 
         behaviour: draw.upto(2) as u64,
         work: terms.work() + draw.upto(2),
         table,
+        map: terms.map(),
         numbers,
         cash: usize::from(terms.dates) + draw.upto(2),
         state: [date, account, guarantee, amount].map(|x| x as u64),
@@ -588,6 +626,7 @@ impl Parts {
                 _ => self.state[2] = draw.one(&[u64::from(self.terms.premium) + 1, u64::MAX]),
             },
             13 => self.spoil_path(draw),
+            16 => self.map = draw.one(&[0, self.map - 1]),
             _ if operation == "book" => {
                 let most = self.state[1].max(u64::from(self.terms.premium));
                 self.state[3] = draw.one(&[most + 1, 65_536, u64::MAX].map(|x| x.max(most)));
@@ -608,6 +647,10 @@ impl Parts {
         match operation {
             "check" => format!("check {record}"),
             "value" => format!("value {record} {list} {} {work} {table}", self.behaviour),
+            "value_map" => {
+                let (behaviour, map) = (self.behaviour, draw.filled_map(self.map));
+                format!("value_map {record} {list} {behaviour} {work} {table} {map}")
+            }
             "value_table" => format!("value_table {record} {list} {work} {table}"),
             "book" => {
                 let [date, account, guarantee, amount] = self.state;
@@ -623,19 +666,20 @@ impl Parts {
 }
 
 /// The operations, each with the numbers of its checks in their order.
-pub const ORDERS: [(&str, &[u64]); 5] = [
+pub const ORDERS: [(&str, &[u64]); 6] = [
     ("check", &[1, 2, 3, 4, 5, 6, 15]),
     ("value", &[1, 2, 3, 4, 5, 6, 15, 7, 8, 9, 10, 11]),
     ("value_table", &[1, 2, 3, 4, 5, 6, 15, 7, 8, 9, 11, 14]),
     ("book", &[1, 2, 3, 4, 5, 6, 15, 11, 12, 14]),
     ("walk", &[1, 2, 3, 4, 5, 6, 15, 7, 8, 9, 11, 13, 14]),
+    ("value_map", &[1, 2, 3, 4, 5, 6, 15, 7, 8, 9, 10, 11, 16]),
 ];
 
 /// For each check of each operation: input that fails it alone, with the next check, and
 /// with all that follow. What an earlier check looks at is spoilt last, so that cutting a
 /// record or a list does not hide the rest.
-fn refusals(s: &mut Script) {
-    for (operation, order) in ORDERS {
+fn refusals(s: &mut Script, orders: &[(&str, &[u64])]) {
+    for (operation, order) in orders {
         for (place, number) in order.iter().enumerate() {
             s.part(&format!(
                 "Refusal {number} of {operation}: alone, with the next, with all behind it."
@@ -940,6 +984,136 @@ fn random_contracts(s: &mut Script) {
     }
 }
 
+// ---------------------------------------- Document 02, request (ii): maps of surrender
+
+/// A valuation with a map under each behaviour, the last table supplied back and walked.
+fn mapped(s: &mut Script, terms: Terms, returns: &[Return], map: usize) {
+    for behaviour in 0..3 {
+        s.value_map(terms, returns, behaviour, map);
+    }
+    s.value_table(terms, returns, terms.work(), "=");
+    let path = s.draw.path(terms.dates, returns.len());
+    s.walk(terms, returns, "=", &path, terms.dates.into());
+}
+
+fn maps_worked_by_hand(s: &mut Script) {
+    s.part("Document 02, request (ii): P and Q with N 1, 2 and 3, maps just long enough.");
+    for base in [P, Q] {
+        for dates in [1, 2, 3] {
+            let terms = Terms { dates, ..base };
+            mapped(s, terms, &P_RETURNS, terms.map());
+        }
+    }
+}
+
+/// Top, U and N. Tables of 64, 128, 63 and 65 entries; over several dates, of 64, 385 and
+/// 768; of 129. Rows of 63, 64 and 65 entries, then of 128, 129 and 130. The highest top,
+/// the most dates.
+const SHAPES: [(u16, u16, u16); 16] = [
+    (7, 7, 2),
+    (15, 7, 2),
+    (8, 6, 2),
+    (12, 4, 2),
+    (3, 3, 5),
+    (10, 6, 6),
+    (15, 15, 4),
+    (42, 2, 2),
+    (62, 62, 3),
+    (63, 63, 3),
+    (64, 64, 3),
+    (127, 127, 2),
+    (128, 128, 2),
+    (129, 129, 3),
+    (4_000, 1, 2),
+    (40, 39, 40),
+];
+
+/// At a discount of 1 later values count for nothing, so that every account above m is
+/// surrendered.
+fn ends_of_words(s: &mut Script) {
+    s.part("Maps of tables that end inside a word, at its end and one after, and rows around 64 and 128 entries.");
+    for (top, premium, dates) in SHAPES {
+        let shape = |terms: Terms| Terms {
+            top,
+            premium,
+            level: 1 + premium / 5,
+            dates,
+            ..terms
+        };
+        let terms = shape(Terms { step: 250, ..P });
+        mapped(s, terms, &P_RETURNS, terms.map());
+        mapped(s, shape(Q), &P_RETURNS, terms.map() + 1);
+        let discount = 1;
+        s.value_map(Terms { discount, ..terms }, &P_RETURNS, 1, terms.map());
+        s.value_map(Terms { discount, ..terms }, &P_RETURNS, 2, terms.map());
+        s.value_map(terms, &P_RETURNS, 1, terms.map() - 1);
+    }
+}
+
+fn lengths_of_maps(s: &mut Script) {
+    s.part("Maps just long enough, one word short, without a word and longer.");
+    for _ in 0..20 {
+        let terms = s.draw.terms(12, 6);
+        let count = 1 + s.draw.upto(3);
+        let returns = s.draw.returns(count);
+        let (map, behaviour) = (terms.map(), s.draw.upto(2) as u64);
+        for map in [0, map.saturating_sub(1), map, map + 1, map + 40] {
+            s.value_map(terms, &returns, behaviour, map);
+        }
+    }
+}
+
+fn maps_of_every_date(s: &mut Script) {
+    s.part("N from 1 to 40 with a map, each behaviour, the table supplied back and walked.");
+    for dates in 1..=40 {
+        let penalty = s.draw.one(&[0, 300, 1_000]);
+        let terms = Terms {
+            dates,
+            penalty,
+            step: penalty / dates,
+            ..s.draw.terms(12, 1)
+        };
+        let count = 1 + s.draw.upto(3);
+        let returns = s.draw.returns(count);
+        mapped(s, terms, &returns, terms.map());
+    }
+}
+
+/// A map of at most two words more than are needed.
+fn random_map(s: &mut Script, terms: Terms, most_returns: usize) {
+    let count = 1 + s.draw.upto(most_returns - 1);
+    let returns = s.draw.returns(count);
+    let map = terms.map() + s.draw.upto(2);
+    mapped(s, terms, &returns, map);
+}
+
+fn random_maps(s: &mut Script) {
+    s.part("Random contracts with a map.");
+    for _ in 0..40 {
+        let terms = s.draw.terms(12, 6);
+        random_map(s, terms, 4);
+    }
+    s.part("Random contracts with a map whose penalty rate falls, or is 0.");
+    for _ in 0..40 {
+        let terms = s.draw.falling(12, 8);
+        random_map(s, terms, 4);
+        let terms = s.draw.terms(12, 6);
+        random_map(
+            s,
+            Terms {
+                penalty: 0,
+                ..terms
+            },
+            4,
+        );
+    }
+    s.part("Random contracts with a map and tops up to 90.");
+    for _ in 0..10 {
+        let terms = s.draw.terms(90, 4);
+        random_map(s, terms, 4);
+    }
+}
+
 /// The whole script.
 pub fn script() -> String {
     let mut s = Script {
@@ -954,7 +1128,8 @@ pub fn script() -> String {
     ends_of_fields(&mut s);
     lengths_of_bytes(&mut s);
     ends_of_returns(&mut s);
-    refusals(&mut s);
+    let (without_map, with_map) = ORDERS.split_at(5);
+    refusals(&mut s, without_map);
     every_count_of_dates(&mut s);
     smallest(&mut s);
     largest(&mut s);
@@ -966,5 +1141,11 @@ pub fn script() -> String {
     random_tables(&mut s);
     random_walks(&mut s);
     random_contracts(&mut s);
+    maps_worked_by_hand(&mut s);
+    refusals(&mut s, with_map);
+    ends_of_words(&mut s);
+    lengths_of_maps(&mut s);
+    maps_of_every_date(&mut s);
+    random_maps(&mut s);
     s.text
 }

@@ -8,13 +8,14 @@
 //! number that is answered.
 
 use crate::cases::ORDERS;
-use crate::script::{Operation, Session};
+use crate::script::{Operation, Session, Valuing};
 use std::collections::BTreeMap;
 
 const LEAST_OPERATIONS: u64 = 2_000;
 const LEAST_REFUSALS: u64 = 10;
 const LEAST_ACCEPTED: u64 = 100;
 const LEAST_FALLEN: u64 = 20;
+const LEAST_MARKED: u64 = 10;
 
 /// The fields of a record.
 struct Fields {
@@ -55,6 +56,11 @@ impl Fields {
 
     fn table(&self) -> u64 {
         self.dates.saturating_sub(1) * self.layer()
+    }
+
+    /// The words of the map.
+    fn map(&self) -> u64 {
+        self.table().div_ceil(64)
     }
 
     fn m(&self, guarantee: u64) -> u64 {
@@ -125,6 +131,10 @@ impl Drawn {
     fn above_m(&self, c: &Fields) -> bool {
         self.amount > c.m(self.guarantee)
     }
+
+    fn surrenders(&self, c: &Fields) -> bool {
+        self.amount == self.account && self.above_m(c)
+    }
 }
 
 /// Every entry of a table, of those the contract needs.
@@ -179,7 +189,8 @@ fn drawn_on_walk(c: &Fields, list: &[u8], table: &[u16], numbers: &[u16]) -> Vec
 fn name_of(operation: &Operation) -> &'static str {
     match operation {
         Operation::Check { .. } => "check",
-        Operation::Value { .. } => "value",
+        Operation::Value(_) => "value",
+        Operation::ValueMap(..) => "value_map",
         Operation::ValueTable { .. } => "value_table",
         Operation::Book { .. } => "book",
         Operation::Walk { .. } => "walk",
@@ -188,8 +199,8 @@ fn name_of(operation: &Operation) -> &'static str {
 
 fn record_of(operation: &Operation) -> &[u8] {
     match operation {
+        Operation::Value(v) | Operation::ValueMap(v, _) => &v.record,
         Operation::Check { record }
-        | Operation::Value { record, .. }
         | Operation::ValueTable { record, .. }
         | Operation::Book { record, .. }
         | Operation::Walk { record, .. } => record,
@@ -199,21 +210,23 @@ fn record_of(operation: &Operation) -> &[u8] {
 fn list_of(operation: &Operation) -> &[u8] {
     match operation {
         Operation::Check { .. } | Operation::Book { .. } => &[],
-        Operation::Value { list, .. }
-        | Operation::ValueTable { list, .. }
-        | Operation::Walk { list, .. } => list,
+        Operation::Value(v) | Operation::ValueMap(v, _) => &v.list,
+        Operation::ValueTable { list, .. } | Operation::Walk { list, .. } => list,
     }
 }
 
-/// Check 11: lent slices shorter than needed, or a booking buffer not of 16 bytes.
+/// Check 11: lent slices, a map left out, shorter than needed, or a booking buffer not of 16
+/// bytes.
 fn lent_fails(operation: &Operation) -> bool {
     let c = Fields::of(record_of(operation));
     let short = |length: usize, needed: u64| (length as u64) < needed;
+    let valuing_fails = |work: &[u32], table: &[u16]| {
+        short(work.len(), 2 * c.layer()) || short(table.len(), c.table())
+    };
     match operation {
         Operation::Check { .. } => false,
-        Operation::Value { work, table, .. } | Operation::ValueTable { work, table, .. } => {
-            short(work.len(), 2 * c.layer()) || short(table.len(), c.table())
-        }
+        Operation::Value(v) | Operation::ValueMap(v, _) => valuing_fails(&v.work, &v.table),
+        Operation::ValueTable { work, table, .. } => valuing_fails(work, table),
         Operation::Book { buffer, .. } => buffer.len() != 16,
         Operation::Walk { table, cash, .. } => {
             short(table.len(), c.table()) || short(cash.len(), c.dates)
@@ -221,12 +234,13 @@ fn lent_fails(operation: &Operation) -> bool {
     }
 }
 
-/// Checks 10 and 12 to 14.
+/// Checks 10, 12 to 14 and 16.
 fn other_fails(number: u64, operation: &Operation) -> bool {
     let c = Fields::of(record_of(operation));
     match operation {
         Operation::Check { .. } => false,
-        Operation::Value { behaviour, .. } => number == 10 && *behaviour > 2,
+        Operation::ValueMap(_, map) if number == 16 => (map.len() as u64) < c.map(),
+        Operation::Value(v) | Operation::ValueMap(v, _) => number == 10 && v.behaviour > 2,
         Operation::ValueTable { table, .. } => {
             number == 14 && drawn_in_table(&c, table).iter().any(|d| d.fails(&c))
         }
@@ -294,28 +308,18 @@ fn beside(name: &str, number: u64, next: u64) -> String {
     format!("{name} refused with {number} where {next} fails too")
 }
 
-fn dates_case(dates: u64, behaviour: u64) -> String {
-    format!("N {dates} valued under behaviour {behaviour}")
+fn dates_case(what: &str, dates: u64, behaviour: u64) -> String {
+    format!("N {dates} {what} under behaviour {behaviour}")
 }
 
 /// What an accepted valuation has that the script is to have somewhere.
-fn count_valued(tally: &mut Tally, c: &Fields, operation: &Operation) {
-    let Operation::Value {
-        list,
-        behaviour,
-        work,
-        table,
-        ..
-    } = operation
-    else {
-        return;
-    };
-    let returns = returns(list);
+fn count_valued(tally: &mut Tally, c: &Fields, v: &Valuing) {
+    let returns = returns(&v.list);
     let mut factors: Vec<u64> = returns.iter().map(|r| r.0).collect();
     factors.sort_unstable();
     let exact = [
-        work.len() as u64 - 2 * c.layer(),
-        table.len() as u64 - c.table(),
+        v.work.len() as u64 - 2 * c.layer(),
+        v.table.len() as u64 - c.table(),
     ];
     for (case, holds) in [
         ("top 1", c.top == 1),
@@ -337,9 +341,9 @@ fn count_valued(tally: &mut Tally, c: &Fields, operation: &Operation) {
             count(tally, format!("{case} valued"));
         }
     }
-    count(tally, dates_case(c.dates, *behaviour));
+    count(tally, dates_case("valued", c.dates, v.behaviour));
     if c.step > 0 && c.dates > 2 {
-        count(tally, rate_case(c, *behaviour));
+        count(tally, rate_case(c, v.behaviour));
     }
 }
 
@@ -372,7 +376,7 @@ fn fallen(name: &str, to: &str) -> String {
 /// has fallen, and to what.
 fn count_fallen(tally: &mut Tally, c: &Fields, operation: &Operation) {
     let drawn = match operation {
-        Operation::Check { .. } | Operation::Value { .. } => Vec::new(),
+        Operation::Check { .. } | Operation::Value(_) | Operation::ValueMap(..) => Vec::new(),
         Operation::ValueTable { table, .. } => drawn_in_table(c, table),
         Operation::Book {
             date,
@@ -404,6 +408,83 @@ fn count_fallen(tally: &mut Tally, c: &Fields, operation: &Operation) {
     }
 }
 
+/// What an accepted valuation with a map has that the script is to have somewhere: its
+/// lengths, and what the words needed held before.
+fn count_mapped(tally: &mut Tally, c: &Fields, v: &Valuing, map: &[u64]) {
+    let (entries, row, lent) = (c.table(), c.premium + 1, map.len() as u64);
+    let held = &map[..c.map() as usize];
+    let unused = held.last().map_or(0, |word| word >> (entries % 64));
+    for (case, holds) in [
+        ("a map just long enough", lent == c.map() && lent > 0),
+        ("a longer map", lent > c.map()),
+        ("N 1 without a word", c.dates == 1 && lent == 0),
+        ("N 1 with words", c.dates == 1 && lent > 0),
+        ("a table that ends inside a word", entries % 64 > 1),
+        (
+            "a table that ends with a word",
+            entries > 0 && entries % 64 == 0,
+        ),
+        ("a table that ends one entry into a word", entries % 64 == 1),
+        ("rows shorter than a word", row < 64),
+        ("rows as long as a word", row == 64),
+        ("rows longer than a word", row > 64),
+        ("rows longer than two words", row > 128),
+        ("unused bits that were set", entries % 64 > 0 && unused > 0),
+        (
+            "several words of 40 ones or more",
+            held.len() > 1 && held.iter().all(|word| word.count_ones() >= 40),
+        ),
+    ] {
+        if holds {
+            count(tally, format!("{case} mapped"));
+        }
+    }
+    count(tally, dates_case("mapped", c.dates, v.behaviour));
+}
+
+const SURRENDERED: [&str; 7] = [
+    "on date 1 of several",
+    "on a later date",
+    "at penalty rate 0",
+    "at a rate that has fallen",
+    "in the lowest bit of a word",
+    "in the highest bit of a word",
+    "in the table's last entry",
+];
+
+fn surrendered(how: &str, behaviour: u64) -> String {
+    format!("surrender {how} under behaviour {behaviour}")
+}
+
+/// Where the table that is left has surrender; and whether it draws a W equal to m, which
+/// is none.
+fn count_surrendered(tally: &mut Tally, c: &Fields, behaviour: u64, left: &[u16]) {
+    let drawn = drawn_in_table(c, left);
+    let marked: Vec<usize> = (0..drawn.len())
+        .filter(|entry| drawn[*entry].surrenders(c))
+        .collect();
+    let dates: Vec<u64> = marked.iter().map(|entry| drawn[*entry].date).collect();
+    let holds = [
+        c.dates > 2 && dates.contains(&1),
+        dates.iter().any(|date| *date > 1),
+        c.penalty == 0 && !marked.is_empty(),
+        dates.iter().any(|date| c.rate(*date) < c.penalty),
+        marked.iter().any(|entry| entry % 64 == 0),
+        marked.iter().any(|entry| entry % 64 == 63),
+        marked.last().is_some_and(|entry| entry + 1 == drawn.len()),
+    ];
+    for (how, _) in SURRENDERED.iter().zip(holds).filter(|(_, holds)| *holds) {
+        count(tally, surrendered(how, behaviour));
+    }
+    if marked.is_empty() {
+        count(tally, surrendered("nowhere", behaviour));
+    }
+    let equal = |d: &Drawn| d.amount == d.account && d.amount > 0 && d.amount == c.m(d.guarantee);
+    if drawn.iter().any(equal) {
+        count(tally, "W equal to m drawn mapped".to_string());
+    }
+}
+
 /// What a refusal by short slices has that the script is to have somewhere.
 fn count_short(tally: &mut Tally, c: &Fields, operation: &Operation) {
     if c.top == 4_000 {
@@ -412,13 +493,26 @@ fn count_short(tally: &mut Tally, c: &Fields, operation: &Operation) {
             format!("top 4,000: {}", refusal(name_of(operation), 11)),
         );
     }
-    if let Operation::Value { work, table, .. } = operation {
-        let (work, table) = (work.len() as u64, table.len() as u64);
+    if let Operation::Value(v) = operation {
+        let (work, table) = (v.work.len() as u64, v.table.len() as u64);
         if work + 1 == 2 * c.layer() && table >= c.table() {
             count(tally, "a working slice one entry short".to_string());
         }
         if table + 1 == c.table() && work >= 2 * c.layer() {
             count(tally, "a table one entry short".to_string());
+        }
+    }
+}
+
+/// What a refusal by 16 has that the script is to have somewhere.
+fn count_short_map(tally: &mut Tally, c: &Fields, map: &[u64]) {
+    if map.is_empty() {
+        count(tally, "no map".to_string());
+    }
+    if map.len() as u64 + 1 == c.map() {
+        count(tally, "a map one word short".to_string());
+        if c.table() % 64 == 1 {
+            count(tally, "a map short by a word of one entry".to_string());
         }
     }
 }
@@ -437,30 +531,39 @@ fn count_added(tally: &mut Tally, c: &Fields) {
     }
 }
 
-fn count_operation(tally: &mut Tally, operation: &Operation, number: u64) {
+/// The cases of an operation that is accepted; `left` is the table it left.
+fn count_accepted(tally: &mut Tally, c: &Fields, operation: &Operation, left: &[u16]) {
     let name = name_of(operation);
-    let c = Fields::of(record_of(operation));
-    if number == 0 {
-        count(tally, format!("{name} accepted"));
-        if c.step > 0 {
-            count(tally, format!("{name} accepted with a step"));
-        }
-        count_valued(tally, &c, operation);
-        count_fallen(tally, &c, operation);
-        if name == "check" && c.top == 4_000 {
+    count(tally, format!("{name} accepted"));
+    if c.step > 0 {
+        count(tally, format!("{name} accepted with a step"));
+    }
+    match operation {
+        Operation::Check { .. } if c.top == 4_000 => {
             count(tally, "top 4,000 passes".to_string());
         }
-        return;
+        Operation::Value(v) => count_valued(tally, c, v),
+        Operation::ValueMap(v, map) => {
+            count_mapped(tally, c, v, map);
+            count_surrendered(tally, c, v.behaviour, left);
+        }
+        _ => {}
     }
+    count_fallen(tally, c, operation);
+}
+
+fn count_refused(tally: &mut Tally, c: &Fields, operation: &Operation, number: u64) {
+    let name = name_of(operation);
     count(tally, refusal(name, number));
     let returns = returns(list_of(operation));
-    match number {
-        2 if c.top == 4_001 => count(tally, "top 4,001 refused with 2".to_string()),
-        8 if returns.iter().any(|r| r.0 == 30_001) => {
+    match (number, operation) {
+        (2, _) if c.top == 4_001 => count(tally, "top 4,001 refused with 2".to_string()),
+        (8, _) if returns.iter().any(|r| r.0 == 30_001) => {
             count(tally, "factor 30,001 refused with 8".to_string())
         }
-        11 => count_short(tally, &c, operation),
-        15 => count_added(tally, &c),
+        (11, _) => count_short(tally, c, operation),
+        (15, _) => count_added(tally, c),
+        (16, Operation::ValueMap(_, map)) => count_short_map(tally, c, map),
         _ => {}
     }
     let mut behind = order_of(name).iter().skip_while(|n| **n != number).skip(1);
@@ -470,7 +573,7 @@ fn count_operation(tally: &mut Tally, operation: &Operation, number: u64) {
 }
 
 /// Cases that there have to be somewhere.
-const SOMEWHERE: [&str; 26] = [
+const SOMEWHERE: [&str; 43] = [
     "top 4,000 passes",
     "top 4,001 refused with 2",
     "factor 30,001 refused with 8",
@@ -495,6 +598,23 @@ const SOMEWHERE: [&str; 26] = [
     "slices just long enough valued",
     "a longer working slice valued",
     "a longer table valued",
+    "no map",
+    "a map one word short",
+    "a map short by a word of one entry",
+    "a map just long enough mapped",
+    "a longer map mapped",
+    "N 1 without a word mapped",
+    "N 1 with words mapped",
+    "a table that ends inside a word mapped",
+    "a table that ends with a word mapped",
+    "a table that ends one entry into a word mapped",
+    "rows shorter than a word mapped",
+    "rows as long as a word mapped",
+    "rows longer than a word mapped",
+    "rows longer than two words mapped",
+    "unused bits that were set mapped",
+    "several words of 40 ones or more mapped",
+    "W equal to m drawn mapped",
     "the last table used again",
     "the last table used again with an entry changed",
 ];
@@ -508,8 +628,12 @@ fn wanted() -> Vec<(String, u64)> {
         wanted.extend(order.iter().map(|n| (refusal(name, *n), LEAST_REFUSALS)));
         wanted.extend(order.windows(2).map(|w| (beside(name, w[0], w[1]), 1)));
     }
-    for dates in 1..=40 {
-        wanted.extend((0..3).map(|behaviour| (dates_case(dates, behaviour), 1)));
+    for (dates, what) in (1..=40).flat_map(|dates| [(dates, "valued"), (dates, "mapped")]) {
+        wanted.extend((0..3).map(|behaviour| (dates_case(what, dates, behaviour), 1)));
+    }
+    wanted.extend((0..3).map(|behaviour| (surrendered("nowhere", behaviour), 1)));
+    for behaviour in [1, 2] {
+        wanted.extend(SURRENDERED.map(|how| (surrendered(how, behaviour), LEAST_MARKED)));
     }
     for behaviour in 0..3 {
         wanted.extend(ENDS.map(|end| (rate_at_end(behaviour, end), LEAST_FALLEN)));
@@ -549,7 +673,11 @@ fn take_line(tally: &mut Tally, session: &mut Session, line: &str) -> Option<Str
     }
     count(tally, "operations".to_string());
     count_table(tally, line);
-    count_operation(tally, &operation, number);
+    let c = Fields::of(record_of(&operation));
+    match number {
+        0 => count_accepted(tally, &c, &operation, session.table()),
+        _ => count_refused(tally, &c, &operation, number),
+    }
     None
 }
 

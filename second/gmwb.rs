@@ -1,5 +1,5 @@
-//! GMWB valuation: the rules of document 01 (01-scope.md), with request (i) of
-//! document 02 (02-change-requests.md), written plainly.
+//! GMWB valuation: the rules of document 01 (01-scope.md), with requests (i) and (ii)
+//! of document 02 (02-change-requests.md), written plainly.
 //!
 //! The parts follow document 01: units and records, one date, values, lent
 //! slices, the operations, the program. Each function names the sentence it
@@ -22,7 +22,7 @@ pub struct Answer {
     pub place: u64,
 }
 
-/// The answer of the two valuing operations.
+/// The answer of an operation that values.
 /// "A refusal gives its number and place, value 0 and margin 0".
 #[derive(Clone, Copy, Debug, PartialEq, Eq)]
 pub struct Valued {
@@ -30,6 +30,14 @@ pub struct Valued {
     pub place: u64,
     pub value: u32,
     pub margin: i64,
+}
+
+/// The answer of valuing with a map. "The number of set bits is returned."
+/// On refusal "other figures it would report are 0".
+#[derive(Clone, Copy, Debug, PartialEq, Eq)]
+pub struct Mapped {
+    pub valued: Valued,
+    pub count: u64,
 }
 
 const SUCCESS: Answer = Answer {
@@ -64,6 +72,8 @@ const RECORD_BYTES: usize = 20;
 const RETURN_BYTES: usize = 4;
 const MOST_LIST_BYTES: usize = 256;
 const BOOKING_BYTES: usize = 16;
+/// "64-bit words".
+const WORD_BITS: usize = 64;
 
 /// The fields of a contract record.
 #[derive(Clone, Copy, Debug)]
@@ -325,6 +335,11 @@ fn table_size(c: &Contract) -> usize {
     (c.dates as usize - 1) * layer_size(c)
 }
 
+/// "a bit per table entry": the words that those bits take, the last of them in part.
+fn map_size(c: &Contract) -> usize {
+    table_size(c).div_ceil(WORD_BITS)
+}
+
 /// "State: account W from 0 to top, guarantee A from 0 to U", in the order of entries.
 fn states(c: &Contract) -> impl Iterator<Item = (u64, u64)> {
     let (top, premium) = (c.top, c.premium);
@@ -364,6 +379,43 @@ pub fn check(record: &[u8]) -> Answer {
     answer(read_contract(record).map(|_| ()))
 }
 
+/// What a valuing call reads: refusals 1 to 6, 15 and 7 to 11.
+fn read_valuing(
+    record: &[u8],
+    list: &[u8],
+    behaviour: u64,
+    work: &[u32],
+    table: &[u16],
+) -> Result<(Contract, Vec<Return>, Behaviour), Answer> {
+    let (c, returns) = read_both(record, list)?;
+    let behaviour = read_behaviour(behaviour)?;
+    let short = work.len() < work_size(&c) || table.len() < table_size(&c);
+    refuse_if(short, 11, 0)?;
+    Ok((c, returns, behaviour))
+}
+
+/// Fills working slice and table, date by date from the last; gives value and margin.
+fn fill_table(
+    c: &Contract,
+    returns: &[Return],
+    behaviour: Behaviour,
+    work: &mut [u32],
+    table: &mut [u16],
+) -> (u32, i64) {
+    let mut next = maturity_layer(c);
+    for date in (1..c.dates).rev() {
+        let mut values = Vec::with_capacity(next.len());
+        for (w, a) in states(c) {
+            let (worth, amount) = best(c, returns, &next, date, w, a, behaviour);
+            values.push(worth as u32);
+            table[layer_start(c, date) + entry(c, w, a)] = amount as u16;
+        }
+        next = values;
+    }
+    leave_work(work, &next);
+    value_at_start(c, returns, &next)
+}
+
 /// "valuing a contract": refusals 1 to 6, 15 and 7 to 11.
 pub fn value(
     record: &[u8],
@@ -382,23 +434,58 @@ fn try_value(
     work: &mut [u32],
     table: &mut [u16],
 ) -> Result<(u32, i64), Answer> {
-    let (c, returns) = read_both(record, list)?;
-    let behaviour = read_behaviour(behaviour)?;
-    let short = work.len() < work_size(&c) || table.len() < table_size(&c);
-    refuse_if(short, 11, 0)?;
+    let (c, returns, behaviour) = read_valuing(record, list, behaviour, work, table)?;
+    Ok(fill_table(&c, &returns, behaviour, work, table))
+}
 
-    let mut next = maturity_layer(&c);
-    for date in (1..c.dates).rev() {
-        let mut values = Vec::with_capacity(next.len());
-        for (w, a) in states(&c) {
-            let (worth, amount) = best(&c, &returns, &next, date, w, a, behaviour);
-            values.push(worth as u32);
-            table[layer_start(&c, date) + entry(&c, w, a)] = amount as u16;
-        }
-        next = values;
+/// "A valuing call that is also lent 64-bit words": refusals 1 to 6, 15, 7 to 11 and 16.
+pub fn value_map(
+    record: &[u8],
+    list: &[u8],
+    behaviour: u64,
+    work: &mut [u32],
+    table: &mut [u16],
+    map: &mut [u64],
+) -> Mapped {
+    let result = try_value_map(record, list, behaviour, work, table, map);
+    Mapped {
+        valued: valued(result.map(|(figures, _)| figures)),
+        count: result.map_or(0, |(_, count)| count),
     }
-    leave_work(work, &next);
-    Ok(value_at_start(&c, &returns, &next))
+}
+
+/// "16, map too short for the table, checked after 11". The map is none of 11's slices:
+/// 11 "leaves out slices whose length has its own number".
+fn try_value_map(
+    record: &[u8],
+    list: &[u8],
+    behaviour: u64,
+    work: &mut [u32],
+    table: &mut [u16],
+    map: &mut [u64],
+) -> Result<((u32, i64), u64), Answer> {
+    let (c, returns, behaviour) = read_valuing(record, list, behaviour, work, table)?;
+    refuse_if(map.len() < map_size(&c), 16, 0)?;
+    let figures = fill_table(&c, &returns, behaviour, work, table);
+    Ok((figures, fill_map(&c, table, map)))
+}
+
+/// "a bit per table entry, lowest bit first: set when the amount equals W and W is above
+/// m, clear otherwise. Unused bits of the last word are zero, and later words are
+/// untouched." Gives "the number of set bits".
+fn fill_map(c: &Contract, table: &[u16], map: &mut [u64]) -> u64 {
+    map[..map_size(c)].fill(0);
+    let mut count = 0;
+    for date in 1..c.dates {
+        for (w, a) in states(c) {
+            let place = layer_start(c, date) + entry(c, w, a);
+            if u64::from(table[place]) == w && w > m_of(c, a) {
+                map[place / WORD_BITS] |= 1 << (place % WORD_BITS);
+                count += 1;
+            }
+        }
+    }
+    count
 }
 
 /// "valuing a supplied withdrawal table": refusals 1 to 6, 15, 7 to 9, 11 and 14.

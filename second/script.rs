@@ -6,6 +6,7 @@
 //! ```text
 //! check RECORD
 //! value RECORD LIST BEHAVIOUR WORK TABLE
+//! value_map RECORD LIST BEHAVIOUR WORK TABLE MAP
 //! value_table RECORD LIST WORK TABLE
 //! book RECORD DATE ACCOUNT GUARANTEE AMOUNT BUFFER
 //! walk RECORD LIST TABLE NUMBERS CASH
@@ -13,12 +14,13 @@
 //!
 //! RECORD, LIST: bytes as lowercase hex, `-` for none.
 //! BEHAVIOUR, DATE, ACCOUNT, GUARANTEE, AMOUNT: decimal, up to 64 bits.
-//! WORK, CASH (32-bit entries), TABLE, NUMBERS (16-bit), BUFFER (8-bit): a slice, as
+//! MAP (64-bit entries), WORK, CASH (32-bit), TABLE, NUMBERS (16-bit), BUFFER (8-bit): a
+//! slice, as
 //! - `-`: no entries;
 //! - `5,0,12`: these entries, decimal;
 //! - `LEN:SEED`: LEN entries, entry i being (SEED + 7919 × i) mod M, where M is 251 for
-//!   8-bit, 65521 for 16-bit and 4294967291 for 32-bit entries. LEN is at most 2^30;
-//!   a SEED of M or more counts as SEED mod M;
+//!   8-bit, 65521 for 16-bit, 4294967291 for 32-bit and 18446744073709551557 for 64-bit
+//!   entries. LEN is at most 2^30; a SEED of M or more counts as SEED mod M;
 //! - `LEN:SEED:LIMIT`: the same, each entry then taken mod LIMIT (LIMIT 1: all zeros).
 //!
 //! A TABLE may also be
@@ -32,15 +34,17 @@
 //! ```text
 //! check        NUMBER PLACE
 //! value        NUMBER PLACE VALUE MARGIN D(WORK) D(TABLE)
+//! value_map    NUMBER PLACE VALUE MARGIN COUNT D(WORK) D(TABLE) D(MAP)
 //! value_table  NUMBER PLACE VALUE MARGIN D(WORK) D(TABLE)
 //! book         NUMBER PLACE D(BUFFER)
 //! walk         NUMBER PLACE D(TABLE) D(CASH)
 //! ```
 //!
 //! D(slice) is a digest of the slice's whole contents after the call: h = 7, then for
-//! each entry x: h = (h × 31 + x + 1) mod 4294967291. With `full` the contents of the
-//! same slices follow, in the same order: entries as `5,0,12`, the buffer as hex, `-`
-//! for none.
+//! each entry x: h = (h × 31 + x + 1) mod 4294967291. An entry of 64 bits is first taken
+//! mod 4294967291, which changes no digest and keeps the sum within 64 bits. With `full`
+//! the contents of the same slices follow, in the same order: entries as `5,0,12`, the
+//! buffer as hex, `-` for none.
 //!
 //! Blank lines and lines that start with `#` get no answer. A line that is not
 //! understood gets the answer `error`, its reason on standard error, and the exit
@@ -61,16 +65,18 @@ const LARGEST_SLICE: u64 = 1 << 30;
 pub const MOD_8: u64 = 251;
 pub const MOD_16: u64 = 65_521;
 pub const MOD_32: u64 = 4_294_967_291;
+pub const MOD_64: u64 = 18_446_744_073_709_551_557;
 
-/// Entry i of a slice filled from a seed.
+/// Entry i of a slice filled from a seed. The sum may pass 64 bits.
 pub fn fill(seed: u64, i: u64, modulus: u64) -> u64 {
-    (seed % modulus + 7_919 * i) % modulus
+    let sum = u128::from(seed % modulus) + u128::from(7_919 * i);
+    (sum % u128::from(modulus)) as u64
 }
 
 pub fn digest<T: Copy + Into<u64>>(entries: &[T]) -> u64 {
     entries
         .iter()
-        .fold(7, |h, x| (h * 31 + (*x).into() + 1) % MOD_32)
+        .fold(7, |h, x| (h * 31 + (*x).into() % MOD_32 + 1) % MOD_32)
 }
 
 fn bytes_in(text: &str) -> Result<Vec<u8>, String> {
@@ -149,19 +155,24 @@ fn table_in(text: &str, last: &[u16]) -> Result<Vec<u16>, String> {
     Ok(table)
 }
 
+/// What a contract is valued by, with or without a map.
+#[derive(Clone)]
+pub struct Valuing {
+    pub record: Vec<u8>,
+    pub list: Vec<u8>,
+    pub behaviour: u64,
+    pub work: Vec<u32>,
+    pub table: Vec<u16>,
+}
+
 /// A line that is understood. The slices are lent to the call and hold what it leaves.
 #[derive(Clone)]
 pub enum Operation {
     Check {
         record: Vec<u8>,
     },
-    Value {
-        record: Vec<u8>,
-        list: Vec<u8>,
-        behaviour: u64,
-        work: Vec<u32>,
-        table: Vec<u16>,
-    },
+    Value(Valuing),
+    ValueMap(Valuing, Vec<u64>),
     ValueTable {
         record: Vec<u8>,
         list: Vec<u8>,
@@ -185,6 +196,17 @@ pub enum Operation {
     },
 }
 
+fn valuing_in(fields: [&str; 5], last: &[u16]) -> Result<Valuing, String> {
+    let [record, list, behaviour, work, table] = fields;
+    Ok(Valuing {
+        record: bytes_in(record)?,
+        list: bytes_in(list)?,
+        behaviour: number(behaviour)?,
+        work: slice_in(work, MOD_32)?,
+        table: table_in(table, last)?,
+    })
+}
+
 /// The operation in a line, behind one that left the table `last`.
 fn operation(line: &str, last: &[u16]) -> Result<Operation, String> {
     let words: Vec<&str> = line.split(' ').collect();
@@ -192,13 +214,13 @@ fn operation(line: &str, last: &[u16]) -> Result<Operation, String> {
         ["check", record] => Operation::Check {
             record: bytes_in(record)?,
         },
-        ["value", record, list, behaviour, work, table] => Operation::Value {
-            record: bytes_in(record)?,
-            list: bytes_in(list)?,
-            behaviour: number(behaviour)?,
-            work: slice_in(work, MOD_32)?,
-            table: table_in(table, last)?,
-        },
+        ["value", record, list, behaviour, work, table] => {
+            Operation::Value(valuing_in([record, list, behaviour, work, table], last)?)
+        }
+        ["value_map", record, list, behaviour, work, table, map] => Operation::ValueMap(
+            valuing_in([record, list, behaviour, work, table], last)?,
+            slice_in(map, MOD_64)?,
+        ),
         ["value_table", record, list, work, table] => Operation::ValueTable {
             record: bytes_in(record)?,
             list: bytes_in(list)?,
@@ -228,12 +250,24 @@ fn told(a: gmwb::Answer) -> String {
     format!("{} {}", a.number, a.place)
 }
 
+fn told_figures(v: gmwb::Valued) -> String {
+    format!("{} {} {} {}", v.number, v.place, v.value, v.margin)
+}
+
 fn told_value(v: gmwb::Valued, work: &[u32], table: &[u16], full: bool) -> String {
-    let (number, place, value, margin) = (v.number, v.place, v.value, v.margin);
-    let mut line = format!("{number} {place} {value} {margin}");
+    let mut line = told_figures(v);
     line += &format!(" {} {}", digest(work), digest(table));
     if full {
         line += &format!(" {} {}", listed(work), listed(table));
+    }
+    line
+}
+
+fn told_map(m: gmwb::Mapped, work: &[u32], table: &[u16], map: &[u64], full: bool) -> String {
+    let mut line = format!("{} {}", told_figures(m.valued), m.count);
+    line += &format!(" {} {} {}", digest(work), digest(table), digest(map));
+    if full {
+        line += &format!(" {} {} {}", listed(work), listed(table), listed(map));
     }
     line
 }
@@ -258,15 +292,15 @@ fn told_walk(a: gmwb::Answer, table: &[u16], cash: &[u32], full: bool) -> String
 fn answered(operation: &mut Operation, full: bool) -> String {
     match operation {
         Operation::Check { record } => told(gmwb::check(record)),
-        Operation::Value {
-            record,
-            list,
-            behaviour,
-            work,
-            table,
-        } => {
-            let answer = gmwb::value(record, list, *behaviour, work, table);
+        Operation::Value(v) => {
+            let (work, table) = (&mut v.work, &mut v.table);
+            let answer = gmwb::value(&v.record, &v.list, v.behaviour, work, table);
             told_value(answer, work, table, full)
+        }
+        Operation::ValueMap(v, map) => {
+            let (work, table) = (&mut v.work, &mut v.table);
+            let answer = gmwb::value_map(&v.record, &v.list, v.behaviour, work, table, map);
+            told_map(answer, work, table, map, full)
         }
         Operation::ValueTable {
             record,
@@ -304,9 +338,8 @@ fn answered(operation: &mut Operation, full: bool) -> String {
 /// The table that an operation had, if it had one.
 fn table_of(operation: Operation) -> Option<Vec<u16>> {
     match operation {
-        Operation::Value { table, .. }
-        | Operation::ValueTable { table, .. }
-        | Operation::Walk { table, .. } => Some(table),
+        Operation::Value(v) | Operation::ValueMap(v, _) => Some(v.table),
+        Operation::ValueTable { table, .. } | Operation::Walk { table, .. } => Some(table),
         Operation::Check { .. } | Operation::Book { .. } => None,
     }
 }
@@ -318,6 +351,11 @@ pub struct Session {
 }
 
 impl Session {
+    /// The table that the last operation with one left.
+    pub fn table(&self) -> &[u16] {
+        &self.last
+    }
+
     /// The operation in the next line, as it stands before the call.
     pub fn operation(&self, line: &str) -> Result<Operation, String> {
         operation(line, &self.last)

@@ -1,11 +1,11 @@
 //! `second self-check`: the figures of document 01's section "Contracts worked by
-//! hand", rates that fall by document 02's request (i), every refusal on both sides of
-//! its boundary, the order of the checks, what is left in the lent slices, and
-//! properties on random small contracts.
+//! hand", rates that fall by document 02's request (i), maps of surrender by its request
+//! (ii), every refusal on both sides of its boundary, the order of the checks, what is
+//! left in the lent slices, and properties on random small contracts.
 //!
 //! The operations are only called from outside here, as an engine's caller would.
 
-use crate::script::{answer, digest, fill, MOD_16, MOD_32, MOD_8};
+use crate::script::{answer, digest, fill, MOD_16, MOD_32, MOD_64, MOD_8};
 use crate::terms::{list, Terms, P, P_RETURNS, Q};
 use crate::{gmwb, text};
 use std::fmt::Debug;
@@ -38,6 +38,8 @@ pub fn run() -> (u64, u64) {
     stepped_values(&mut t);
     stepped_bookings(&mut t);
     stepped_walks(&mut t);
+    map_figures(&mut t);
+    map_lengths(&mut t);
     printed(&mut t);
     printed_within_slices(&mut t);
     record_boundaries(&mut t);
@@ -132,6 +134,13 @@ fn filled_16(length: usize) -> Vec<u16> {
 fn filled_32(length: usize) -> Vec<u32> {
     (0..length)
         .map(|i| fill(9, i as u64, MOD_32) as u32)
+        .collect()
+}
+
+/// Nearly all bits set.
+fn filled_64(length: usize) -> Vec<u64> {
+    (0..length as u64)
+        .map(|i| fill(MOD_64 - 10_000_000, i, MOD_64))
         .collect()
 }
 
@@ -322,6 +331,95 @@ fn stepped_walks(t: &mut Tally) {
     }
 }
 
+/// A valuation with a map of some words: the answer, and what is left in the slices.
+fn mapped(
+    terms: &Terms,
+    returns: &[(u16, u16)],
+    behaviour: u64,
+    words: usize,
+) -> (gmwb::Mapped, Run, Vec<u64>) {
+    let mut work = filled_32(2 * terms.layer());
+    let mut table = filled_16((usize::from(terms.dates) - 1) * terms.layer());
+    let mut map = filled_64(words);
+    let (record, list) = (terms.record(), list(returns));
+    let answer = gmwb::value_map(&record, &list, behaviour, &mut work, &mut table, &mut map);
+    (answer, (answer.valued, work, table), map)
+}
+
+/// Static draws m also where W equals it, and has no bit. Dynamic gives up (1, 0), and with
+/// three dates on both.
+fn map_figures(t: &mut Tally) {
+    let mixed = [
+        0x0a00_a00a_0080_0800,
+        0x0000_0000_6002_00a0,
+        0x1801_0000_0000_0000,
+        0x0000_0001_f01e_01c0,
+    ];
+    for (behaviour, count, words) in [(0, 0, [0; 4]), (1, 28, mixed), (2, 1, [0x800, 0, 0, 0])] {
+        let (answer, _, map) = mapped(&P, &P_RETURNS, behaviour, 4);
+        let name = format!("map of P, behaviour {behaviour}");
+        t.same(&name, (answer.count, map), (count, words.to_vec()));
+    }
+    let three = Terms { dates: 3, ..P };
+    let counts = [0, 1, 2].map(|b| mapped(&three, &P_RETURNS, b, 8).0.count);
+    t.same("maps of P, N 3", counts, [0, 102, 2]);
+    let (_, (_, _, table), map) = mapped(&P, &P_RETURNS, 1, 4);
+    let at_m = P.entry(5, 10);
+    t.same("W equal to m is drawn", table[at_m], 5);
+    t.same("W equal to m", map[at_m / 64] >> (at_m % 64) & 1, 0);
+    let single = Terms { dates: 1, ..P };
+    let (answer, _, map) = mapped(&single, &P_RETURNS, 2, 3);
+    t.same("map of N 1", (answer.count, map), (0, filled_64(3)));
+}
+
+/// Top, U, N and the words of the table: it ends inside a word, at its end and one after.
+fn map_lengths(t: &mut Tally) {
+    for (top, premium, dates, words) in [
+        (8, 6, 2, 1),
+        (7, 7, 2, 1),
+        (3, 3, 5, 1),
+        (12, 4, 2, 2),
+        (10, 6, 6, 7),
+        (63, 63, 3, 128),
+        (9, 9, 1, 0),
+    ] {
+        let terms = Terms {
+            premium,
+            level: 2,
+            top,
+            dates,
+            discount: 1,
+            ..P
+        };
+        for lent in [0, words / 2, words, words + 1, words + 9] {
+            map_of_length(t, &terms, words, lent);
+        }
+        if words > 0 {
+            map_of_length(t, &terms, words, words - 1);
+        }
+    }
+}
+
+/// At a discount of 1 every account above m is surrendered. No other bit is set, and what is
+/// not needed is as before; after a refusal that is all.
+fn map_of_length(t: &mut Tally, terms: &Terms, words: usize, lent: usize) {
+    let name = format!("{terms:?}, map of {lent} words");
+    let states = terms.states().into_iter();
+    let open = states.filter(|(w, a)| *w > terms.m(*a)).count() as u64;
+    let (number, ones, needed) = if lent < words {
+        (16, 0, 0)
+    } else {
+        (0, u64::from(terms.dates - 1) * open, words)
+    };
+    let (answer, _, map) = mapped(terms, &P_RETURNS, 1, lent);
+    let told = (answer.valued.number, answer.valued.place, answer.count);
+    t.same(&name, told, (number, 0, ones));
+    let set: u32 = map[..needed].iter().map(|word| word.count_ones()).sum();
+    t.same(&format!("{name}: bits"), u64::from(set), ones);
+    let before = &filled_64(lent)[needed..];
+    t.same(&format!("{name}: untouched"), &map[needed..], before);
+}
+
 fn printed(t: &mut Tally) {
     let expected = "static 125000\nmixed 125000\ndynamic 127500\n0 5 10 5 5 0\n1 15 10 5 5 1\n";
     let (record, returns) = (P.record(), list(&P_RETURNS));
@@ -383,7 +481,8 @@ fn printed_within_slices(t: &mut Tally) {
 
 // ------------------------------------------------------------------ Refusals
 
-/// The input of all five operations; each takes its part.
+/// The input of five operations; each takes its part. Valuing with a map is called beside
+/// each valuing, by `with_map`.
 #[derive(Clone)]
 struct Call {
     record: Vec<u8>,
@@ -405,7 +504,7 @@ type Five = [(u64, u64); 5];
 
 const FINE: Five = [(0, 0); 5];
 
-/// A fault in the record is refused by all five.
+/// A fault in the record is refused by each.
 fn record_fault(number: u64) -> Five {
     [(number, 0); 5]
 }
@@ -416,7 +515,7 @@ fn list_fault(number: u64, place: u64) -> Five {
     [(0, 0), refused, refused, (0, 0), refused]
 }
 
-/// A call that all five operations take: a table of zeros, slices of the exact length.
+/// A call that each operation takes: a table of zeros, slices of the exact length.
 fn good(terms: &Terms, returns: &[(u16, u16)]) -> Call {
     let decisions = usize::from(terms.dates).saturating_sub(1);
     Call {
@@ -470,7 +569,34 @@ fn called(c: &Call) -> (Five, [bool; 5]) {
     (got, kept)
 }
 
+/// Valuing with a map of some words, beside value's input: number and place, and whether
+/// its figures are 0 and its slices as before.
+fn called_with_map(c: &Call, words: usize) -> ((u64, u64), bool) {
+    let (mut work, mut table) = (filled_32(c.work), filled_16(c.table.len()));
+    let mut map = filled_64(words);
+    let (record, list) = (&c.record, &c.list);
+    let m = gmwb::value_map(record, list, c.behaviour, &mut work, &mut table, &mut map);
+    let kept = work == filled_32(c.work) && table == filled_16(c.table.len());
+    let zeros = m.valued.value == 0 && m.valued.margin == 0 && m.count == 0;
+    let told = (m.valued.number, m.valued.place);
+    (told, kept && zeros && map == filled_64(words))
+}
+
 impl Tally {
+    /// With a map valuing answers as without. Check 16 is the last: without a word it is the
+    /// answer where no other check fails and there are decision dates.
+    fn with_map(&mut self, name: &str, call: &Call, valued: (u64, u64)) {
+        let needs_words = valued == (0, 0) && call.record[6..8] != [1, 0];
+        let without = if needs_words { (16, 0) } else { valued };
+        let enough = call.table.len().div_ceil(64);
+        for (words, expected) in [(0, without), (enough, valued)] {
+            let name = format!("{name}: map of {words} words");
+            let (got, kept) = called_with_map(call, words);
+            self.same(&name, got, expected);
+            self.same(&format!("{name}: kept"), got.0 == 0 || kept, true);
+        }
+    }
+
     /// The five answers are those expected, and a refusal has changed nothing.
     fn five(&mut self, name: &str, call: &Call, expected: Five) {
         let got = self.refusals_change_nothing(name, call);
@@ -484,6 +610,7 @@ impl Tally {
             let name = format!("{name}: slices and figures of call {i}");
             self.same(&name, sound, true);
         }
+        self.with_map(name, call, got[1]);
         got
     }
 
@@ -880,13 +1007,21 @@ fn script_lines(t: &mut Tally) {
     let p = "0a000500140002000000e80340420f0000000000";
     let least = "01000100010001000000000040420f0000000000";
     let valued = "0 0 10000 0 3700988814 7 0,10000,10000,10000,0,0,0,0 -";
+    let with_map = "0 0 10000 0 0 3700988814 7 13592 0,10000,10000,10000,0,0,0,0 - \
+                    18446744073709551556,7918";
     t.same("digest of nothing", digest::<u32>(&[]), 7);
     t.same("digest of 0, 5", digest(&[0u16, 5]), (7 * 31 + 1) * 31 + 6);
+    // 2^32 is 5 more than the modulus, so 2^64 leaves 25.
+    t.same("digest of 2^64 - 1", digest(&[u64::MAX]), 7 * 31 + 24 + 1);
     for (line, expected) in [
         ("check P", "0 0"),
         ("check -", "1 0"),
         ("check 00", "1 0"),
         ("value T 10271027 0 8:5 -", valued),
+        (
+            "value_map T 10271027 0 8:5 - 2:18446744073709551556",
+            with_map,
+        ),
         ("value_table T 10271027 8:5 -", valued),
         ("book P 1 15 10 6 3:250", "11 0 454051 fa8918"),
         ("book P 1 15 10 6 2:9:1", "11 0 6759 0000"),
@@ -981,6 +1116,7 @@ fn random_contract(t: &mut Tally, draw: &mut Draw, k: u64) {
         let runs = [0, 1, 2].map(|b| valued(&later, &returns, b));
         ordered(t, &name, &later, &runs);
         supplied_back(t, &name, &later, &returns, &runs);
+        same_with_map(t, &name, &later, &returns, &runs);
         for (behaviour, next) in next.iter().enumerate() {
             let layer = (date as usize - 1) * terms.layer();
             let left = (&runs[behaviour].1[..], &whole[behaviour].2[layer..]);
@@ -1005,6 +1141,38 @@ fn supplied_back(
         let supplied = gmwb::value_table(&record, &list, &mut again, table);
         t.same(&format!("{name}: supplied table"), supplied, *answer);
         t.same(&format!("{name}: supplied table, work"), &again, work);
+    }
+}
+
+/// With a map each valuation answers and leaves the same. Every bit is read back, and the
+/// count is that of the bits.
+fn same_with_map(
+    t: &mut Tally,
+    name: &str,
+    terms: &Terms,
+    returns: &[(u16, u16)],
+    runs: &[Run; 3],
+) {
+    for (behaviour, run) in runs.iter().enumerate() {
+        let words = run.2.len().div_ceil(64);
+        let (answer, again, map) = mapped(terms, returns, behaviour as u64, words);
+        t.same(&format!("{name}: with a map"), &again, run);
+        let dates = 1..usize::from(terms.dates);
+        let states = dates.flat_map(|_| terms.states());
+        let surrendered =
+            |((w, a), amount): ((u64, u64), &u16)| w == u64::from(*amount) && w > terms.m(a);
+        let expected: Vec<bool> = states.zip(&run.2).map(surrendered).collect();
+        let bits = (0..64 * words).map(|e| map[e / 64] >> (e % 64) & 1 == 1);
+        let mut bits: Vec<bool> = bits.collect();
+        let unused = bits.split_off(expected.len());
+        t.same(&format!("{name}: map"), &bits, &expected);
+        t.same(
+            &format!("{name}: unused bits"),
+            unused.contains(&true),
+            false,
+        );
+        let ones = bits.iter().filter(|bit| **bit).count();
+        t.same(&format!("{name}: count"), answer.count, ones as u64);
     }
 }
 

@@ -4,6 +4,7 @@ ghost use Prim.Native.Nat.{ℕ};
 ghost use Rattle.rules.specs.Product.{Claim};
 ghost use Rattle.rules.specs.Refusals.{numberOf, placeOf};
 ghost use Rattle.rules.specs.Operations.{productOf, behaviourOf, recordVerdict, bookingVerdict, bookingBuffer, valuingAnswer, valuingWork, valuingTable, suppliedAnswer, suppliedWork, walkVerdict, walkCashes};
+ghost use Rattle.gmwb.specs.Told.{MapTold};
 use contract::Contract;
 
 // Checks a record. The place of each of its refusals is 0.
@@ -66,6 +67,35 @@ pub extern "C" fn gmwb_value(
     let difference = answer.margin;
     *margin = difference;
     answer.number
+}
+
+// Values a contract and fills the map of surrender of its table.
+#[no_mangle]
+pub extern "C" fn gmwb_value_map(
+    bytes: &[u8],
+    list: &[u8],
+    behaviour: u64,
+    work: &mut [u32],
+    table: &mut [u16],
+    map: &mut [u64],
+    place: &mut u64,
+    value: &mut u32,
+    margin: &mut i64,
+    count: &mut u64,
+) -> u32
+    ensures { λ r. ⌜ MapTold (now (bytes .entry)) (now (list .entry)) behaviour
+        (now (work .entry)) (now (table .entry)) (now (map .entry))
+        r (now (place .exit)) (now (value .exit)) (now (margin .exit)) (now (count .exit))
+        (now (work .exit)) (now (table .exit)) (now (map .exit)) ⌝ }
+{
+    let mapped = mapping::value_map(bytes, list, behaviour as usize, work, table, map);
+    *count = mapped.count;
+    let figures = mapped.answer;
+    *place = figures.place;
+    *value = figures.value;
+    let difference = figures.margin;
+    *margin = difference;
+    figures.number
 }
 
 // Values a supplied table.

@@ -10,3 +10,4 @@ pub mod Walk
 pub mod Booking
 pub mod Supplied
 pub mod Step
+pub mod Map

@@ -6,15 +6,18 @@ use mathlib.Core.Path.{_≡_, refl}
 use Prim.Native.Nat.{ℕ, _+_, _-_, _*_}
 use lib.IntN.{ℤ, pos}
 use lib.ListN.{replicate}
-use Rattle.decision.specs.Index.{sum, first, firstFrom}
+use Rattle.decision.specs.Index.{sum, tabulate, first, firstFrom}
+use Rattle.decision.specs.Bits.{bit, fromBits, wordsFor, wordOf, wordsOf, setBits}
+use Rattle.decision.specs.Layers.{layers}
 use Rattle.decision.specs.Choice.{largest, smallestBest}
 use Rattle.decision.specs.Process.{worth, valueOver, value, recorded, startValue}
 use Rattle.rules.specs.Contract.{word, long, bytesOf, Terms, termsOf, returnsOf}
 use Rattle.rules.specs.Date.{Behaviour, static, mixed, dynamic, freeAmount, largestAmount, surrenders, admits, rateOn, penalty, cash, guaranteeAfter, balanceAfter, nextAccount, maturityValue, discounted, margin}
-use Rattle.rules.specs.Product.{stateValue, recordedAmount, contractValue}
+use Rattle.rules.specs.Product.{stateValue, recordedAmount, contractValue, amountLayers}
 use Rattle.rules.specs.FixedTerm.{State, freeIn, admissibleIn, limitIn, cashIn, afterIn, reachBy, expectOver, startOf, processOf, layerSize, layoutOf, fixedTerm}
 use Rattle.rules.specs.Refusals.{checkEach, Verdict, accepted, refused, verdict, numberOf, placeOf, onSuccess, outside, short, termsChecks, recordChecks, badReturn, listChecks}
 use Rattle.rules.specs.Operations.{productOf, Answer, answer, behaviourNumber, behaviourOf, tableSize, lentChecks, recordVerdict, valuingChecks, valuingVerdict, valuingAnswer, amountChecks, bookingChecks, bookingVerdict, bookingBytes, bookingBuffer}
+use Rattle.rules.specs.Map.{surrendered, surrenderMap, surrenderCount, mapSize, mapChecks, mappingChecks, mappingVerdict, mappingTable, mappingMap, mappingCount}
 use Rattle.rules.specs.Printed.{digits, decimal, numbered, line, nameOf, linesOf, valueLine, returnLine, lineCount, valuesText, textOf, programVerdict, printed}
 
 -- ---- contracts P and Q
@@ -38,6 +41,10 @@ P = record { premium = 10; level = 5; top = 20; dates = 2; fee = 0; penalty = 10
 -- "P with N 1"
 P-one : Terms
 P-one = record { premium = 10; level = 5; top = 20; dates = 1; fee = 0; penalty = 1000; discount = 1000000; step = 0; spare = 0 }
+
+-- P with N 3
+P-three : Terms
+P-three = record { premium = 10; level = 5; top = 20; dates = 3; fee = 0; penalty = 1000; discount = 1000000; step = 0; spare = 0 }
 
 -- "P with discount 950,000"
 P-discounted : Terms
@@ -68,6 +75,8 @@ pub data Question : Type 0 where
   surrenderAt : Terms → ℕ → ℕ → Question
   -- whether the record is accepted
   recordOf : Terms → Question
+  -- the map that valuing leaves in so many words, each a number before, and the count of its set bits
+  mapOf : Terms → Behaviour → ℕ → ℕ → Question
   -- booking an amount on a date, at (w, a)
   bookingOf : Terms → ℕ → ℕ → ℕ → ℕ → Question
 
@@ -76,6 +85,7 @@ pub data Told : Type 0 where
   value-amount : ℕ → ℕ → Told
   allowed : Bool → Told
   cash-penalty-balance-guarantee : ℕ → ℕ → ℕ → ℕ → Told
+  words-count : List ℕ → ℕ → Told
   number-place : ℕ → ℕ → Told
 
 at : ℕ → ℕ → State
@@ -99,6 +109,13 @@ tell (contractOf c b) =
     valued
     (valuingVerdict (packed c) returnsP (behaviourNumber b) work table)
     (valuingAnswer (packed c) returnsP (behaviourNumber b) work table)
+tell (mapOf c b words word) =
+    let work : List ℕ = replicate (2 * layerSize c) 0 in
+    let table : List ℕ = replicate (tableSize c) 0 in
+    let map : List ℕ = replicate words word in
+    unless-refused
+    (mappingVerdict (packed c) returnsP (behaviourNumber b) work table map)
+    (words-count (mappingMap (packed c) returnsP (behaviourNumber b) work table map) (mappingCount (packed c) returnsP (behaviourNumber b) work table map))
 tell (stateOf c b w a) =
     let X = fixedTerm c (returnsOf returnsP) in
     value-amount (stateValue X b 1 (at w a)) (recordedAmount X b 1 (at w a))
@@ -168,6 +185,27 @@ step-rows =
 pub step-cases : map (λ r. tell (r .asked)) step-rows ≡ map (λ r. r .told) step-rows
 unfolding sum first firstFrom largest smallestBest worth valueOver value recorded startValue word long bytesOf termsOf returnsOf freeAmount largestAmount surrenders admits rateOn penalty cash guaranteeAfter balanceAfter nextAccount maturityValue discounted margin stateValue recordedAmount contractValue freeIn admissibleIn limitIn cashIn afterIn reachBy expectOver startOf processOf layerSize layoutOf fixedTerm checkEach verdict numberOf placeOf onSuccess outside short termsChecks recordChecks badReturn listChecks productOf answer behaviourNumber behaviourOf tableSize lentChecks recordVerdict valuingChecks valuingVerdict valuingAnswer amountChecks bookingChecks bookingVerdict bookingBytes bookingBuffer packed P-spare P-step returnsP at unless-refused booked valued tell row step-rows
 step-cases = refl
+
+-- ---- document 02 (ii): the maps of contract P, in words that held ones before; a word behind them; a word too few; two
+-- decision dates, and none
+pub map-rows : List Row
+map-rows =
+    row 1 (mapOf P static 4 18446744073709551615) (words-count (0 ∷ 0 ∷ 0 ∷ 0 ∷ []) 0)
+    ∷ row 2 (mapOf P mixed 4 18446744073709551615)
+    (words-count (720751905197787136 ∷ 1610743968 ∷ 1729663731886981120 ∷ 8323465664 ∷ []) 28)
+    ∷ row 3 (mapOf P dynamic 5 18446744073709551615) (words-count (2048 ∷ 0 ∷ 0 ∷ 0 ∷ 18446744073709551615 ∷ []) 1)
+    ∷ row 4 (mapOf P dynamic 3 0) (number-place 16 0)
+    ∷ row 5 (mapOf P-three mixed 8 0)
+    (words-count
+    (756780702216751104 ∷ 159878338272460968 ∷ 17901530205655307296 ∷ 4612812467922173888
+    ∷ 72145576448230656 ∷ 48 ∷ 1081110252721537024 ∷ 248 ∷ [])
+    102)
+    ∷ row 6 (mapOf P-one mixed 0 0) (words-count [] 0)
+    ∷ []
+
+pub map-cases : map (λ r. tell (r .asked)) map-rows ≡ map (λ r. r .told) map-rows
+unfolding sum tabulate first firstFrom largest smallestBest worth valueOver value recorded startValue word long bytesOf termsOf returnsOf freeAmount largestAmount surrenders admits rateOn penalty cash guaranteeAfter balanceAfter nextAccount maturityValue discounted recordedAmount amountLayers layers freeIn admissibleIn limitIn cashIn afterIn reachBy expectOver startOf processOf layerSize layoutOf fixedTerm checkEach verdict onSuccess outside short termsChecks recordChecks badReturn listChecks productOf behaviourNumber behaviourOf tableSize lentChecks valuingChecks bit fromBits wordsFor wordOf wordsOf setBits surrendered surrenderMap surrenderCount mapSize mapChecks mappingChecks mappingVerdict mappingTable mappingMap mappingCount packed P P-one P-three returnsP unless-refused tell row map-rows
+map-cases = refl
 
 -- "The program .. prints exactly": the five lines for P, as ASCII codes
 pub printed-P : printed (packed P) returnsP

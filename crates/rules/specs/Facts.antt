@@ -15,6 +15,7 @@ use Rattle.rules.specs.Date.{nextAccount, discounted, margin}
 use Rattle.rules.specs.Refusals.{checkEach, numbers, termsChecks, recordChecks, listChecks}
 use Rattle.rules.specs.Printed.{digits, decimal}
 use Rattle.rules.specs.Operations.{lentChecks, valuingChecks, tableChecks, suppliedChecks, amountChecks, bookingChecks, pathChecks, walkChecks}
+use Rattle.rules.specs.Map.{mapChecks, mappingChecks}
 
 -- ---- "Checks run in the order of the table; an operation makes those for which it has the input."
 pub record-order : (bytes : List ℕ) → numbers (recordChecks bytes) ≡ 1 ∷ 2 ∷ 3 ∷ 4 ∷ 5 ∷ 6 ∷ 15 ∷ []
@@ -25,6 +26,12 @@ pub valuing-order : (bytes list : List ℕ) (behaviour : ℕ) (work table : List
     → numbers (valuingChecks bytes list behaviour work table) ≡ 1 ∷ 2 ∷ 3 ∷ 4 ∷ 5 ∷ 6 ∷ 15 ∷ 7 ∷ 8 ∷ 9 ∷ 10 ∷ 11 ∷ []
 unfolding numbers termsChecks recordChecks listChecks lentChecks valuingChecks checkEach
 valuing-order bytes list behaviour work table = refl
+
+pub mapping-order : (bytes list : List ℕ) (behaviour : ℕ) (work table map : List ℕ)
+    → numbers (mappingChecks bytes list behaviour work table map)
+    ≡ 1 ∷ 2 ∷ 3 ∷ 4 ∷ 5 ∷ 6 ∷ 15 ∷ 7 ∷ 8 ∷ 9 ∷ 10 ∷ 11 ∷ 16 ∷ []
+unfolding numbers termsChecks recordChecks listChecks lentChecks valuingChecks checkEach mapChecks mappingChecks
+mapping-order bytes list behaviour work table map = refl
 
 pub supplied-order : (bytes list work table : List ℕ)
     → numbers (suppliedChecks bytes list work table) ≡ 1 ∷ 2 ∷ 3 ∷ 4 ∷ 5 ∷ 6 ∷ 15 ∷ 7 ∷ 8 ∷ 9 ∷ 11 ∷ 14 ∷ []

@@ -5,6 +5,7 @@ pub mod Product
 pub mod FixedTerm
 pub mod Refusals
 pub mod Operations
+pub mod Map
 pub mod Printed
 pub mod Cases
 pub mod Facts

@@ -38,6 +38,13 @@ struct Shape {
     limit: u64,
 }
 
+// How many entries a line gives of the working slice and of the table, if both are understood.
+struct Lengths {
+    known: bool,
+    work: usize,
+    table: usize,
+}
+
 // What a line leaves: the length of its answer, and how many entries of the table count as the last table.
 pub struct Done {
     pub text: usize,
@@ -141,21 +148,15 @@ fn digit(b: u8) -> u8
     16
 }
 
-fn wide8(x: u8) -> u64
-    ensures { λ r. ⌜ r < 256 ⌝ }
-{
+fn wide8(x: u8) -> u64 {
     x as u64
 }
 
-fn wide16(x: u16) -> u64
-    ensures { λ r. ⌜ r < 65536 ⌝ }
-{
+fn wide16(x: u16) -> u64 {
     x as u64
 }
 
-fn wide32(x: u32) -> u64
-    ensures { λ r. ⌜ r < 4294967296 ⌝ }
-{
+fn wide32(x: u32) -> u64 {
     x as u64
 }
 
@@ -233,11 +234,12 @@ fn bytes(text: &[u8], out: &mut [u8]) -> Count
     counted(n)
 }
 
-fn no_pattern() -> Shape
-    ensures { λ r. ⌜ 0 < r .limit ⌝ }
+// No entries: `-`, or a text that is not understood.
+fn empty(known: bool) -> Shape
+    ensures { λ r. ⌜ (r .length ≡ 0) × (0 < r .limit) ⌝ }
 {
     Shape {
-        known: false,
+        known,
         length: 0,
         seed: 0,
         limit: 1,
@@ -252,10 +254,10 @@ fn pattern(text: &[u8], modulus: u64) -> Shape
     let length = decimal(part(text, COLON, 0));
     let seed = decimal(part(text, COLON, 1));
     if !length.known {
-        return no_pattern();
+        return empty(false);
     }
     if !seed.known {
-        return no_pattern();
+        return empty(false);
     }
     let colons = times(text, COLON);
     if colons == 1 {
@@ -268,10 +270,10 @@ fn pattern(text: &[u8], modulus: u64) -> Shape
     }
     let limit = decimal(part(text, COLON, 2));
     if !limit.known {
-        return no_pattern();
+        return empty(false);
     }
     if limit.n == 0 {
-        return no_pattern();
+        return empty(false);
     }
     Shape {
         known: colons == 2,
@@ -281,6 +283,21 @@ fn pattern(text: &[u8], modulus: u64) -> Shape
     }
 }
 
+// `-` or a pattern of at most `room` entries.
+fn shaped(text: &[u8], modulus: u64, room: usize) -> Shape
+    requires { ⌜ 0 < modulus ⌝ }
+    ensures { λ r. ⌜ (r .length ≤ room) × (0 < r .limit) ⌝ }
+{
+    if is_none(text) {
+        return empty(true);
+    }
+    let p = pattern(text, modulus);
+    if room < p.length {
+        return empty(false);
+    }
+    p
+}
+
 fn rest(x: u64, limit: u64) -> u64
     requires { ⌜ 0 < limit ⌝ }
     ensures { λ r. ⌜ r ≤ x ⌝ }
@@ -288,7 +305,26 @@ fn rest(x: u64, limit: u64) -> u64
     x % limit
 }
 
+// x + 7,919 mod the 64-bit prime; the sum itself may pass 64 bits.
+fn stepped(x: u64) -> u64 {
+    if x < 18446744073709543638 {
+        x + 7919
+    } else {
+        x - 18446744073709543638
+    }
+}
+
 // Entry by entry SEED + 7,919 × i, mod the width's prime and then mod the limit.
+fn fill64(out: &mut [u64], n: usize, seed: u64, limit: u64)
+    requires { ⌜ (n ≤ length (now out)) × (0 < limit) ⌝ }
+{
+    let mut x = seed % 18446744073709551557;
+    for i in 0..n {
+        out[i] = rest(x, limit);
+        x = stepped(x);
+    }
+}
+
 fn fill32(out: &mut [u32], n: usize, seed: u64, limit: u64)
     requires { ⌜ (n ≤ length (now out)) × (0 < limit) ⌝ }
 {
@@ -319,38 +355,39 @@ fn fill8(out: &mut [u8], n: usize, seed: u64, limit: u64)
     }
 }
 
+impl Shape {
+    fn count(self) -> Count
+        ensures { λ r. ⌜ r .n ≡ self .length ⌝ }
+    {
+        Count {
+            known: self.known,
+            n: self.length,
+        }
+    }
+}
+
+fn slice64(text: &[u8], out: &mut [u64]) -> Count
+    ensures { λ r. ⌜ r .n ≤ length (now (out .entry)) ⌝ }
+{
+    let p = shaped(text, 18446744073709551557, out.len());
+    fill64(out, p.length, p.seed, p.limit);
+    p.count()
+}
+
 fn slice32(text: &[u8], out: &mut [u32]) -> Count
     ensures { λ r. ⌜ r .n ≤ length (now (out .entry)) ⌝ }
 {
-    if is_none(text) {
-        return counted(0);
-    }
-    let p = pattern(text, 4294967291);
-    if !p.known {
-        return no_count();
-    }
-    if out.len() < p.length {
-        return no_count();
-    }
+    let p = shaped(text, 4294967291, out.len());
     fill32(out, p.length, p.seed, p.limit);
-    counted(p.length)
+    p.count()
 }
 
 fn slice8(text: &[u8], out: &mut [u8]) -> Count
     ensures { λ r. ⌜ r .n ≤ length (now (out .entry)) ⌝ }
 {
-    if is_none(text) {
-        return counted(0);
-    }
-    let p = pattern(text, 251);
-    if !p.known {
-        return no_count();
-    }
-    if out.len() < p.length {
-        return no_count();
-    }
+    let p = shaped(text, 251, out.len());
     fill8(out, p.length, p.seed, p.limit);
-    counted(p.length)
+    p.count()
 }
 
 // n entries parted by commas; whether all are numbers of 16 bits.
@@ -388,15 +425,9 @@ fn slice16(text: &[u8], out: &mut [u16]) -> Count
     if times(text, COLON) == 0 {
         return list16(text, out);
     }
-    let p = pattern(text, 65521);
-    if !p.known {
-        return no_count();
-    }
-    if out.len() < p.length {
-        return no_count();
-    }
+    let p = shaped(text, 65521, out.len());
     fill16(out, p.length, p.seed, p.limit);
-    counted(p.length)
+    p.count()
 }
 
 // I:V, entry I of the first `held` set to V.
@@ -444,11 +475,20 @@ fn table16(text: &[u8], out: &mut [u16], held: usize) -> Count
 }
 
 // ---- digests
+// The digest h with x behind. Taking x mod the prime first keeps the sum within 64 bits.
 fn mixed(h: u64, x: u64) -> u64
-    requires { ⌜ (h < 4294967291) × (x < 4294967296) ⌝ }
+    requires { ⌜ h < 4294967291 ⌝ }
     ensures { λ r. ⌜ r < 4294967291 ⌝ }
 {
-    (h * 31 + x + 1) % 4294967291
+    (h * 31 + x % 4294967291 + 1) % 4294967291
+}
+
+fn digest64(s: &[u64]) -> u64 {
+    let mut h: u64 = 7;
+    for i in 0..s.len() {
+        h = mixed(h, s[i]);
+    }
+    h
 }
 
 fn digest32(s: &[u32]) -> u64 {
@@ -665,17 +705,31 @@ fn record_line(line: &[u8], is_check: bool, out: &mut [u8]) -> usize
     with_record(is_check, &record[0..i], line, out)
 }
 
-// Value and margin behind number and place, then the digests.
-fn valued(answer: Answer, work: &[u32], table: &[u16], out: &mut [u8]) -> usize
+// Number, place, value and margin.
+fn amounts(out: &mut [u8], answer: Answer) -> usize
     ensures { λ r. ⌜ r ≤ length (now (out .entry)) ⌝ }
 {
     let a = outcome(out, answer.number, answer.place);
     let b = spaced(out, a, answer.value as u64);
     let margin = answer.margin;
-    let c = signed(out, b, margin);
-    let d = spaced(out, c, digest32(work));
-    let e = spaced(out, d, digest16(table));
-    byte(out, e, NEW_LINE)
+    signed(out, b, margin)
+}
+
+// The digests of a working slice and a table.
+fn digests(out: &mut [u8], at: usize, work: &[u32], table: &[u16]) -> usize
+    requires { ⌜ at ≤ length (now out) ⌝ }
+    ensures { λ r. ⌜ r ≤ length (now (out .entry)) ⌝ }
+{
+    let next = spaced(out, at, digest32(work));
+    spaced(out, next, digest16(table))
+}
+
+fn valued(answer: Answer, work: &[u32], table: &[u16], out: &mut [u8]) -> usize
+    ensures { λ r. ⌜ r ≤ length (now (out .entry)) ⌝ }
+{
+    let a = amounts(out, answer);
+    let b = digests(out, a, work, table);
+    byte(out, b, NEW_LINE)
 }
 
 fn value(
@@ -692,12 +746,52 @@ fn value(
     valued(answer, work, table, out)
 }
 
+fn value_map(
+    record: &[u8],
+    list: &[u8],
+    behaviour: u64,
+    work: &mut [u32],
+    table: &mut [u16],
+    map: &mut [u64],
+    out: &mut [u8],
+) -> usize
+    ensures { λ r. ⌜ r ≤ length (now (out .entry)) ⌝ }
+{
+    let told = mapping::value_map(record, list, behaviour as usize, work, table, map);
+    let a = amounts(out, told.answer);
+    let b = spaced(out, a, told.count);
+    let c = digests(out, b, work, table);
+    let d = spaced(out, c, digest64(map));
+    byte(out, d, NEW_LINE)
+}
+
 fn no_table(out: &mut [u8]) -> Done
     ensures { λ r. ⌜ (r .text ≤ length (now (out .entry))) × (r .table ≡ 0) ⌝ }
 {
     Done {
         text: error(out),
         table: 0,
+    }
+}
+
+// Words i and j of a line: a working slice, which a walk puts its cash in, and a table.
+fn work_and_table(
+    line: &[u8],
+    i: usize,
+    j: usize,
+    held: usize,
+    work: &mut [u32],
+    table: &mut [u16],
+) -> Lengths
+    requires { ⌜ held ≤ length (now table) ⌝ }
+    ensures { λ r. ⌜ (r .work ≤ length (now (work .entry))) × (r .table ≤ length (now (table .entry))) ⌝ }
+{
+    let c = slice32(part(line, SPACE, i), work);
+    let d = table16(part(line, SPACE, j), table, held);
+    Lengths {
+        known: c.known && d.known,
+        work: c.n,
+        table: d.n,
     }
 }
 
@@ -715,11 +809,10 @@ fn value_line(
     ensures { λ r. ⌜ (r .text ≤ length (now (out .entry))) × (r .table ≤ length (now (table .entry))) ⌝ }
 {
     let behaviour = decimal(part(line, SPACE, 3));
-    let c = slice32(part(line, SPACE, 4), work);
-    let d = table16(part(line, SPACE, 5), table, held);
-    let k = c.n;
-    let n = d.n;
-    if !(behaviour.known && c.known && d.known) {
+    let s = work_and_table(line, 4, 5, held, work, table);
+    let k = s.work;
+    let n = s.table;
+    if !(behaviour.known && s.known) {
         return no_table(out);
     }
     let text = value(
@@ -728,6 +821,41 @@ fn value_line(
         behaviour.n,
         &mut work[0..k],
         &mut table[0..n],
+        out,
+    );
+    Done { text, table: n }
+}
+
+// BEHAVIOUR WORK TABLE MAP of a valuation with its map.
+fn map_line(
+    record: &[u8],
+    list: &[u8],
+    line: &[u8],
+    held: usize,
+    work: &mut [u32],
+    table: &mut [u16],
+    out: &mut [u8],
+) -> Done
+    requires { ⌜ held ≤ length (now table) ⌝ }
+    ensures { λ r. ⌜ (r .text ≤ length (now (out .entry))) × (r .table ≤ length (now (table .entry))) ⌝ }
+{
+    let behaviour = decimal(part(line, SPACE, 3));
+    let s = work_and_table(line, 4, 5, held, work, table);
+    let mut map: [u64; 2048] = [0; 2048];
+    let m = slice64(part(line, SPACE, 6), &mut map);
+    let k = s.work;
+    let n = s.table;
+    let j = m.n;
+    if !(behaviour.known && s.known && m.known) {
+        return no_table(out);
+    }
+    let text = value_map(
+        record,
+        list,
+        behaviour.n,
+        &mut work[0..k],
+        &mut table[0..n],
+        &mut map[0..j],
         out,
     );
     Done { text, table: n }
@@ -753,11 +881,10 @@ fn table_line(
     requires { ⌜ held ≤ length (now table) ⌝ }
     ensures { λ r. ⌜ (r .text ≤ length (now (out .entry))) × (r .table ≤ length (now (table .entry))) ⌝ }
 {
-    let c = slice32(part(line, SPACE, 3), work);
-    let d = table16(part(line, SPACE, 4), table, held);
-    let k = c.n;
-    let n = d.n;
-    if !(c.known && d.known) {
+    let s = work_and_table(line, 3, 4, held, work, table);
+    let k = s.work;
+    let n = s.table;
+    if !s.known {
         return no_table(out);
     }
     let text = value_of(record, list, &mut work[0..k], &table[0..n], out);
@@ -781,7 +908,7 @@ fn walked(
     byte(out, c, NEW_LINE)
 }
 
-// TABLE NUMBERS CASH of a walk. The cash is put in the working slice.
+// TABLE NUMBERS CASH of a walk.
 fn walk_line(
     record: &[u8],
     list: &[u8],
@@ -794,14 +921,13 @@ fn walk_line(
     requires { ⌜ held ≤ length (now table) ⌝ }
     ensures { λ r. ⌜ (r .text ≤ length (now (out .entry))) × (r .table ≤ length (now (table .entry))) ⌝ }
 {
-    let d = table16(part(line, SPACE, 3), table, held);
+    let s = work_and_table(line, 5, 3, held, work, table);
     let mut path: [u16; 64] = [0; 64];
     let b = slice16(part(line, SPACE, 4), &mut path);
-    let c = slice32(part(line, SPACE, 5), work);
-    let n = d.n;
+    let k = s.work;
+    let n = s.table;
     let j = b.n;
-    let k = c.n;
-    if !(d.known && b.known && c.known) {
+    if !(s.known && b.known) {
         return no_table(out);
     }
     let text = walked(
@@ -815,7 +941,7 @@ fn walk_line(
     Done { text, table: n }
 }
 
-// Valuation 0, supplied table 1, walk 2.
+// Valuation 0, supplied table 1, walk 2, valuation with its map 3.
 fn with_list(
     kind: usize,
     record: &[u8],
@@ -835,7 +961,10 @@ fn with_list(
     if kind == 1 {
         return table_line(record, list, line, held, work, table, out);
     }
-    walk_line(record, list, line, held, work, table, out)
+    if kind == 2 {
+        return walk_line(record, list, line, held, work, table, out);
+    }
+    map_line(record, list, line, held, work, table, out)
 }
 
 // The operations on a record and a list.
@@ -904,6 +1033,9 @@ pub fn answer(line: &[u8], held: usize, work: &mut [u32], table: &mut [u16], out
     }
     if fields == 5 && same(name, b"walk") {
         return list_line(line, 2, held, work, table, out);
+    }
+    if fields == 6 && same(name, b"value_map") {
+        return list_line(line, 3, held, work, table, out);
     }
     no_table(out)
 }

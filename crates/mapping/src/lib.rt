@@ -1,0 +1,47 @@
+// Valuing a contract under one of the three behaviours, with a map of surrender.
+ghost use mathlib.Core.Path.{_≡_};
+ghost use Rattle.mapping.specs.Mapped.{mapRefusal, Mapping};
+use contract::Agreement;
+use contract::Outcome;
+use valuing::Answer;
+
+// The answer of valuing, and the number of set bits.
+pub struct Mapped {
+    pub answer: Answer,
+    pub count: u64,
+}
+
+fn refused(outcome: Outcome) -> Mapped
+    ensures { λ r. ⌜ r ≡ mapRefusal (outcome .number) (outcome .place) ⌝ }
+{
+    let answer = valuing::refused(outcome);
+    Mapped { answer, count: 0 }
+}
+
+// Values a contract and fills the map of its table. Nothing is written before the last check.
+pub fn value_map(
+    bytes: &[u8],
+    list: &[u8],
+    behaviour: usize,
+    work: &mut [u32],
+    table: &mut [u16],
+    map: &mut [u64],
+) -> Mapped
+    ensures { λ r. ⌜ Mapping (now (bytes .entry)) (now (list .entry)) behaviour
+        (now (work .entry)) (now (table .entry)) (now (map .entry)) r
+        (now (work .exit)) (now (table .exit)) (now (map .exit)) ⌝ }
+{
+    let agreement = valuing::check(bytes, list, behaviour, &work[..], &table[..]);
+    let Agreement::Accepted(c, returns) = agreement else {
+        return refused(agreement.outcome());
+    };
+    if map.len() < surrender::map_size(c) {
+        return refused(Outcome {
+            number: 16,
+            place: 0,
+        });
+    }
+    let answer = valuing::valued(c, list, returns.count, behaviour, work, table);
+    let count = surrender::fill(c, &table[..], map);
+    Mapped { answer, count }
+}
