@@ -3,15 +3,13 @@ use mathlib.Core.List.{List, _++_}
 use mathlib.Core.Path.{_≡_, refl, ap, ap₂, sym, _∙_, subst}
 use Prim.Native.Nat.{ℕ}
 use native.Mathlib.Omega.{arith}
-use Rattle.rules.specs.Contract.{Terms, termsOf, returnsOf}
+use Rattle.rules.specs.Contract.{termsOf, returnsOf}
 use Rattle.rules.specs.Refusals.{Verdict, accepted, refused, verdict, recordChecks, listChecks}
 use Rattle.laws.specs.Accepted.{Valid, ValidReturns, all-pass, valid-record, valid-returns, andThen, verdict-append, both-terms, both-returns}
 use Rattle.contract.specs.declared.Contract.{Contract}
 use Rattle.contract.specs.declared.Returns.{Returns}
 use Rattle.contract.specs.declared.Outcome.{Outcome}
-use Rattle.contract.specs.declared.Reading.{Reading}
 use Rattle.contract.specs.declared.Reading.the-variants as reading
-use Rattle.contract.specs.declared.Listing.{Listing}
 use Rattle.contract.specs.declared.Listing.the-variants as listing
 use Rattle.contract.specs.declared.Agreement.the-variants as agreement
 use Rattle.contract.specs.Reading.{contractOf, termsIn, outcomeAt, readingOf, readingVerdict, listingOf, listingVerdict, agreementOf, agreementVerdict, recordRead, listRead, bothRead}

@@ -1,7 +1,7 @@
 -- Bits by an index, in words of 64 with the lowest bit first. Assumes nothing.
 use mathlib.Core.Bool.{Bool, true, false, cond}
 use mathlib.Core.List.{List, _++_}
-use mathlib.Core.Path.{_≡_, refl, ap, ap₂, sym, _∙_, fun-ext}
+use mathlib.Core.Path.{_≡_, ap, ap₂, sym, _∙_, fun-ext}
 use Prim.Native.Nat.{ℕ, zero, suc, _+_, _-_, _*_, _/_, _%_, _^_, _≤_, _<_, min}
 use native.Mathlib.Nat.{add-zero, add-assoc, mul-assoc, mul-add, mul-left-comm, pow-suc, pow-succ', two-pow-succ, pow-le-pow-right, div-div-eq-div-mul, div-eq-of-lt}
 use native.Mathlib.Decide.{decLe}

@@ -1,6 +1,5 @@
 // The calls for a C host: numbers and slices in, numbers out. include/gmwb.h declares them.
 ghost use mathlib.Core.Path.{_≡_};
-ghost use Prim.Native.Nat.{ℕ};
 ghost use Rattle.rules.specs.Product.{Claim};
 ghost use Rattle.rules.specs.Refusals.{numberOf, placeOf};
 ghost use Rattle.rules.specs.Operations.{productOf, behaviourOf, recordVerdict, bookingVerdict, bookingBuffer, valuingAnswer, valuingWork, valuingTable, suppliedAnswer, suppliedWork, walkVerdict, walkCashes};

@@ -1,16 +1,15 @@
 -- The map of surrender: what its bits say, what the static one is, and that valuing stays what it is. Assumes nothing.
 use mathlib.Core.Bool.{Bool, true, false, _&&_}
 use mathlib.Core.List.{List, _++_}
-use mathlib.Core.Path.{_≡_, refl, ap, sym, _∙_, subst}
+use mathlib.Core.Path.{_≡_, refl, ap, sym, _∙_}
 use Prim.Native.Nat.{ℕ, suc, _-_, _*_, _/_, _%_, _≤_, _<_}
 use native.Mathlib.Nat.{div-lt-iff-lt-mul}
 use native.Mathlib.Omega.{arith}
 use lib.Dec.{T, ltb, eqb, ltb→lt, eqb→eq}
-use lib.ListN.{getD, length, drop, replicate}
+use lib.ListN.{getD, drop, replicate}
 use Rattle.decision.specs.Index.{sum, sum-eq, getD-tabulate, false-is}
-use Rattle.decision.specs.Bits.{bit, wordsFor, wordOf, wordsOf, setBits, bitAt, ones, words-count, word-back, word-unused, words-none, bits-unset}
+use Rattle.decision.specs.Bits.{bit, wordsFor, wordOf, wordsOf, bitAt, ones, words-count, word-back, word-unused, words-none, bits-unset}
 use Rattle.decision.specs.Choice.{and-left, and-right}
-use Rattle.decision.specs.Process.{Attained}
 use Rattle.decision.specs.Optimal.{recorded-best}
 use Rattle.decision.specs.Layers.{lookup, layers, entry, entry-within, entry-state}
 use Rattle.rules.specs.Contract.{Terms, Returns, termsOf, returnsOf}
@@ -21,7 +20,7 @@ use Rattle.rules.specs.Refusals.{Verdict, accepted, refused, verdict, onSuccess
 use Rattle.rules.specs.Operations.{productOf, Answer, answer, behaviourNumber, behaviourOf, tableSize, valuingChecks, valuingVerdict, valuingAnswer, valuingWork, valuingTable}
 use Rattle.rules.specs.Map.{surrendered, surrenderMap, surrenderCount, mapSize, mapChecks, mappingChecks, mappingVerdict, mappingAnswer, mappingWork, mappingTable, mappingMap, mappingCount}
 use Rattle.rules.specs.Facts.{mapping-order}
-use Rattle.laws.specs.Accepted.{Valid, Positive, zero-accepts, andThen, verdict-append, then-refused, then-accepted, then-earlier}
+use Rattle.laws.specs.Accepted.{Positive, zero-accepts, andThen, verdict-append, then-refused, then-accepted, then-earlier}
 use Rattle.laws.specs.FixedTerm.{opened, size-some, placed}
 use Rattle.laws.specs.ThirdDemand.{valuing-claim}
 

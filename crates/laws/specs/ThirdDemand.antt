@@ -1,19 +1,18 @@
 -- The third demand of what the valuing calls report and leave. Assumes nothing.
-use mathlib.Core.List.{List, [], _∷_, _++_}
+use mathlib.Core.List.{List, _++_}
 use mathlib.Core.Path.{_≡_, refl, ap, sym, _∙_, subst, fun-ext}
-use Prim.Native.Nat.{ℕ, zero, suc, _≤_}
+use Prim.Native.Nat.{ℕ}
 use native.Mathlib.Omega.{arith}
 use lib.ListN.{drop}
 use Rattle.decision.specs.Process.{Attained}
 use Rattle.decision.specs.Layers.{lookup}
 use Rattle.rules.specs.Contract.{termsOf, returnsOf}
 use Rattle.rules.specs.Date.{Behaviour, static, mixed, dynamic}
-use Rattle.rules.specs.Product.{Product, contractValue, amountLayers, ThirdDemand, Claim}
-use Rattle.rules.specs.FixedTerm.{State, Held, fixedTerm}
-use Rattle.rules.specs.Refusals.{Check, Verdict, accepted, verdict, numbers, numberOf, onSuccess}
+use Rattle.rules.specs.Product.{contractValue, amountLayers, ThirdDemand, Claim}
+use Rattle.rules.specs.Refusals.{accepted, onSuccess}
 use Rattle.rules.specs.Operations.{productOf, answer, behaviourNumber, behaviourOf, tableSize, valuingChecks, valuingVerdict, valuingAnswer, valuingTable}
 use Rattle.laws.specs.Accepted.{Valid, ValidReturns, Positive, zero-accepts, then-earlier, both-terms, both-returns}
-use Rattle.laws.specs.Demand.{Sound, table-attains, demand}
+use Rattle.laws.specs.Demand.{table-attains, demand}
 use Rattle.laws.specs.FixedTerm.{sound}
 use Rattle.rules.specs.Facts.{valuing-order}
 

@@ -4,12 +4,12 @@ use mathlib.Core.List.{List, _++_}
 use mathlib.Core.Path.{_≡_, ap, ap₂, sym, _∙_}
 use Prim.Native.Nat.{ℕ}
 use lib.ListN.{drop}
-use Rattle.rules.specs.Contract.{Terms, termsOf, returnsOf}
-use Rattle.rules.specs.Refusals.{accepted, refused, onSuccess, short}
-use Rattle.rules.specs.Operations.{productOf, behaviourOf, valuingVerdict}
+use Rattle.rules.specs.Contract.{Terms, returnsOf}
+use Rattle.rules.specs.Refusals.{refused, onSuccess, short}
+use Rattle.rules.specs.Operations.{behaviourOf, valuingVerdict}
 use Rattle.rules.specs.Map.{surrenderMap, surrenderCount, mapSize, mappingVerdict, mappingAnswer, mappingCount, mappingWork, mappingTable, mappingMap}
 use Rattle.laws.specs.Accepted.{success-reports}
-use Rattle.laws.specs.Map.{mapping-refused, mapping-short, mapping-same, mapping-claim}
+use Rattle.laws.specs.Map.{mapping-short, mapping-same, mapping-claim}
 use Rattle.contract.specs.declared.Contract.{Contract}
 use Rattle.contract.specs.declared.Returns.{Returns}
 use Rattle.contract.specs.Accepted.{Agreed}

@@ -2,7 +2,7 @@
 // may take: 20 for a number, 126 for the line of a return.
 ghost use mathlib.Core.Path.{_≡_};
 ghost use mathlib.Core.List.{[], _∷_, _++_};
-ghost use Prim.Native.Nat.{ℕ, _+_, _*_, _≤_, _<_};
+ghost use Prim.Native.Nat.{_+_, _*_, _≤_, _<_};
 ghost use lib.ListN.{length, take, drop, getD};
 ghost use Rattle.rules.specs.Contract.{termsOf, returnsOf};
 ghost use Rattle.rules.specs.Date.{static, mixed, dynamic};

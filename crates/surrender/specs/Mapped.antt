@@ -42,7 +42,7 @@ pub record Worded (c : Terms) (table : List ℕ) (from n : ℕ) (r : Run) : Type
   pub ends : r .next ≡ stateOf c (from + n)
 
 -- a table and a map that are long enough
-pub record Mapping (c : Terms) (table map : List ℕ) : Type 0 where
+pub record MapRoom (c : Terms) (table map : List ℕ) : Type 0 where
   pub valid : Valid c
   pub entries : tableSize c ≤ length table
   pub words : mapSize c ≤ length map

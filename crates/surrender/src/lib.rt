@@ -8,7 +8,7 @@ ghost use Rattle.decision.specs.Bits.{bit, fromBits, setBits, ones};
 ghost use Rattle.rules.specs.Map.{surrenderMap, surrenderCount, mapSize};
 ghost use Rattle.laws.specs.Accepted.{Valid};
 ghost use Rattle.contract.specs.Reading.{termsIn};
-ghost use Rattle.surrender.specs.Mapped.{draws, stateOf, Open, Wording, Worded, Mapping};
+ghost use Rattle.surrender.specs.Mapped.{draws, stateOf, Open, Wording, Worded, MapRoom};
 use contract::Contract;
 
 pub struct State {
@@ -152,7 +152,7 @@ pub fn map_size(c: Contract) -> usize
 
 // Fills the map of a table, word by word, and counts its set bits.
 pub fn fill(c: Contract, table: &[u16], map: &mut [u64]) -> u64
-    requires { ⌜ Mapping (termsIn c) (now table) (now map) ⌝ }
+    requires { ⌜ MapRoom (termsIn c) (now table) (now map) ⌝ }
     ensures { λ r. ⌜ r ≡ surrenderCount (termsIn c) (now (table .entry)) ⌝ }
     ensures { λ _. ⌜ now (map .exit) ≡ surrenderMap (termsIn c) (now (table .entry)) ++ drop (mapSize (termsIn c)) (now (map .entry)) ⌝ }
 {

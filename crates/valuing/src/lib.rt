@@ -1,8 +1,7 @@
 // Valuing a contract under one of the three behaviours.
 ghost use mathlib.Core.Path.{_≡_};
 ghost use mathlib.Core.Bool.{_||_};
-ghost use Prim.Native.Nat.{ℕ, _*_, _≤_};
-ghost use lib.ListN.{length};
+ghost use Prim.Native.Nat.{_*_, _≤_};
 ghost use Rattle.rules.specs.Contract.{topMost, returnsOf};
 ghost use Rattle.rules.specs.Date.{margin};
 ghost use Rattle.rules.specs.Product.{Claim};

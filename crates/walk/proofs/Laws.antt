@@ -13,7 +13,7 @@ use lib.ListN.{length, getD, set, drop}
 use borrow.Rule.Slice.PartMut.{midOf}
 use Rattle.decision.specs.Index.{tabulate, length-tabulate, first, all-fail}
 use Rattle.slices.specs.Stored.{stored, stored-front}
-use Rattle.decision.specs.Layers.{lookup, entry}
+use Rattle.decision.specs.Layers.{lookup}
 use Rattle.rules.specs.Contract.{Terms, topMost, termsOf, Returns, returnsOf}
 use Rattle.rules.specs.Date.{dynamic, freeAmount, admits, balanceAfter, guaranteeAfter, nextAccount}
 use Rattle.rules.specs.Product.{walkState, walkAmount, walkCash}

@@ -4,7 +4,6 @@ use mathlib.Core.Path.{sym, ap, ap₂, _∙_}
 use Rattle.laws.specs.Accepted.{andThen}
 use Rattle.rules.specs.Refusals.{Verdict, verdict, numberOf, placeOf, listChecks}
 use Rattle.contract.specs.declared.Listing.{Listing}
-use Rattle.contract.specs.declared.Outcome.{Outcome}
 use Rattle.contract.specs.declared.Reading.{Reading}
 use Rattle.contract.specs.declared.Agreement.the-variants as agreement
 use Rattle.contract.specs.Accepted.{read-accepted, read-refused, list-accepted, list-refused, both-accepted, both-refused}

@@ -1,6 +1,5 @@
 -- `dates::layer_of` meets its contract. Assumes nothing.
 use borrow.Author.Needs.{needs}
-use mathlib.Core.Path.{sym}
 use native.Mathlib.Omega.{arith}
 use Rattle.contract.specs.Reading.{termsIn}
 use Rattle.laws.specs.FixedTerm.{table-most}

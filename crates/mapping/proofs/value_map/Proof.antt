@@ -4,7 +4,7 @@ use borrow.Author.Tests.{lt-ltb, le-ltb}
 use mathlib.Core.Path.{sym, ap, _∙_}
 use native.Mathlib.Omega.{arith}
 use Rattle.contract.specs.Accepted.{agreed, disagreed}
-use Rattle.contract.specs.Reading.{agreementVerdict, outcomeOf, termsIn}
+use Rattle.contract.specs.Reading.{agreementVerdict, outcomeOf}
 use Rattle.contract.specs.declared.Agreement.{Agreement}
 use Rattle.contract.specs.declared.Outcome.{Outcome}
 use Rattle.laws.specs.Map.{mapping-refused}

@@ -5,7 +5,7 @@ use mathlib.Core.Path.{_≡_, ap, ap₂, sym, _∙_}
 use native.Mathlib.Omega.{arith}
 use Rattle.decision.specs.Bits.{bit-le}
 use Rattle.surrender.specs.Mapped.{draws}
-use Rattle.surrender.proofs.Laws.{above, above-none, above-next, above-all, above-fits}
+use Rattle.surrender.proofs.Bits.{above, above-none, above-next, above-all, above-fits}
 use Rattle.surrender.proofs.each.Statement.{statement}
 use Rattle.surrender.proofs.each.Tie as tie
 

@@ -7,7 +7,7 @@ use Rattle.contract.specs.Reading.{termsIn}
 use Rattle.decision.specs.Bits.{bitsIn}
 use Rattle.rules.specs.Map.{mapSize}
 use Rattle.slices.specs.Stored.{length-stored}
-use Rattle.surrender.proofs.Laws.{Filled, filled-none, word-some, wording, filled-more, filled-count, filled-map}
+use Rattle.surrender.proofs.Words.{Filled, filled-none, word-some, wording, filled-more, filled-count, filled-map}
 use Rattle.surrender.proofs.fill.Statement.{statement}
 use Rattle.surrender.proofs.fill.Tie as tie
 

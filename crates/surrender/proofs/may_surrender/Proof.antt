@@ -1,6 +1,5 @@
 -- `surrender::may_surrender` meets its contract. Assumes nothing.
 use borrow.Author.Needs.{needs}
-use mathlib.Core.Path.{_∙_}
 use native.Mathlib.Omega.{arith}
 use Rattle.rules.specs.Date.{freeAmount}
 use Rattle.surrender.proofs.may_surrender.Statement.{statement}

@@ -1,9 +1,9 @@
 -- `surrender::ones` meets its contract. Assumes nothing.
 use Prim.Native.Nat.{_+_, _≤_}
-use mathlib.Core.Path.{_≡_, refl, ap, sym, _∙_}
+use mathlib.Core.Path.{_≡_, ap, _∙_}
 use native.Mathlib.Omega.{arith}
 use Rattle.decision.specs.Bits.{ones}
-use Rattle.surrender.proofs.Laws.{ones-half, ones-none, ones-le}
+use Rattle.surrender.proofs.Bits.{ones-half, ones-none, ones-le}
 use Rattle.surrender.proofs.ones.Statement.{statement}
 use Rattle.surrender.proofs.ones.Tie as tie
 

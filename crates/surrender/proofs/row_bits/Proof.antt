@@ -5,7 +5,7 @@ use mathlib.Core.Path.{sym, ap, _∙_}
 use native.Mathlib.Omega.{arith}
 use lib.ListN.{length}
 use Rattle.surrender.specs.Mapped.{draws}
-use Rattle.surrender.proofs.Laws.{unset-bits, all-ones}
+use Rattle.surrender.proofs.Bits.{unset-bits, all-ones}
 use Rattle.surrender.proofs.row_bits.Statement.{statement}
 use Rattle.surrender.proofs.row_bits.Tie as tie
 

@@ -2,7 +2,7 @@
 use borrow.Author.Needs.{needs}
 use native.Mathlib.Omega.{arith}
 use Rattle.contract.specs.Reading.{termsIn}
-use Rattle.surrender.proofs.Laws.{next-same, next-row, next-layer}
+use Rattle.surrender.proofs.States.{next-same, next-row, next-layer}
 use Rattle.surrender.proofs.step.Statement.{statement}
 use Rattle.surrender.proofs.step.Tie as tie
 

@@ -1,11 +1,11 @@
 -- `surrender::whole` meets its contract. Assumes nothing.
 use Prim.Native.Nat.{_+_, _-_, _≤_}
 use lib.ListN.{length}
-use mathlib.Core.Path.{_≡_, refl, ap, ap₂, sym, _∙_}
+use mathlib.Core.Path.{_≡_, ap, ap₂, sym, _∙_}
 use native.Mathlib.Omega.{arith}
 use Rattle.decision.specs.Bits.{setBits}
 use Rattle.surrender.specs.Mapped.{draws}
-use Rattle.surrender.proofs.Laws.{set-none, set-next, set-most}
+use Rattle.surrender.proofs.Bits.{set-none, set-next, set-most}
 use Rattle.surrender.proofs.whole.Statement.{statement}
 use Rattle.surrender.proofs.whole.Tie as tie
 

@@ -1,14 +1,14 @@
 -- `surrender::word` meets its contract. Assumes nothing.
-use Prim.Native.Nat.{ℕ, _+_, _-_, _*_, _^_, _≤_, _<_, min}
+use Prim.Native.Nat.{ℕ, _+_, _-_}
 use borrow.Author.Needs.{needs}
-use mathlib.Core.Path.{_≡_, refl, ap, sym, _∙_}
+use mathlib.Core.Path.{_≡_, ap, _∙_}
 use native.Mathlib.Omega.{arith}
 use Rattle.contract.specs.Reading.{termsIn}
 use Rattle.decision.specs.Bits.{fromBits}
 use Rattle.laws.specs.FixedTerm.{table-most}
 use Rattle.rules.specs.Map.{surrendered}
 use Rattle.surrender.specs.Mapped.{stateOf}
-use Rattle.surrender.proofs.Laws.{Taken, taken-none, next-within, part-some, part-within, part-inside, part-room, row-long, added-fits, taken-more}
+use Rattle.surrender.proofs.Words.{Taken, taken-none, next-within, part-some, part-within, part-inside, part-room, row-long, added-fits, taken-more}
 use Rattle.surrender.proofs.word.Statement.{statement}
 use Rattle.surrender.proofs.word.Tie as tie
 

@@ -7,7 +7,6 @@ use mir.Syntax.{w64}
 use mir.Val.{SFits}
 use native.Mathlib.Omega.{arith}
 use Rattle.rules.specs.Date.{margin}
-use Rattle.rules.specs.FixedTerm.{layerSize}
 use Rattle.slices.specs.Stored.{stored}
 use Rattle.valuing.proofs.Laws.{mag-sub}
 use Rattle.valuing.proofs.settle.Statement.{statement}

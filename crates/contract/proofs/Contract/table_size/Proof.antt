@@ -1,7 +1,7 @@
 -- `contract::Contract::table_size` meets its contract. Assumes nothing.
 use Prim.Native.Nat.{ℕ, _-_, _*_, _≤_}
 use borrow.Author.Needs.{needs}
-use mathlib.Core.Path.{_≡_, ap, sym, _∙_, subst}
+use mathlib.Core.Path.{ap, sym, subst}
 use native.Mathlib.Omega.{arith}
 use Rattle.rules.specs.Operations.{tableSize}
 use Rattle.laws.specs.FixedTerm.{table-most}
