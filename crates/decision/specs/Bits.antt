@@ -84,7 +84,12 @@ bits-lt f (suc n) = go (f n) (bits-lt f n) (two-pow-succ n)
 -- a bit below all others
 pub bits-cons : (f : ℕ → Bool) (n : ℕ) → fromBits f (suc n) ≡ bit (f 0) + 2 * fromBits (λ k. f (suc k)) n
 unfolding fromBits sum
-bits-cons f n = ap (fromBits f) (let e : suc n ≡ 1 + n = omega arith in e) ∙ bits-append f 1 n ∙ ap₂ _+_ one (ap (λ (g : ℕ → Bool). 2 * fromBits g n) (fun-ext (λ k. ap f (let e : 1 + k ≡ suc k = omega arith in e))))
+bits-cons f n =
+    let rest : _≡_ {A = ℕ → Bool} (λ k. f (1 + k)) (λ k. f (suc k)) =
+    fun-ext (λ k. ap f (let e : 1 + k ≡ suc k = omega arith in e)) in
+    ap (fromBits f) (let e : suc n ≡ 1 + n = omega arith in e)
+    ∙ bits-append f 1 n
+    ∙ ap₂ _+_ one (ap (λ (g : ℕ → Bool). 2 * fromBits g n) rest)
   where
     one : fromBits f 1 ≡ bit (f 0)
     one = omega arith
@@ -138,7 +143,8 @@ module _ (f : ℕ → Bool) (n : ℕ) where
       go (yes h) e =
           let all : min n (64 * suc j) ≡ min n (64 * j) + bitsIn n j = omega arith in
           let to : min n (64 * j) ≡ 64 * j = omega arith in
-          rw (all, to) (ap₂ _+_ (e ∙ ap (setBits f) to) (ones-bits (λ k. f (64 * j + k)) (bitsIn n j) (omega arith)) ∙ sym (sum-append (λ k. bit (f k)) (64 * j) (bitsIn n j)))
+          let last = ones-bits (λ k. f (64 * j + k)) (bitsIn n j) (omega arith) in
+          rw (all, to) (ap₂ _+_ (e ∙ ap (setBits f) to) last ∙ sym (sum-append (λ k. bit (f k)) (64 * j) (bitsIn n j)))
       go (no h) e =
           let none : bitsIn n j ≡ 0 = omega arith in
           let same : min n (64 * suc j) ≡ min n (64 * j) = omega arith in
@@ -155,7 +161,8 @@ module _ (f : ℕ → Bool) (n : ℕ) where
       let w : e / 64 < (n + 63) / 64 = omega arith in
       let k : e % 64 < min 64 (n - 64 * (e / 64)) = omega arith in
       let i : 64 * (e / 64) + e % 64 ≡ e = omega arith in
-      rw (getD-tabulate ((n + 63) / 64) (e / 64) (wordOf f n) rest w, bit-back (λ k. f (64 * (e / 64) + k)) (min 64 (n - 64 * (e / 64))) (e % 64) k, i)
+      let in-word = bit-back (λ k. f (64 * (e / 64) + k)) (bitsIn n (e / 64)) (e % 64) k in
+      rw (getD-tabulate ((n + 63) / 64) (e / 64) (wordOf f n) rest w, in-word, i)
 
   -- .. and the bits behind them are clear
   pub word-unused : (e : ℕ) (rest : List ℕ) → n ≤ e → e < 64 * wordsFor n → bitAt (wordsOf f n ++ rest) e ≡ 0
@@ -163,7 +170,8 @@ module _ (f : ℕ → Bool) (n : ℕ) where
   word-unused e rest l h =
       let w : e / 64 < (n + 63) / 64 = omega arith in
       let k : min 64 (n - 64 * (e / 64)) ≤ e % 64 = omega arith in
-      rw (getD-tabulate ((n + 63) / 64) (e / 64) (wordOf f n) rest w, bit-above (λ k. f (64 * (e / 64) + k)) (min 64 (n - 64 * (e / 64))) (e % 64) k)
+      let in-word = bit-above (λ k. f (64 * (e / 64) + k)) (bitsIn n (e / 64)) (e % 64) k in
+      rw (getD-tabulate ((n + 63) / 64) (e / 64) (wordOf f n) rest w, in-word)
 
 -- ---- no bit set
 module _ (f : ℕ → Bool) (n : ℕ) (none : (e : ℕ) → e < n → f e ≡ false) where

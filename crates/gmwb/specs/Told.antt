@@ -8,8 +8,8 @@ use Rattle.rules.specs.Operations.{productOf, behaviourOf}
 use Rattle.rules.specs.Map.{mappingAnswer, mappingCount, mappingWork, mappingTable, mappingMap}
 
 -- gmwb_value_map: what it is given, what it returns and writes, and what it leaves in the three slices
-pub record MapTold (bytes list : List ℕ) (behaviour : ℕ) (work table map : List ℕ) (number place value : ℕ) (margin : ℤ) (count : ℕ)
-    (work' table' map' : List ℕ) : Type 0 where
+pub record MapTold (bytes list : List ℕ) (behaviour : ℕ) (work table map : List ℕ)
+    (number place value : ℕ) (margin : ℤ) (count : ℕ) (work' table' map' : List ℕ) : Type 0 where
   pub number-is : number ≡ mappingAnswer bytes list behaviour work table map .number
   pub place-is : place ≡ mappingAnswer bytes list behaviour work table map .place
   pub value-is : value ≡ mappingAnswer bytes list behaviour work table map .value

@@ -38,7 +38,8 @@ module _ (c : Terms) (table rest : List ℕ) where
 
   -- the bit of a date and a state says whether the rule calls its amount a surrender
   pub map-state : (i : ℕ) (s : State) → 1 ≤ i → i < c .dates → InRange c s
-      → bitAt (surrenderMap c table ++ rest) (entry (layoutOf c) i s) ≡ bit (surrenders (freeIn c s) (s .account) (lookup (layoutOf c) table i s))
+      → bitAt (surrenderMap c table ++ rest) (entry (layoutOf c) i s)
+      ≡ bit (surrenders (freeIn c s) (s .account) (lookup (layoutOf c) table i s))
   unfolding tableSize surrendered lookup layoutOf
   map-state i s l m g =
       let x = entry (layoutOf c) i s in
@@ -47,7 +48,8 @@ module _ (c : Terms) (table rest : List ℕ) where
 
   -- so it is set only where the account is surrendered
   pub map-surrenders : (i : ℕ) (s : State) → 1 ≤ i → i < c .dates → InRange c s
-      → bitAt (surrenderMap c table ++ rest) (entry (layoutOf c) i s) ≡ 1 → T (surrenders (freeIn c s) (s .account) (lookup (layoutOf c) table i s))
+      → bitAt (surrenderMap c table ++ rest) (entry (layoutOf c) i s) ≡ 1
+      → T (surrenders (freeIn c s) (s .account) (lookup (layoutOf c) table i s))
   unfolding bit
   map-surrenders i s l m g e = go (surrenders (freeIn c s) (s .account) (lookup (layoutOf c) table i s)) (sym (map-state i s l m g) ∙ e)
     where
@@ -56,7 +58,8 @@ module _ (c : Terms) (table rest : List ℕ) where
       go false e = absurd (omega arith)
 
 -- the count is that of the set bits of all words
-pub map-count : (c : Terms) (table rest : List ℕ) → sum (λ j. ones (getD (surrenderMap c table ++ rest) j 0)) (mapSize c) ≡ surrenderCount c table
+pub map-count : (c : Terms) (table rest : List ℕ)
+    → sum (λ j. ones (getD (surrenderMap c table ++ rest) j 0)) (mapSize c) ≡ surrenderCount c table
 unfolding surrenderMap surrenderCount mapSize wordsOf
 map-count c table rest =
     sum-eq _ _ (wordsFor (tableSize c)) (λ j l. ap ones (getD-tabulate _ j (wordOf (surrendered c table) (tableSize c)) rest l))
@@ -94,7 +97,8 @@ module _ (c : Terms) (rs : Returns) (rest : List ℕ) where
 
 -- ---- the call
 module _ (bytes list : List ℕ) (behaviour : ℕ) (work table map : List ℕ) where
-  pub mapping-refused : {n p : ℕ} → valuingVerdict bytes list behaviour work table ≡ refused n p → mappingVerdict bytes list behaviour work table map ≡ refused n p
+  pub mapping-refused : {n p : ℕ} → valuingVerdict bytes list behaviour work table ≡ refused n p
+      → mappingVerdict bytes list behaviour work table map ≡ refused n p
   unfolding valuingVerdict mappingVerdict mappingChecks
   mapping-refused e = then-refused _ (mapChecks (termsOf bytes) map) e
 
@@ -104,20 +108,25 @@ module _ (bytes list : List ℕ) (behaviour : ℕ) (work table map : List ℕ) w
   mapping-short e f = then-accepted (valuingChecks bytes list behaviour work table) (mapChecks (termsOf bytes) map) e ∙ rw f
 
   -- a map that is long enough: the verdict is that of valuing
-  pub mapping-same : short (mapSize (termsOf bytes)) map ≡ false → mappingVerdict bytes list behaviour work table map ≡ valuingVerdict bytes list behaviour work table
+  pub mapping-same : short (mapSize (termsOf bytes)) map ≡ false
+      → mappingVerdict bytes list behaviour work table map ≡ valuingVerdict bytes list behaviour work table
   unfolding valuingVerdict mappingVerdict mappingChecks mapChecks verdict
-  mapping-same f = verdict-append (valuingChecks bytes list behaviour work table) (mapChecks (termsOf bytes) map) ∙ rw f (go (verdict (valuingChecks bytes list behaviour work table)))
+  mapping-same f =
+      let ks = valuingChecks bytes list behaviour work table in
+      verdict-append ks (mapChecks (termsOf bytes) map) ∙ rw f (go (verdict ks))
     where
       go : (v : Verdict) → andThen v accepted ≡ v
       go accepted = refl
       go (refused n p) = refl
 
-  pub mapping-accepts : mappingAnswer bytes list behaviour work table map .number ≡ 0 → mappingVerdict bytes list behaviour work table map ≡ accepted
+  pub mapping-accepts : mappingAnswer bytes list behaviour work table map .number ≡ 0
+      → mappingVerdict bytes list behaviour work table map ≡ accepted
   unfolding mappingAnswer answer mappingVerdict Positive
   mapping-accepts e = zero-accepts (mappingChecks bytes list behaviour work table map) (rw mapping-order (omega arith)) e
 
   -- what is accepted with a map is accepted without
-  pub mapping-valued : mappingVerdict bytes list behaviour work table map ≡ accepted → valuingVerdict bytes list behaviour work table ≡ accepted
+  pub mapping-valued : mappingVerdict bytes list behaviour work table map ≡ accepted
+      → valuingVerdict bytes list behaviour work table ≡ accepted
   unfolding valuingVerdict mappingVerdict mappingChecks
   mapping-valued e = then-earlier _ _ e
 
@@ -136,7 +145,9 @@ module _ (bytes list : List ℕ) (behaviour : ℕ) (work table map : List ℕ) w
 
   -- the claim of the third demand, of the value that it reports and the table that it leaves
   pub mapping-claim : mappingAnswer bytes list behaviour work table map .number ≡ 0
-      → Claim (productOf bytes list) (behaviourOf behaviour) (mappingAnswer bytes list behaviour work table map .value) (mappingTable bytes list behaviour work table map)
+      → Claim (productOf bytes list) (behaviourOf behaviour)
+      (mappingAnswer bytes list behaviour work table map .value)
+      (mappingTable bytes list behaviour work table map)
   mapping-claim zero-number =
       let yes-to = mapping-accepts zero-number in
       let same = same-by (yes-to ∙ sym (mapping-valued yes-to)) in
@@ -145,10 +156,12 @@ module _ (bytes list : List ℕ) (behaviour : ℕ) (work table map : List ℕ) w
 
 -- what a static call leaves in the map, and counts
 pub static-map-empty : (bytes list work table map : List ℕ) → mappingVerdict bytes list (behaviourNumber static) work table map ≡ accepted
-    → (mappingMap bytes list (behaviourNumber static) work table map ≡ replicate (mapSize (termsOf bytes)) 0 ++ drop (mapSize (termsOf bytes)) map)
+    → (mappingMap bytes list (behaviourNumber static) work table map
+    ≡ replicate (mapSize (termsOf bytes)) 0 ++ drop (mapSize (termsOf bytes)) map)
     × (mappingCount bytes list (behaviourNumber static) work table map ≡ 0)
 unfolding mappingMap mappingCount mappingTable onSuccess productOf behaviourNumber behaviourOf
 static-map-empty bytes list work table map e =
     let c = termsOf bytes in
     let rest = drop (tableSize c) table in
-    (rw e (ap (λ (xs : List ℕ). xs ++ drop (mapSize c) map) (static-map c (returnsOf list) rest)), rw e (static-count c (returnsOf list) rest))
+    let words = ap (λ (xs : List ℕ). xs ++ drop (mapSize c) map) (static-map c (returnsOf list) rest) in
+    (rw e words, rw e (static-count c (returnsOf list) rest))

@@ -38,8 +38,8 @@ module _ (bytes list : List ℕ) (behaviour : ℕ) (work table map : List ℕ) w
         rw (value, w .table-is) (mapping-claim bytes list behaviour work table map number);
   }
 
-  pub refused-whole : {r : declared.Mapped} (n p : ℕ) → mappingVerdict bytes list behaviour work table map ≡ refused n p → r ≡ mapRefusal n p
-      → Mapping bytes list behaviour work table map r work table map
+  pub refused-whole : {r : declared.Mapped} (n p : ℕ) → mappingVerdict bytes list behaviour work table map ≡ refused n p
+      → r ≡ mapRefusal n p → Mapping bytes list behaviour work table map r work table map
   unfolding mappingCount mappingMap onSuccess
   refused-whole n p e f =
       whole (reported-refused n p e (ap (λ (m : declared.Mapped). m .answer) f))
@@ -65,4 +65,6 @@ module _ (bytes list : List ℕ) (behaviour : ℕ) (work table map : List ℕ) w
         let w = reported yes-to (told .terms) a in
         whole w
         (e ∙ ap₂ surrenderCount (told .terms) (w .table-is) ∙ sym (success-reports _ _ yes-to))
-        (f ∙ ap₂ (λ (x : Terms) (left : List ℕ). surrenderMap x left ++ drop (mapSize x) map) (told .terms) (w .table-is) ∙ sym (success-reports _ _ yes-to))
+        (f
+        ∙ ap₂ (λ (x : Terms) (left : List ℕ). surrenderMap x left ++ drop (mapSize x) map) (told .terms) (w .table-is)
+        ∙ sym (success-reports _ _ yes-to))

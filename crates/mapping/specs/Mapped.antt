@@ -12,7 +12,8 @@ use Rattle.mapping.specs.declared.Mapped as declared
 abbrev pub mapRefusal : ℕ → ℕ → declared.Mapped
 mapRefusal n p = record { answer = refusal n p; count = 0 }
 
-pub record Mapping (bytes list : List ℕ) (behaviour : ℕ) (work table map : List ℕ) (r : declared.Mapped) (work' table' map' : List ℕ) : Type 0 where
+pub record Mapping (bytes list : List ℕ) (behaviour : ℕ) (work table map : List ℕ)
+    (r : declared.Mapped) (work' table' map' : List ℕ) : Type 0 where
   pub answer-is : r .answer ≡ answerOf (mappingAnswer bytes list behaviour work table map)
   pub count-is : r .count ≡ mappingCount bytes list behaviour work table map
   pub work-is : work' ≡ mappingWork bytes list behaviour work table map

@@ -42,13 +42,16 @@ mappingVerdict bytes list behaviour work table map = verdict (mappingChecks byte
 
 -- "A valuing call that is also lent 64-bit words": it reports and leaves what valuing does
 unfoldable pub mappingAnswer : List ℕ → List ℕ → ℕ → List ℕ → List ℕ → List ℕ → Answer
-mappingAnswer bytes list behaviour work table map = valuedAnswer (mappingVerdict bytes list behaviour work table map) bytes list behaviour
+mappingAnswer bytes list behaviour work table map =
+    valuedAnswer (mappingVerdict bytes list behaviour work table map) bytes list behaviour
 
 unfoldable pub mappingWork : List ℕ → List ℕ → ℕ → List ℕ → List ℕ → List ℕ → List ℕ
-mappingWork bytes list behaviour work table map = valuedWork (mappingVerdict bytes list behaviour work table map) bytes list behaviour work
+mappingWork bytes list behaviour work table map =
+    valuedWork (mappingVerdict bytes list behaviour work table map) bytes list behaviour work
 
 unfoldable pub mappingTable : List ℕ → List ℕ → ℕ → List ℕ → List ℕ → List ℕ → List ℕ
-mappingTable bytes list behaviour work table map = valuedTable (mappingVerdict bytes list behaviour work table map) bytes list behaviour table
+mappingTable bytes list behaviour work table map =
+    valuedTable (mappingVerdict bytes list behaviour work table map) bytes list behaviour table
 
 -- .. and the map of the table that it leaves: "later words are untouched"; a refusal "changes no lent slice"
 unfoldable pub mappingMap : List ℕ → List ℕ → ℕ → List ℕ → List ℕ → List ℕ → List ℕ

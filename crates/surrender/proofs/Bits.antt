@@ -73,7 +73,8 @@ module _ (f : ℕ → Bool) (n : ℕ) where
   above-next k l h =
       let m : n - (k - 1) ≡ suc (n - k) = omega arith in
       let first : k - 1 + 0 ≡ k - 1 = omega arith in
-      let rest : _≡_ {A = ℕ → Bool} (λ i. f (k - 1 + suc i)) (λ i. f (k + i)) = fun-ext (λ i. ap f (let e : k - 1 + suc i ≡ k + i = omega arith in e)) in
+      let rest : _≡_ {A = ℕ → Bool} (λ i. f (k - 1 + suc i)) (λ i. f (k + i)) =
+      fun-ext (λ i. ap f (let e : k - 1 + suc i ≡ k + i = omega arith in e)) in
       rw (m, bits-cons (λ i. f (k - 1 + i)) (n - k), first, rest) (omega arith)
 
   pub above-all : above 0 ≡ fromBits f n

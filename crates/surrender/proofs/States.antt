@@ -24,7 +24,8 @@ use Rattle.surrender.specs.Mapped.{stateOf, draws, Open}
 -- ---- the state of an entry
 module _ (c : Terms) where
   -- of the entry of (w, a) in layer q
-  pub state-at : (q w a : ℕ) → w ≤ c .top → a ≤ c .premium → stateOf c (q * layerSize c + (w * (c .premium + 1) + a)) ≡ record { account = w; guarantee = a }
+  pub state-at : (q w a : ℕ) → w ≤ c .top → a ≤ c .premium
+      → stateOf c (q * layerSize c + (w * (c .premium + 1) + a)) ≡ record { account = w; guarantee = a }
   unfolding layerSize
   state-at q w a h l =
       let stride = c .premium + 1 in
@@ -36,7 +37,9 @@ module _ (c : Terms) where
 
   -- every entry is one of some layer
   whole : (e : ℕ) → e ≡ e / layerSize c * layerSize c + (stateOf c e .account * (c .premium + 1) + stateOf c e .guarantee)
-  whole e = sym (ap (λ (x : ℕ). e / layerSize c * layerSize c + x) (div-add-mod' (e % layerSize c) (c .premium + 1)) ∙ div-add-mod' e (layerSize c))
+  whole e =
+      sym (ap (λ (x : ℕ). e / layerSize c * layerSize c + x) (div-add-mod' (e % layerSize c) (c .premium + 1))
+      ∙ div-add-mod' e (layerSize c))
 
   pub account-le : (e : ℕ) → stateOf c e .account ≤ c .top
   unfolding layerSize
@@ -96,14 +99,15 @@ unfolding fromBits bit
 no-bits f n h = sum-zeros _ n (λ k l. rw (h k l) (omega arith))
 
 -- the open entries of a part of a row stand for all of them
-module _ (c : Terms) (table : List ℕ) (start part r : ℕ) (at : State) (same : at ≡ stateOf c start) (inside : at .guarantee + part ≤ c .premium + 1)
-    (o : Open (c .level) at part r)
+module _ (c : Terms) (table : List ℕ) (start part r : ℕ) (at : State) (same : at ≡ stateOf c start)
+    (inside : at .guarantee + part ≤ c .premium + 1) (o : Open (c .level) at part r)
   where
     account-within : at .account ≤ c .top
     account-within = subst (λ (s : State). s .account ≤ c .top) (sym same) (account-le c start)
 
     -- the bit of an entry by its state
-    entry-bit : (i : ℕ) → i < part → surrendered c table (start + i) ≡ surrenders (freeAmount (c .level) (at .guarantee + i)) (at .account) (getD table (start + i) 0)
+    entry-bit : (i : ℕ) → i < part
+        → surrendered c table (start + i) ≡ surrenders (freeAmount (c .level) (at .guarantee + i)) (at .account) (getD table (start + i) 0)
     unfolding surrendered freeIn layoutOf
     entry-bit i l =
         let here = next-same c start i at same account-within (omega arith) in
@@ -118,7 +122,8 @@ module _ (c : Terms) (table : List ℕ) (start part r : ℕ) (at : State) (same 
     shut-entry : (i : ℕ) → i < part - r → surrendered c table (start + (r + i)) ≡ false
     shut-entry i l =
         entry-bit (r + i) (omega arith)
-        ∙ shut-bit (freeAmount (c .level) (at .guarantee + (r + i))) (at .account) (getD table (start + (r + i)) 0) (o .others (r + i) (omega arith) (omega arith))
+        ∙ shut-bit (freeAmount (c .level) (at .guarantee + (r + i))) (at .account) (getD table (start + (r + i)) 0)
+        (o .others (r + i) (omega arith) (omega arith))
 
     pub part-bits : fromBits (draws (midOf start r table) (at .account)) r ≡ fromBits (λ i. surrendered c table (start + i)) part
     part-bits =

@@ -154,7 +154,8 @@ pub fn map_size(c: Contract) -> usize
 pub fn fill(c: Contract, table: &[u16], map: &mut [u64]) -> u64
     requires { ⌜ MapRoom (termsIn c) (now table) (now map) ⌝ }
     ensures { λ r. ⌜ r ≡ surrenderCount (termsIn c) (now (table .entry)) ⌝ }
-    ensures { λ _. ⌜ now (map .exit) ≡ surrenderMap (termsIn c) (now (table .entry)) ++ drop (mapSize (termsIn c)) (now (map .entry)) ⌝ }
+    ensures { λ _. ⌜ now (map .exit)
+        ≡ surrenderMap (termsIn c) (now (table .entry)) ++ drop (mapSize (termsIn c)) (now (map .entry)) ⌝ }
 {
     let size = c.table_size();
     let mut at = State {

@@ -16,15 +16,20 @@ abbrev μ-loop : tie.MeasureT-loop
 μ-loop row account bits₀ k₀ bits k = k
 
 loop-holds : tie.Need-loop-holds Inv-loop μ-loop
-loop-holds c = (omega arith, sym (above-none (draws (c .before .args .row .now) (c .before .args .account)) (length (c .before .args .row .now))))
+loop-holds c =
+    let args = c .before .args in
+    (omega arith, sym (above-none (draws (args .row .now) (args .account)) (length (args .row .now))))
 
 sub-k : tie.Need-sub-k Inv-loop μ-loop
 sub-k c = omega arith
 
 mul-bits : tie.Need-mul-bits Inv-loop μ-loop
 mul-bits c =
-    let f = above-fits (draws (c .before .before .before .args .row .now) (c .before .before .before .args .account)) (length (c .before .before .before .args .row .now)) (c .before .loop .k) (c .before .before .before .pre) (omega arith) in
-    omega (arith, c .before .loop .inv .1)
+    let args = c .before .before .before .args in
+    let loop = c .before .loop in
+    let pre = c .before .before .before .pre in
+    let f = above-fits (draws (args .row .now) (args .account)) (length (args .row .now)) (loop .k) (pre) (omega arith) in
+    omega (arith, loop .inv .1)
 
 mul-same : tie.Need-mul-same Inv-loop μ-loop
 mul-same c = omega (arith, c .before .before .before .pre)
@@ -40,17 +45,26 @@ wide-requires c κs = tt
 
 add-bits : tie.Need-add-bits Inv-loop μ-loop
 add-bits c =
-    let f = above-fits (draws (c .before .before .before .before .before .before .args .row .now) (c .before .before .before .before .before .before .args .account)) (length (c .before .before .before .before .before .before .args .row .now)) (c .before .before .before .before .loop .k) (c .before .before .before .before .before .before .pre) (omega arith) in
-    omega (arith, c .before .before .before .before .loop .inv .1, c .wide .ensures, c .before .same .ensures, bit-le (draws (c .before .before .before .before .before .before .args .row .now) (c .before .before .before .before .before .before .args .account) (c .before .before .before .before .loop .k - 1)))
+    let args = c .before .before .before .before .before .before .args in
+    let loop = c .before .before .before .before .loop in
+    let pre = c .before .before .before .before .before .before .pre in
+    let wide = c .wide in
+    let same = c .before .same in
+    let f = above-fits (draws (args .row .now) (args .account)) (length (args .row .now)) (loop .k) (pre) (omega arith) in
+    omega (arith, loop .inv .1, wide .ensures, same .ensures, bit-le (draws (args .row .now) (args .account) (loop .k - 1)))
 
 loop-less : tie.Need-loop-less Inv-loop μ-loop
 loop-less c = omega arith
 
 loop-again : tie.Need-loop-again Inv-loop μ-loop
 loop-again c =
-    let inv = c .before .before .before .before .loop .inv in
-    let next = above-next (draws (c .before .before .before .before .before .before .args .row .now) (c .before .before .before .before .before .before .args .account)) (length (c .before .before .before .before .before .before .args .row .now)) (c .before .before .before .before .loop .k) (omega arith) (inv .0) in
-    (omega (arith, inv .0), ap₂ (λ (x y : ℕ). 2 * x + y) (inv .1) (c .wide .ensures ∙ c .before .same .ensures) ∙ next)
+    let loop = c .before .before .before .before .loop in
+    let args = c .before .before .before .before .before .before .args in
+    let wide = c .wide in
+    let same = c .before .same in
+    let inv = loop .inv in
+    let next = above-next (draws (args .row .now) (args .account)) (length (args .row .now)) (loop .k) (omega arith) (inv .0) in
+    (omega (arith, inv .0), ap₂ (λ (x y : ℕ). 2 * x + y) (inv .1) (wide .ensures ∙ same .ensures) ∙ next)
 
 returns : tie.Need-returns Inv-loop μ-loop
 returns c =

@@ -24,37 +24,66 @@ map-size-requires : tie.Need-map-size-requires Inv-loop μ-loop
 map-size-requires c κs = c .before .before .before .pre .valid
 
 loop-holds : tie.Need-loop-holds Inv-loop μ-loop
-loop-holds c = filled-none (termsIn (c .before .before .before .before .args .c)) (c .before .before .before .before .args .table .now) (c .before .before .before .before .args .map .now)
+loop-holds c =
+    let args = c .before .before .before .before .args in
+    filled-none (termsIn (args .c)) (args .table .now) (args .map .now)
 
 -- the loop runs where the map needs a word, and a word has entries
-more : (c : tie.In-loop Inv-loop μ-loop) → c .before .loop .j < mapSize (termsIn (c .before .before .before .before .before .before .args .c))
+more : (c : tie.In-loop Inv-loop μ-loop)
+    → c .before .loop .j < mapSize (termsIn (c .before .before .before .before .before .before .args .c))
 more c = omega (arith, c .before .before .map-size .ensures)
 
 mul-from : tie.Need-mul-from Inv-loop μ-loop
-mul-from c = omega (arith, c .before .before .before .table-size .ensures .1, c .before .before .before .table-size .ensures .0, word-some (c .before .loop .inv) (more c))
+mul-from c =
+    let table-size = c .before .before .before .table-size in
+    let loop = c .before .loop in
+    omega (arith, table-size .ensures .1, table-size .ensures .0, word-some (loop .inv) (more c))
 
 sub-smaller : tie.Need-sub-smaller Inv-loop μ-loop
-sub-smaller c = omega (arith, c .before .before .before .table-size .ensures .0, word-some (c .before .loop .inv) (more c))
+sub-smaller c =
+    let table-size = c .before .before .before .table-size in
+    let loop = c .before .loop in
+    omega (arith, table-size .ensures .0, word-some (loop .inv) (more c))
 
 smaller-requires : tie.Need-smaller-requires Inv-loop μ-loop
 smaller-requires c κs = tt
 
 word-requires : tie.Need-word-requires Inv-loop μ-loop
-word-requires c κs = wording (c .before .before .loop .inv) (more (c .before)) (c .smaller .ensures ∙ ap (λ (n : ℕ). bitsIn n (c .before .before .loop .j)) (c .before .before .before .before .table-size .ensures .0)) (c .before .before .before .before .before .before .before .pre .valid) (c .before .before .before .before .before .before .before .pre .entries)
+word-requires c κs =
+    let loop = c .before .before .loop in
+    let here = (c .before) in
+    let smaller = c .smaller in
+    let table-size = c .before .before .before .before .table-size in
+    let pre = c .before .before .before .before .before .before .before .pre in
+    let takes = smaller .ensures ∙ ap (λ (n : ℕ). bitsIn n (loop .j)) (table-size .ensures .0) in
+    wording (loop .inv) (more here) takes (pre .valid) (pre .entries)
 
 mul-map : tie.Need-mul-map Inv-loop μ-loop
-mul-map c = omega (arith, word-some (c .before .before .before .loop .inv) (more (c .before .before)), c .before .before .before .before .before .table-size .ensures .0, c .before .before .before .before .before .table-size .ensures .1)
+mul-map c =
+    let loop = c .before .before .before .loop in
+    let here = (c .before .before) in
+    let table-size = c .before .before .before .before .before .table-size in
+    omega (arith, word-some (loop .inv) (more here), table-size .ensures .0, table-size .ensures .1)
 
 slice-write-map : tie.Need-slice-write-map Inv-loop μ-loop
 slice-write-map c =
-    let long : length (c .before .before .before .loop .map) ≡ length (c .before .before .before .before .before .before .before .before .args .map .now) = ap length (c .before .before .before .loop .inv .map-is) ∙ length-stored _ _ _ _ in
-    omega (arith, more (c .before .before), c .before .before .before .before .before .before .before .before .pre .words)
+    let loop = c .before .before .before .loop in
+    let args = c .before .before .before .before .before .before .before .before .args in
+    let here = (c .before .before) in
+    let pre = c .before .before .before .before .before .before .before .before .pre in
+    let long : length (loop .map) ≡ length (args .map .now) = ap length (loop .inv .map-is) ∙ length-stored _ _ _ _ in
+    omega (arith, more here, pre .words)
 
 ones-requires : tie.Need-ones-requires Inv-loop μ-loop
 ones-requires c κs = tt
 
 add-count : tie.Need-add-count Inv-loop μ-loop
-add-count c = omega (arith, c .before .before .before .before .loop .inv .few, c .ones .ensures .1, word-some (c .before .before .before .before .loop .inv) (more (c .before .before .before)), c .before .before .before .before .before .before .table-size .ensures .0, c .before .before .before .before .before .before .table-size .ensures .1)
+add-count c =
+    let loop = c .before .before .before .before .loop in
+    let ones = c .ones in
+    let here = (c .before .before .before) in
+    let table-size = c .before .before .before .before .before .before .table-size in
+    omega (arith, loop .inv .few, ones .ensures .1, word-some (loop .inv) (more here), table-size .ensures .0, table-size .ensures .1)
 
 add-j : tie.Need-add-j Inv-loop μ-loop
 add-j c = omega arith
@@ -64,15 +93,26 @@ loop-less c = omega arith
 
 loop-again : tie.Need-loop-again Inv-loop μ-loop
 loop-again c =
-    filled-more (c .before .before .before .before .before .loop .inv) (more (c .before .before .before .before)) (c .before .before .before .smaller .ensures ∙ ap (λ (n : ℕ). bitsIn n (c .before .before .before .before .before .loop .j)) (c .before .before .before .before .before .before .before .table-size .ensures .0)) (c .before .before .word .ensures) (c .before .ones .ensures .0) (c .before .ones .ensures .1)
+    let loop = c .before .before .before .before .before .loop in
+    let here = (c .before .before .before .before) in
+    let smaller = c .before .before .before .smaller in
+    let table-size = c .before .before .before .before .before .before .before .table-size in
+    let word = c .before .before .word in
+    let ones = c .before .ones in
+    let takes = smaller .ensures ∙ ap (λ (n : ℕ). bitsIn n (loop .j)) (table-size .ensures .0) in
+    filled-more (loop .inv) (more here) takes (word .ensures) (ones .ensures .0) (ones .ensures .1)
 
 same-length : tie.Need-same-length Inv-loop μ-loop
 same-length c = ap length (c .before .loop .inv .map-is) ∙ length-stored _ _ _ _
 
 returns : tie.Need-returns Inv-loop μ-loop
 returns c =
-    let done : mapSize (termsIn (c .before .before .before .before .before .before .args .c)) ≤ c .before .loop .j = omega (arith, c .before .before .map-size .ensures) in
-    (filled-count (c .before .loop .inv) done, filled-map (c .before .loop .inv) done (c .before .before .before .before .before .before .pre .words))
+    let args = c .before .before .before .before .before .before .args in
+    let loop = c .before .loop in
+    let map-size = c .before .before .map-size in
+    let pre = c .before .before .before .before .before .before .pre in
+    let done : mapSize (termsIn (args .c)) ≤ loop .j = omega (arith, map-size .ensures) in
+    (filled-count (loop .inv) done, filled-map (loop .inv) done (pre .words))
 
 pub fill-spec : {M : Type 1} → statement M
 fill-spec =

@@ -13,7 +13,11 @@ whole-requires : tie.Need-whole-requires
 whole-requires c κs = search needs
 
 returns : tie.Need-returns
-returns c = sym (unset-bits (draws (c .before .before .before .args .row .now) (c .before .before .before .args .account)) (length (c .before .before .before .args .row .now)) (sym (c .before .whole .ensures) ∙ c .if1 .taken))
+returns c =
+    let args = c .before .before .before .args in
+    let whole = c .before .whole in
+    let if1 = c .if1 in
+    sym (unset-bits (draws (args .row .now) (args .account)) (length (args .row .now)) (sym (whole .ensures) ∙ if1 .taken))
 
 sub-result : tie.Need-sub-result
 sub-result c = omega (arith, c .before .before .before .before .pre)
@@ -23,8 +27,12 @@ shr-result c = omega (arith, c .before .before .before .before .pre)
 
 returns-2 : tie.Need-returns-2
 returns-2 c =
-    ap (λ (n : ℕ). 18446744073709551615 / 2 ^ (64 - n)) (c .if2 .taken)
-    ∙ all-ones (draws (c .before .before .before .before .args .row .now) (c .before .before .before .before .args .account)) (length (c .before .before .before .before .args .row .now)) (c .before .before .before .before .pre) (sym (c .before .before .whole .ensures) ∙ c .if2 .taken)
+    let if2 = c .if2 in
+    let args = c .before .before .before .before .args in
+    let pre = c .before .before .before .before .pre in
+    let whole = c .before .before .whole in
+    ap (λ (n : ℕ). 18446744073709551615 / 2 ^ (64 - n)) (if2 .taken)
+    ∙ all-ones (draws (args .row .now) (args .account)) (length (args .row .now)) (pre) (sym (whole .ensures) ∙ if2 .taken)
 
 each-requires : tie.Need-each-requires
 each-requires c κs = search needs

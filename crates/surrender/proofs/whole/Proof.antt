@@ -1,7 +1,7 @@
 -- `surrender::whole` meets its contract. Assumes nothing.
 use Prim.Native.Nat.{_+_, _-_, _≤_}
 use lib.ListN.{length}
-use mathlib.Core.Path.{_≡_, ap, ap₂, sym, _∙_}
+use mathlib.Core.Path.{_≡_, refl, ap, ap₂, sym, _∙_}
 use native.Mathlib.Omega.{arith}
 use Rattle.decision.specs.Bits.{setBits}
 use Rattle.surrender.specs.Mapped.{draws}
@@ -29,8 +29,12 @@ same-requires c κs = tt
 
 add-n : tie.Need-add-n Inv-loop μ-loop
 add-n c =
-    let f = draws (c .before .before .before .before .before .args .row .now) (c .before .before .before .before .before .args .account) in
-    omega (arith, c .before .before .before .loop .inv .1, c .same .ensures, set-most f (c .before .before .before .loop .k), set-next f (c .before .before .before .loop .k), set-most f (c .before .before .before .loop .k + 1), c .before .before .before .before .before .pre)
+    let args = c .before .before .before .before .before .args in
+    let loop = c .before .before .before .loop in
+    let same = c .same in
+    let pre = c .before .before .before .before .before .pre in
+    let f = draws (args .row .now) (args .account) in
+    omega (arith, loop .inv .1, same .ensures, set-most f (loop .k), set-next f (loop .k), set-most f (loop .k + 1), pre)
 
 add-k : tie.Need-add-k Inv-loop μ-loop
 add-k c = omega arith
@@ -40,16 +44,25 @@ loop-less c = omega arith
 
 loop-again : tie.Need-loop-again Inv-loop μ-loop
 loop-again c =
-    let f = draws (c .before .before .before .before .before .args .row .now) (c .before .before .before .before .before .args .account) in
-    (omega arith, ap₂ _+_ (c .before .before .before .loop .inv .1) (c .same .ensures) ∙ sym (set-next f (c .before .before .before .loop .k)))
+    let args = c .before .before .before .before .before .args in
+    let loop = c .before .before .before .loop in
+    let same = c .same in
+    let f = draws (args .row .now) (args .account) in
+    (omega arith, ap₂ _+_ (loop .inv .1) (same .ensures) ∙ sym (set-next f (loop .k)))
 
 cast-result : tie.Need-cast-result Inv-loop μ-loop
-cast-result c = omega (arith, c .before .loop .inv .1, set-most (draws (c .before .before .before .args .row .now) (c .before .before .before .args .account)) (c .before .loop .k), c .before .before .before .pre)
+cast-result c =
+    let loop = c .before .loop in
+    let args = c .before .before .before .args in
+    let pre = c .before .before .before .pre in
+    omega (arith, loop .inv .1, set-most (draws (args .row .now) (args .account)) (loop .k), pre)
 
 returns : tie.Need-returns Inv-loop μ-loop
 returns c =
-    let all : c .before .loop .k ≡ length (c .before .before .before .args .row .now) = omega arith in
-    c .before .loop .inv .1 ∙ ap (setBits (draws (c .before .before .before .args .row .now) (c .before .before .before .args .account))) all
+    let loop = c .before .loop in
+    let args = c .before .before .before .args in
+    let all : loop .k ≡ length (args .row .now) = omega arith in
+    loop .inv .1 ∙ ap (setBits (draws (args .row .now) (args .account))) all
 
 pub whole-spec : {M : Type 1} → statement M
 whole-spec =
