@@ -1,7 +1,7 @@
 /*
- * Five calls in several threads at once, all but gmwb_value_map, on contracts that are accepted and
- * on some that are refused: each call tells and leaves what it tells and leaves when the calls are
- * made one after the other. Slices that are only read are shared by the threads.
+ * All calls in several threads at once, on contracts that are accepted and on some that are refused:
+ * each call tells and leaves what it tells and leaves when the calls are made one after the other.
+ * Slices that are only read are shared by the threads.
  */
 #define _POSIX_C_SOURCE 200809L /* barriers */
 #include <pthread.h>
@@ -11,20 +11,23 @@
 /* Run and contracts have no common factor, so that in time a run begins at every contract. */
 enum { THREADS = 4, CONTRACTS = 60, RUN = 7, USUAL_ROUNDS = 2000 };
 
+/* No call writes more slices. */
+enum { LEFT = 3 };
+
 /* ---- The calls -------------------------------------------------------------------------------- */
 
 /* What the calls on a contract are given. */
 struct given {
     struct lent record, list, table, path;
     uint64_t behaviour, date, account, guarantee, amount;
-    size_t out_len, work_len, cash_len;
+    size_t out_len, work_len, cash_len, map_len;
 };
 
 /* What a call tells and leaves; a slice that it does not take is empty. */
 struct answer {
     uint32_t number;
     struct told told;
-    struct lent left[2];
+    struct lent left[LEFT];
 };
 
 static void check(const struct given *g, struct answer *a)
@@ -44,6 +47,14 @@ static void value(const struct given *g, struct answer *a)
                            g->behaviour, start(a->left[0]), g->work_len, start(a->left[1]),
                            g->table.bytes / sizeof(uint16_t),
                            &a->told.place, &a->told.value, &a->told.margin);
+}
+
+static void value_map(const struct given *g, struct answer *a)
+{
+    a->number = gmwb_value_map(start(g->record), g->record.bytes, start(g->list), g->list.bytes,
+                               g->behaviour, start(a->left[0]), g->work_len, start(a->left[1]),
+                               g->table.bytes / sizeof(uint16_t), start(a->left[2]), g->map_len,
+                               &a->told.place, &a->told.value, &a->told.margin, &a->told.count);
 }
 
 static void value_table(const struct given *g, struct answer *a)
@@ -69,6 +80,7 @@ static const struct {
     {"check", check},
     {"book", book},
     {"value", value},
+    {"value_map", value_map},
     {"value_table", value_table},
     {"walk", walk},
 };
@@ -79,17 +91,20 @@ enum { KINDS = COUNT(CALLS) };
 static struct answer lent_to(size_t kind, const struct given *g)
 {
     size_t work = g->work_len * sizeof(uint32_t), cash = g->cash_len * sizeof(uint32_t);
-    const size_t bytes[KINDS][2] = {
-        {0, 0}, {g->out_len, 0}, {work, g->table.bytes}, {work, 0}, {cash, 0},
+    size_t table = g->table.bytes, map = g->map_len * sizeof(uint64_t);
+    const size_t bytes[KINDS][LEFT] = {
+        {0}, {g->out_len}, {work, table}, {work, table, map}, {work}, {cash},
     };
-    struct answer a = {0, untold(), {lend(bytes[kind][0], 1), lend(bytes[kind][1], 1)}};
+    struct answer a = {0, untold(), {{0}}};
+    for (size_t i = 0; i < LEFT; i++)
+        a.left[i] = lend(bytes[kind][i], 1);
     return a;
 }
 
 static void take_back_answer(struct answer a)
 {
-    take_back(a.left[0]);
-    take_back(a.left[1]);
+    for (size_t i = 0; i < LEFT; i++)
+        take_back(a.left[i]);
 }
 
 static bool same_block(struct lent a, struct lent b)
@@ -99,8 +114,10 @@ static bool same_block(struct lent a, struct lent b)
 
 static bool same_answer(const struct answer *a, const struct answer *b)
 {
-    return a->number == b->number && memcmp(&a->told, &b->told, sizeof a->told) == 0 &&
-           same_block(a->left[0], b->left[0]) && same_block(a->left[1], b->left[1]);
+    bool same = a->number == b->number && memcmp(&a->told, &b->told, sizeof a->told) == 0;
+    for (size_t i = 0; i < LEFT; i++)
+        same = same && same_block(a->left[i], b->left[i]);
+    return same;
 }
 
 /* ---- Contracts -------------------------------------------------------------------------------- */
@@ -144,12 +161,14 @@ static struct given random_given(void)
         damage_list(&in);
     struct given g = {lend_record(&in), lend_list(&in), random_table(c), random_path(c, count),
                       upto(damaged ? 3 : 2), between(1, larger(c.dates, 2) - 1), upto(c.top),
-                      upto(c.premium), 0, GMWB_BOOKING_BYTES, work_of(c), c.dates};
+                      upto(c.premium), 0, GMWB_BOOKING_BYTES, work_of(c), c.dates, map_of(c)};
     g.amount = upto(larger(g.account, free_amount(c, g.guarantee)) + (damaged ? 1 : 0));
     if (damaged && one_in(4))
         g.work_len--;
     if (damaged && one_in(4))
         g.cash_len--;
+    if (damaged && one_in(4) && g.map_len > 0)
+        g.map_len--;
     return g;
 }
 
