@@ -2,8 +2,9 @@
 use mathlib.Core.Bool.{Bool}
 use mathlib.Core.Path.{_≡_, refl, ap, sym, _∙_, fun-ext}
 use Prim.Native.Nat.{ℕ, zero, suc, _+_, _-_, _*_, _/_, _%_, _^_, _≤_, _<_}
-use native.Mathlib.Nat.{pow-le-pow-right, pow-succ', two-pow-succ, div-div-eq-div-mul, div-eq-of-lt, zero-add, zero-div}
+use native.Mathlib.Nat.{le-refl, pow-le-pow-right, pow-succ', two-pow-succ, div-div-eq-div-mul, div-eq-of-lt, zero-add, zero-div}
 use native.Mathlib.Omega.{arith}
+use lib.Count as Count
 use Rattle.decision.specs.Index.{sum, sum-eq, sum-append, sum-zeros, sum-next}
 use Rattle.decision.specs.Bits.{bit, fromBits, setBits, bit-le, bitOf, ones, pow-add, bits-lt, bits-cons}
 use Rattle.decision.specs.Layers.{high-digit}
@@ -124,3 +125,16 @@ ones-none = sum-zeros _ 64 (λ k h. rw (zero-div (2 ^ k)))
 pub ones-le : (x : ℕ) → ones x ≤ 64
 unfolding ones bitOf
 ones-le x = sum-most (bitOf x) 64 (λ k. omega arith)
+
+-- .. and the count that the machine makes
+counted-none : Count.ones 0 ≡ 0
+unfolding Count.ones
+counted-none = refl
+
+pub ones-same : (x : ℕ) → x < 2 ^ 64 → Count.ones x ≡ ones x
+ones-same x l = go x x (le-refl x) l
+  where
+    go : (n x : ℕ) → x ≤ n → x < 2 ^ 64 → Count.ones x ≡ ones x
+    go zero x h l = let z : x ≡ 0 = omega arith in rw z (counted-none ∙ sym ones-none)
+    go (suc n) x h l =
+        Count.ones-step x ∙ ap (λ (z : ℕ). x % 2 + z) (go n (x / 2) (omega arith) (omega arith)) ∙ sym (ones-half x l)

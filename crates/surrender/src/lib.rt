@@ -133,13 +133,7 @@ fn word(table: &[u16], c: Contract, from: usize, n: usize, at: State) -> Run
 fn ones(word: u64) -> u64
     ensures { λ r. ⌜ (r ≡ ones word) × (r ≤ 64) ⌝ }
 {
-    let mut rest = word;
-    let mut count: u64 = 0;
-    while 0 < rest {
-        count += rest % 2;
-        rest /= 2;
-    }
-    count
+    u64::count_ones(word) as u64
 }
 
 // The words that a map needs.
