@@ -46,11 +46,11 @@ fn random_terms(draw: &mut Draw, most_top: u64) -> Terms {
     }
 }
 
-/// Up to nine returns, so that rows are summed in fours and singly; equal factors stand twice.
+/// Up to 18 returns, so that rows are summed in eights and singly; equal factors stand twice.
 fn random_returns(draw: &mut Draw) -> Vec<Return> {
     let mut left = 10_000;
     let mut returns = Vec::new();
-    for after in (0..draw.within(1, 9)).rev() {
+    for after in (0..draw.within(1, 18)).rev() {
         let weight = if after == 0 {
             left
         } else {
@@ -82,7 +82,7 @@ fn spoil(draw: &mut Draw, input: &mut Input) {
     }
 }
 
-/// The highest account, the most dates and the largest factor: values near 2^31.
+/// The highest account, the most dates and the largest factor: values near the largest.
 fn large_values() -> Input {
     let terms = Terms {
         premium: 1,

@@ -8,8 +8,8 @@ use std::time::Instant;
 
 #[derive(Clone, Copy)]
 enum Call {
-    Value(fn(&[u8], &[u8], u64, &mut [u32], &mut [u16]) -> Valued),
-    ValueMap(fn(&[u8], &[u8], u64, &mut [u32], &mut [u16], &mut [u64]) -> Mapped),
+    Value(fn(&[u8], &[u8], u64, &mut [u64], &mut [u16]) -> Valued),
+    ValueMap(fn(&[u8], &[u8], u64, &mut [u64], &mut [u16], &mut [u64]) -> Mapped),
 }
 
 #[derive(Clone, Copy)]
@@ -53,12 +53,12 @@ extern "C" {
         list: *const u8,
         list_len: usize,
         behaviour: u64,
-        work: *mut u32,
+        work: *mut u64,
         work_len: usize,
         table: *mut u16,
         table_len: usize,
         place: *mut u64,
-        value: *mut u32,
+        value: *mut u64,
         margin: *mut i64,
     ) -> u32;
     fn gmwb_value_map(
@@ -67,14 +67,14 @@ extern "C" {
         list: *const u8,
         list_len: usize,
         behaviour: u64,
-        work: *mut u32,
+        work: *mut u64,
         work_len: usize,
         table: *mut u16,
         table_len: usize,
         map: *mut u64,
         map_len: usize,
         place: *mut u64,
-        value: *mut u32,
+        value: *mut u64,
         margin: *mut i64,
         count: *mut u64,
     ) -> u32;
@@ -84,10 +84,11 @@ fn engine(
     record: &[u8],
     list: &[u8],
     behaviour: u64,
-    work: &mut [u32],
+    work: &mut [u64],
     table: &mut [u16],
 ) -> Valued {
-    let (mut place, mut value, mut margin) = (0, 0, 0);
+    // Nothing that the call could leave.
+    let (mut place, mut value, mut margin) = (u64::MAX, u64::MAX, i64::MAX);
     // SAFETY: the declaration is that of include/gmwb.h; every pointer comes with the length
     // of its slice, and the slices and numbers do not overlap.
     let number = unsafe {
@@ -118,11 +119,12 @@ fn engine_map(
     record: &[u8],
     list: &[u8],
     behaviour: u64,
-    work: &mut [u32],
+    work: &mut [u64],
     table: &mut [u16],
     map: &mut [u64],
 ) -> Mapped {
-    let (mut place, mut value, mut margin, mut count) = (0, 0, 0, 0);
+    let (mut place, mut value, mut margin) = (u64::MAX, u64::MAX, i64::MAX);
+    let mut count = u64::MAX;
     // SAFETY: as in `engine`.
     let number = unsafe {
         gmwb_value_map(
@@ -155,7 +157,7 @@ fn engine_map(
 /// All that a valuing call tells and leaves; count and map where it takes one.
 pub struct Outcome {
     pub told: Valued,
-    work: Vec<u32>,
+    work: Vec<u64>,
     table: Vec<u16>,
     mapped: Option<(u64, Vec<u64>)>,
 }
@@ -163,7 +165,7 @@ pub struct Outcome {
 impl Program {
     /// One run on freshly filled slices; filling them is not timed.
     pub fn run(&self, input: &Input) -> (Outcome, f64) {
-        let mut work = vec![0xA5A5_A5A5; input.work_len];
+        let mut work = vec![0xA5A5_A5A5_A5A5_A5A5; input.work_len];
         let mut table = vec![0xA5A5; input.table_len];
         let mut map = vec![0xA5A5_A5A5_A5A5_A5A5; input.map_len];
         let (record, list, behaviour) = (&input.record, &input.list, input.behaviour);

@@ -15,8 +15,7 @@
 
 use crate::gmwb::{Mapped, Valued};
 
-const UNIT: u32 = 10_000;
-const WHOLE: u64 = 10_000;
+const UNIT: u64 = 10_000;
 
 struct Terms {
     premium: usize,
@@ -24,13 +23,14 @@ struct Terms {
     top: usize,
     dates: usize,
     fee: u64,
-    penalty: u32,
+    penalty: u64,
     discount: u64,
-    step: u32,
+    step: u64,
 }
 
-/// The weight has 32 bits because a product of two 32-bit numbers can be widened on the
-/// plainest x86-64, one of two 64-bit numbers cannot.
+/// The weight has 32 bits, and `product` takes a value's lower 32, which are all of it: a
+/// product of two 32-bit numbers can be widened on the plainest x86-64, one of two 64-bit
+/// numbers cannot.
 struct Return {
     factor: u64,
     weight: u32,
@@ -54,17 +54,17 @@ impl Terms {
     }
 
     /// The cash of one unit above m on a date.
-    fn net(&self, date: usize) -> u32 {
-        UNIT - self.penalty.saturating_sub((date as u32 - 1) * self.step)
+    fn net(&self, date: usize) -> u64 {
+        UNIT - self.penalty.saturating_sub((date as u64 - 1) * self.step)
     }
 
     fn next_account(&self, balance: usize, factor: u64) -> usize {
-        let account = balance as u64 * factor * (WHOLE - self.fee) / (WHOLE * WHOLE);
+        let account = balance as u64 * factor * (UNIT - self.fee) / (UNIT * UNIT);
         self.top.min(account as usize)
     }
 
-    fn discounted(&self, sum: u64) -> u32 {
-        (self.discount * sum / 10_000_000_000) as u32
+    fn discounted(&self, sum: u64) -> u64 {
+        self.discount * sum / 10_000_000_000
     }
 }
 
@@ -98,7 +98,7 @@ fn read_terms(record: &[u8]) -> Result<Terms, Refusal> {
     refuse_if(terms.top > 4_000 || !premium_in_range, 2, 0)?;
     refuse_if(!(1..=terms.premium).contains(&terms.level), 3, 0)?;
     refuse_if(!(1..=40).contains(&terms.dates), 4, 0)?;
-    refuse_if(terms.fee > WHOLE || terms.penalty > UNIT, 5, 0)?;
+    refuse_if(terms.fee > UNIT || terms.penalty > UNIT, 5, 0)?;
     refuse_if(!(1..=1_000_000).contains(&terms.discount), 6, 0)?;
     refuse_if(terms.step > UNIT || word(record, 18) != 0, 15, 0)?;
     Ok(terms)
@@ -126,7 +126,7 @@ pub fn value(
     record: &[u8],
     list: &[u8],
     behaviour: u64,
-    work: &mut [u32],
+    work: &mut [u64],
     table: &mut [u16],
 ) -> Valued {
     let read = read_valuing(record, list, behaviour, work, table);
@@ -138,7 +138,7 @@ pub fn value_map(
     record: &[u8],
     list: &[u8],
     behaviour: u64,
-    work: &mut [u32],
+    work: &mut [u64],
     table: &mut [u16],
     map: &mut [u64],
 ) -> Mapped {
@@ -153,10 +153,10 @@ fn try_value_map(
     record: &[u8],
     list: &[u8],
     behaviour: u64,
-    work: &mut [u32],
+    work: &mut [u64],
     table: &mut [u16],
     map: &mut [u64],
-) -> Result<((u32, i64), u64), Refusal> {
+) -> Result<((u64, i64), u64), Refusal> {
     let (terms, returns) = read_valuing(record, list, behaviour, work, table)?;
     let entries = terms.entries();
     refuse_if(map.len() < entries.div_ceil(64), 16, 0)?;
@@ -164,7 +164,7 @@ fn try_value_map(
     Ok((figures, fill_map(&terms, &table[..entries], map)))
 }
 
-fn told(result: Result<(u32, i64), Refusal>) -> Valued {
+fn told(result: Result<(u64, i64), Refusal>) -> Valued {
     let (number, place) = result.err().unwrap_or((0, 0));
     let (value, margin) = result.unwrap_or((0, 0));
     Valued {
@@ -179,7 +179,7 @@ fn read_valuing(
     record: &[u8],
     list: &[u8],
     behaviour: u64,
-    work: &[u32],
+    work: &[u64],
     table: &[u16],
 ) -> Result<(Terms, Vec<Return>), Refusal> {
     let terms = read_terms(record)?;
@@ -195,9 +195,9 @@ fn fill_table(
     terms: &Terms,
     returns: &[Return],
     behaviour: u64,
-    work: &mut [u32],
+    work: &mut [u64],
     table: &mut [u16],
-) -> (u32, i64) {
+) -> (u64, i64) {
     let layer = terms.layer();
     let (values, expected) = work[..2 * layer].split_at_mut(layer);
     let mut row = Row::new(terms);
@@ -216,31 +216,31 @@ fn fill_table(
     value_at_start(terms, returns, values)
 }
 
-fn fill_maturity(terms: &Terms, values: &mut [u32]) {
+fn fill_maturity(terms: &Terms, values: &mut [u64]) {
     for (account, row) in values.chunks_exact_mut(terms.stride()).enumerate() {
         for (guarantee, value) in row.iter_mut().enumerate() {
-            *value = UNIT * account.max(guarantee) as u32;
+            *value = UNIT * account.max(guarantee) as u64;
         }
     }
 }
 
 /// Value and margin: the first return from balance and guarantee U.
-fn value_at_start(terms: &Terms, returns: &[Return], values: &[u32]) -> (u32, i64) {
+fn value_at_start(terms: &Terms, returns: &[Return], values: &[u64]) -> (u64, i64) {
     let mut sum = 0;
     for r in returns {
         let account = terms.next_account(terms.premium, r.factor);
         let reached = values[account * terms.stride() + terms.premium];
-        sum += u64::from(r.weight) * u64::from(reached);
+        sum += u64::from(r.weight) * reached;
     }
     let value = terms.discounted(sum);
-    let premium = i64::from(UNIT) * terms.premium as i64;
-    (value, i64::from(value) - premium)
+    let premium = UNIT * terms.premium as u64;
+    (value, value as i64 - premium as i64)
 }
 
 // ---------------------------------------------------- Step 1: expectation
 
 /// E(b, a) for every balance and guarantee, from the values of the next date.
-fn expect_layer(terms: &Terms, returns: &[Return], values: &[u32], expected: &mut [u32]) {
+fn expect_layer(terms: &Terms, returns: &[Return], values: &[u64], expected: &mut [u64]) {
     let stride = terms.stride();
     let mut sums = vec![0; stride];
     let mut rows = Vec::with_capacity(returns.len());
@@ -257,21 +257,26 @@ fn expect_layer(terms: &Terms, returns: &[Return], values: &[u32], expected: &mu
     }
 }
 
-/// The weighted sum of the rows, four at a time: one load and one store of a sum for four
+fn product(weight: u32, value: &u64) -> u64 {
+    u64::from(weight) * (value & 0xffff_ffff)
+}
+
+/// The weighted sum of the rows, eight at a time: one load and one store of a sum for eight
 /// products.
-fn sum_rows(rows: &[(u32, &[u32])], sums: &mut [u64]) {
-    let product = |weight: u32, value: &u32| u64::from(weight) * u64::from(*value);
+fn sum_rows(rows: &[(u32, &[u64])], sums: &mut [u64]) {
     sums.fill(0);
-    let mut fours = rows.chunks_exact(4);
-    for four in &mut fours {
-        let (first, second, third, fourth) = (four[0], four[1], four[2], four[3]);
-        let columns = first.1.iter().zip(second.1).zip(third.1).zip(fourth.1);
-        for (sum, (((a, b), c), d)) in sums.iter_mut().zip(columns) {
-            *sum += product(first.0, a) + product(second.0, b);
-            *sum += product(third.0, c) + product(fourth.0, d);
+    let mut eights = rows.chunks_exact(8);
+    for eight in &mut eights {
+        let (a, b, c, d) = (eight[0], eight[1], eight[2], eight[3]);
+        let (e, f, g, h) = (eight[4], eight[5], eight[6], eight[7]);
+        let low = a.1.iter().zip(b.1).zip(c.1).zip(d.1);
+        let high = e.1.iter().zip(f.1).zip(g.1).zip(h.1);
+        for (sum, ((((p, q), r), s), (((t, u), v), w))) in sums.iter_mut().zip(low.zip(high)) {
+            *sum += product(a.0, p) + product(b.0, q) + product(c.0, r) + product(d.0, s);
+            *sum += product(e.0, t) + product(f.0, u) + product(g.0, v) + product(h.0, w);
         }
     }
-    for (weight, row) in fours.remainder() {
+    for (weight, row) in eights.remainder() {
         for (sum, value) in sums.iter_mut().zip(*row) {
             *sum += product(*weight, value);
         }
@@ -282,17 +287,17 @@ fn sum_rows(rows: &[(u32, &[u32])], sums: &mut [u64]) {
 
 /// Every state draws m. Below the level m is the guarantee itself and none is left; from the
 /// level on it is the level, and the row of one balance is read in order.
-fn decide_static(terms: &Terms, values: &mut [u32], expected: &[u32], amounts: &mut [u16]) {
+fn decide_static(terms: &Terms, values: &mut [u64], expected: &[u64], amounts: &mut [u16]) {
     let (stride, level) = (terms.stride(), terms.level);
     let rows = values.chunks_exact_mut(stride);
     for (account, (row, drawn)) in rows.zip(amounts.chunks_exact_mut(stride)).enumerate() {
         for m in 0..level {
-            row[m] = UNIT * m as u32 + expected[account.saturating_sub(m) * stride];
+            row[m] = UNIT * m as u64 + expected[account.saturating_sub(m) * stride];
             drawn[m] = m as u16;
         }
         let after = account.saturating_sub(level) * stride;
         for (value, e) in row[level..].iter_mut().zip(&expected[after..]) {
-            *value = UNIT * level as u32 + e;
+            *value = UNIT * level as u64 + e;
         }
         drawn[level..].fill(level as u16);
     }
@@ -301,9 +306,9 @@ fn decide_static(terms: &Terms, values: &mut [u32], expected: &[u32], amounts: &
 /// Static, then surrender where it is open and better; a tie keeps m, the smaller amount.
 fn decide_mixed(
     terms: &Terms,
-    net: u32,
-    values: &mut [u32],
-    expected: &[u32],
+    net: u64,
+    values: &mut [u64],
+    expected: &[u64],
     amounts: &mut [u16],
 ) {
     decide_static(terms, values, expected, amounts);
@@ -312,8 +317,8 @@ fn decide_mixed(
     for (account, (row, drawn)) in rows.zip(amounts.chunks_exact_mut(stride)).enumerate() {
         for (value, amount) in row.iter_mut().zip(drawn) {
             // The amount in place is m.
-            let above = (account as u32).saturating_sub((*amount).into());
-            let surrender = UNIT * account as u32 - (UNIT - net) * above + expected[0];
+            let above = account.saturating_sub((*amount).into());
+            let surrender = UNIT * account as u64 - (UNIT - net) * above as u64 + expected[0];
             if above > 0 && surrender > *value {
                 *value = surrender;
                 *amount = account as u16;
@@ -327,8 +332,8 @@ fn decide_mixed(
 /// The states of one account while they are decided. Amounts have the width of the values
 /// here, so that both go through the same widened loop.
 struct Row {
-    values: Vec<u32>,
-    amounts: Vec<u32>,
+    values: Vec<u64>,
+    amounts: Vec<u64>,
 }
 
 impl Row {
@@ -340,37 +345,43 @@ impl Row {
     }
 
     /// The states from a guarantee on.
-    fn from(&mut self, guarantee: usize) -> impl Iterator<Item = (&mut u32, &mut u32)> {
+    fn from(&mut self, guarantee: usize) -> impl Iterator<Item = (&mut u64, &mut u64)> {
         let values = self.values[guarantee..].iter_mut();
         values.zip(&mut self.amounts[guarantee..])
     }
 
     /// Offers a value and amount to one state.
-    fn offer(&mut self, guarantee: usize, other: (u32, u32)) {
+    fn offer(&mut self, guarantee: usize, other: (u64, u64)) {
         let held = (self.values[guarantee], self.amounts[guarantee]);
         (self.values[guarantee], self.amounts[guarantee]) = better(held, other);
     }
 }
 
+/// All bits where another value is above the one held: the plainest x86-64 compares no 64-bit
+/// numbers side by side, and values are far below 2^63, so the sign of the difference tells.
+fn gains(held: u64, other: u64) -> u64 {
+    (held.wrapping_sub(other) as i64 >> 63) as u64
+}
+
+fn picked(mask: u64, held: u64, other: u64) -> u64 {
+    held ^ ((held ^ other) & mask)
+}
+
 /// The better of the value and amount held and another. Amounts come smallest first, so a
-/// tie keeps the one held. Both values are below 2^31, and the plainest x86-64 compares only
-/// signed numbers side by side. By value, because a store made only where the other is better
+/// tie keeps the one held. By value, because a store made only where the other is better
 /// would be a branch.
-fn better(held: (u32, u32), other: (u32, u32)) -> (u32, u32) {
-    if other.0 as i32 > held.0 as i32 {
-        other
-    } else {
-        held
-    }
+fn better(held: (u64, u64), other: (u64, u64)) -> (u64, u64) {
+    let mask = gains(held.0, other.0);
+    (picked(mask, held.0, other.0), picked(mask, held.1, other.1))
 }
 
 /// Rows go from top downwards: the best draws above m stand in the first layer and the
 /// table's layer, and a row looks only at rows below it.
 fn decide_dynamic(
     terms: &Terms,
-    net: u32,
-    values: &mut [u32],
-    expected: &[u32],
+    net: u64,
+    values: &mut [u64],
+    expected: &[u64],
     amounts: &mut [u16],
     row: &mut Row,
 ) {
@@ -391,7 +402,7 @@ fn decide_dynamic(
 /// P(b, a): the best that any number of units at net cash leaves, each taking one from
 /// balance and guarantee; and that number, the smallest among the best:
 /// P(b, a) = max(E(b, a), net + P(b − 1, a − 1 held at 0)). Only a ≤ b is looked at later.
-fn fill_draws(terms: &Terms, net: u32, values: &mut [u32], expected: &[u32], amounts: &mut [u16]) {
+fn fill_draws(terms: &Terms, net: u64, values: &mut [u64], expected: &[u64], amounts: &mut [u16]) {
     let stride = terms.stride();
     values[..stride].copy_from_slice(&expected[..stride]);
     amounts[..stride].fill(0);
@@ -408,16 +419,16 @@ fn fill_draws(terms: &Terms, net: u32, values: &mut [u32], expected: &[u32], amo
         let kept = &expected[balance * stride..];
         let out = here[..stride].iter_mut().zip(&mut here_t[..stride]);
         for (((value, t), e), (p, q)) in out.zip(kept).zip(before.zip(before_t)) {
-            let better = (net + p) as i32 > *e as i32;
-            *value = if better { net + p } else { *e };
-            *t = if better { q + 1 } else { 0 };
+            let mask = gains(*e, net + p);
+            *value = picked(mask, *e, net + p);
+            *t = (q + 1) & mask as u16;
         }
     }
 }
 
 /// Amounts 0 to m: the guarantee falls by the amount, the balance too, held at 0. Two
 /// amounts at a time; amount t is open from guarantee t on.
-fn try_up_to_level(terms: &Terms, expected: &[u32], account: usize, row: &mut Row) {
+fn try_up_to_level(terms: &Terms, expected: &[u64], account: usize, row: &mut Row) {
     let stride = terms.stride();
     let kept = |t: usize| &expected[account.saturating_sub(t) * stride..][..stride - t];
     row.values.copy_from_slice(kept(0));
@@ -425,7 +436,7 @@ fn try_up_to_level(terms: &Terms, expected: &[u32], account: usize, row: &mut Ro
     let mut t = 1;
     while t < terms.level {
         let (one, two) = (kept(t), kept(t + 1));
-        let (t1, t2) = (t as u32, t as u32 + 1);
+        let (t1, t2) = (t as u64, t as u64 + 1);
         row.offer(t, (UNIT * t1 + one[0], t1));
         for ((value, amount), (e1, e2)) in row.from(t + 1).zip(one[1..].iter().zip(two)) {
             let held = better((*value, *amount), (UNIT * t1 + e1, t1));
@@ -435,7 +446,7 @@ fn try_up_to_level(terms: &Terms, expected: &[u32], account: usize, row: &mut Ro
     }
     if t == terms.level {
         for ((value, amount), e) in row.from(t).zip(kept(t)) {
-            let other = (UNIT * t as u32 + e, t as u32);
+            let other = (UNIT * t as u64 + e, t as u64);
             (*value, *amount) = better((*value, *amount), other);
         }
     }
@@ -445,8 +456,8 @@ fn try_up_to_level(terms: &Terms, expected: &[u32], account: usize, row: &mut Ro
 /// best draw from there.
 fn try_above_level(
     terms: &Terms,
-    net: u32,
-    values: &[u32],
+    net: u64,
+    values: &[u64],
     amounts: &[u16],
     account: usize,
     row: &mut Row,
@@ -455,8 +466,8 @@ fn try_above_level(
     // Up to the level m is the guarantee itself, and none is left.
     for m in 0..account.min(level + 1) {
         let at = (account - m - 1) * stride;
-        let worth = UNIT * m as u32 + net + values[at];
-        let t = m as u32 + 1 + u32::from(amounts[at]);
+        let worth = UNIT * m as u64 + net + values[at];
+        let t = m as u64 + 1 + u64::from(amounts[at]);
         row.offer(m, (worth, t));
     }
     let guarantees = account.min(terms.premium).saturating_sub(level);
@@ -466,8 +477,8 @@ fn try_above_level(
     let at = (account - level - 1) * stride;
     let best = values[at..].iter().zip(&amounts[at..]).take(guarantees);
     for ((value, amount), (p, q)) in row.from(level + 1).zip(best) {
-        let t = level as u32 + 1 + u32::from(*q);
-        let other = (UNIT * level as u32 + net + p, t);
+        let t = level as u64 + 1 + u64::from(*q);
+        let other = (UNIT * level as u64 + net + p, t);
         (*value, *amount) = better((*value, *amount), other);
     }
 }
@@ -479,14 +490,14 @@ fn try_above_level(
 /// That quotient is the high half of A × step with step = b × 2^32 / W rounded up: the
 /// rounding adds less than A / 2^32, which is below 1 / W, and A × b / W lies at least 1 / W
 /// below the next whole number.
-fn try_above_level_reset(terms: &Terms, net: u32, expected: &[u32], account: usize, row: &mut Row) {
+fn try_above_level_reset(terms: &Terms, net: u64, expected: &[u64], account: usize, row: &mut Row) {
     let (stride, level) = (terms.stride(), terms.level);
     if account >= terms.premium {
         return;
     }
     for t in level + 1..=account {
         let balance = account - t;
-        let cash = UNIT * level as u32 + net * (t - level) as u32;
+        let cash = UNIT * level as u64 + net * (t - level) as u64;
         let kept = &expected[balance * stride..][..stride];
         let step = ((balance as u64) << 32).div_ceil(account as u64);
         let mut quotient = step * account as u64;
@@ -496,7 +507,7 @@ fn try_above_level_reset(terms: &Terms, net: u32, expected: &[u32], account: usi
             // A branch here: this loop looks up single entries and is not widened, and the
             // branch is seldom mistaken.
             if cash + e > *value {
-                (*value, *amount) = (cash + e, t as u32);
+                (*value, *amount) = (cash + e, t as u64);
             }
         }
     }

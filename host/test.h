@@ -24,26 +24,26 @@ uint32_t second_book(const uint8_t *record, size_t record_len,
 uint32_t second_value(const uint8_t *record, size_t record_len,
                       const uint8_t *list, size_t list_len,
                       uint64_t behaviour,
-                      uint32_t *work, size_t work_len,
+                      uint64_t *work, size_t work_len,
                       uint16_t *table, size_t table_len,
-                      uint64_t *place, uint32_t *value, int64_t *margin);
+                      uint64_t *place, uint64_t *value, int64_t *margin);
 uint32_t second_value_map(const uint8_t *record, size_t record_len,
                           const uint8_t *list, size_t list_len,
                           uint64_t behaviour,
-                          uint32_t *work, size_t work_len,
+                          uint64_t *work, size_t work_len,
                           uint16_t *table, size_t table_len,
                           uint64_t *map, size_t map_len,
-                          uint64_t *place, uint32_t *value, int64_t *margin, uint64_t *count);
+                          uint64_t *place, uint64_t *value, int64_t *margin, uint64_t *count);
 uint32_t second_value_table(const uint8_t *record, size_t record_len,
                             const uint8_t *list, size_t list_len,
-                            uint32_t *work, size_t work_len,
+                            uint64_t *work, size_t work_len,
                             const uint16_t *table, size_t table_len,
-                            uint64_t *place, uint32_t *value, int64_t *margin);
+                            uint64_t *place, uint64_t *value, int64_t *margin);
 uint32_t second_walk(const uint8_t *record, size_t record_len,
                      const uint8_t *list, size_t list_len,
                      const uint16_t *table, size_t table_len,
                      const uint16_t *path, size_t path_len,
-                     uint32_t *cash, size_t cash_len,
+                     uint64_t *cash, size_t cash_len,
                      uint64_t *place);
 
 /* ---- Checks ----------------------------------------------------------------------------------- */
@@ -142,7 +142,10 @@ struct lent {
     uint8_t set; /* bits that every byte has set before a call */
 };
 
-/* What a block holds before a call: never 0, so that zeros written are seen. */
+/*
+ * What a block holds before a call: no byte is 0, so that zeros written are seen, also where they
+ * are half of an entry. An entry of 64 bits is above 2^32.
+ */
 static inline uint8_t filling(struct lent s, size_t i)
 {
     return (uint8_t)(37 * i + 11) | 1 | s.set;
@@ -232,12 +235,12 @@ static inline void same_slice(const char *name, struct lent got, struct lent exp
 
 /* What a call reports through pointers, with words around that it must not touch. */
 struct told {
-    uint64_t before, place, between;
-    uint32_t value, after_value;
+    uint64_t before, place, between, value, after_value;
     int64_t margin;
     uint64_t after_margin, count, after;
 };
 
+/* Above 2^32 all over, so that half a number written is seen. */
 static inline struct told untold(void)
 {
     struct told t;

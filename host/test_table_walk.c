@@ -41,7 +41,7 @@ static struct followed exact(struct input in, const uint16_t *table, const uint1
 static uint32_t value_table(const struct followed *f, struct told *told, struct lent *work)
 {
     struct lent record = lend_record(&f->in), list = lend_list(&f->in), table = lend_table(f);
-    struct lent w = lend(f->work_len, sizeof(uint32_t)), x = lend(f->work_len, sizeof(uint32_t));
+    struct lent w = lend(f->work_len, sizeof(uint64_t)), x = lend(f->work_len, sizeof(uint64_t));
     struct told t = untold(), s = untold();
     uint32_t number =
         gmwb_value_table(start(record), f->in.record_len, start(list), f->in.list_len, start(w),
@@ -51,7 +51,7 @@ static uint32_t value_table(const struct followed *f, struct told *told, struct 
                            f->work_len, start(table), f->table_len, &s.place, &s.value, &s.margin);
     same("value_table: number against the second program", number, expected);
     same_told(t, s);
-    same_slice("value_table: working slice against the second program", w, x, sizeof(uint32_t));
+    same_slice("value_table: working slice against the second program", w, x, sizeof(uint64_t));
     if (number != 0) {
         same("value_table: value after a refusal", t.value, 0);
         same_signed("value_table: margin after a refusal", t.margin, 0);
@@ -71,7 +71,7 @@ static uint32_t walk(const struct followed *f, uint64_t *place, struct lent *cas
 {
     struct lent record = lend_record(&f->in), list = lend_list(&f->in), table = lend_table(f);
     struct lent path = lend_path(f);
-    struct lent c = lend(f->cash_len, sizeof(uint32_t)), d = lend(f->cash_len, sizeof(uint32_t));
+    struct lent c = lend(f->cash_len, sizeof(uint64_t)), d = lend(f->cash_len, sizeof(uint64_t));
     struct told t = untold(), s = untold();
     uint32_t number =
         gmwb_walk(start(record), f->in.record_len, start(list), f->in.list_len, start(table),
@@ -81,7 +81,7 @@ static uint32_t walk(const struct followed *f, uint64_t *place, struct lent *cas
                     f->table_len, start(path), f->path_len, start(d), f->cash_len, &s.place);
     same("walk: number against the second program", number, expected);
     same_told(t, s);
-    same_slice("walk: cash against the second program", c, d, sizeof(uint32_t));
+    same_slice("walk: cash against the second program", c, d, sizeof(uint64_t));
     if (number != 0)
         untouched("walk: cash after a refusal", c);
     else
@@ -194,7 +194,7 @@ static uint16_t *recorded(const struct input *in, uint64_t behaviour, struct tol
     size_t entries = table_of(in->terms);
     uint16_t *table = allocate((entries + 1) * sizeof *table);
     struct told t = untold();
-    *work = lend(work_of(in->terms), sizeof(uint32_t));
+    *work = lend(work_of(in->terms), sizeof(uint64_t));
     uint32_t number = gmwb_value(in->record, in->record_len, in->list, in->list_len, behaviour,
                                  start(*work), work_of(in->terms), table, entries,
                                  &t.place, &t.value, &t.margin);
@@ -214,7 +214,7 @@ static void supplied_back(const struct input *in)
         same("value_table: number", value_table(&f, &s, &again), GMWB_SUCCESS);
         same("value_table: value of the recorded table", s.value, t.value);
         same_signed("value_table: margin of the recorded table", s.margin, t.margin);
-        same_slice("value_table: working slice as after gmwb_value", again, work, 4);
+        same_slice("value_table: working slice as after gmwb_value", again, work, sizeof(uint64_t));
         take_back(work);
         take_back(again);
         free(table);
@@ -251,8 +251,8 @@ static void large_values(void)
     struct lent work;
     about("large values");
     same("value_table: number", value_table(&f, &t, &work), GMWB_SUCCESS);
-    same("value of (4,000, 0)", ((uint32_t *)start(work))[entry_of(c, 4000, 0)],
-         UINT32_C(39) * 26660000 + 40000000);
+    same("value of (4,000, 0)", ((uint64_t *)start(work))[entry_of(c, 4000, 0)],
+         UINT64_C(39) * 26660000 + 40000000);
     take_back(work);
     free(table);
 }
@@ -309,19 +309,19 @@ static void later_checks_in_order(void)
 
 /* ---- Walks ------------------------------------------------------------------------------------ */
 
-static void pays(const struct followed *f, const uint32_t *expected)
+static void pays(const struct followed *f, const uint64_t *expected)
 {
     uint64_t place;
     struct lent cash;
     same("walk: number", walk(f, &place, &cash), GMWB_SUCCESS);
     for (size_t i = 0; i < f->path_len; i++)
-        same("walk: cash", ((uint32_t *)start(cash))[i], expected[i]);
-    untouched_from("walk: cash beyond the dates", cash, f->path_len * sizeof(uint32_t));
+        same("walk: cash", ((uint64_t *)start(cash))[i], expected[i]);
+    untouched_from("walk: cash beyond the dates", cash, f->path_len * sizeof(uint64_t));
     take_back(cash);
 }
 
 static void cash_along(struct terms c, const uint16_t *table, const uint16_t *path,
-                       const uint32_t *expected)
+                       const uint64_t *expected)
 {
     struct followed f = exact(input_of(c, P_RETURNS, 2), table, path);
     f.cash_len += 2;
@@ -339,16 +339,16 @@ static void cash_by_hand(void)
     about("walks of P");
     struct input in = input_p();
     uint16_t *table = recorded(&in, GMWB_DYNAMIC, &t, &work);
-    cash_along(P, table, (uint16_t[]){0, 0}, (uint32_t[]){0, 100000});
-    cash_along(P, table, (uint16_t[]){0, 1}, (uint32_t[]){0, 100000});
-    cash_along(P, table, (uint16_t[]){1, 0}, (uint32_t[]){10000, 90000});
-    cash_along(P, table, (uint16_t[]){1, 1}, (uint32_t[]){10000, 200000});
+    cash_along(P, table, (uint16_t[]){0, 0}, (uint64_t[]){0, 100000});
+    cash_along(P, table, (uint16_t[]){0, 1}, (uint64_t[]){0, 100000});
+    cash_along(P, table, (uint16_t[]){1, 0}, (uint64_t[]){10000, 90000});
+    cash_along(P, table, (uint16_t[]){1, 1}, (uint64_t[]){10000, 200000});
     take_back(work);
     free(table);
     about("walks of one date");
     const struct terms c = {10, 5, 20, 1, 0, 1000, 1000000, 0, 0};
-    cash_along(c, NULL, (uint16_t[]){0}, (uint32_t[]){100000});
-    cash_along(c, NULL, (uint16_t[]){1}, (uint32_t[]){150000});
+    cash_along(c, NULL, (uint16_t[]){0}, (uint64_t[]){100000});
+    cash_along(c, NULL, (uint16_t[]){1}, (uint64_t[]){150000});
 }
 
 /*
@@ -358,7 +358,7 @@ static void cash_by_hand(void)
 static void falling_rates(void)
 {
     static const uint16_t steps[4] = {0, 300, 500, 10000}, path[4];
-    static const uint32_t cashes[4][4] = {
+    static const uint64_t cashes[4][4] = {
         {68000, 68000, 59000, 0},
         {68000, 68600, 59600, 0},
         {68000, 69000, 60000, 0},
@@ -390,7 +390,7 @@ static void drawn_late(void)
 {
     const struct terms c = {10, 5, 20, 40, 0, 10000, 1000000, 8192, 0};
     uint16_t path[40], *table = allocate(table_of(c) * sizeof *table);
-    uint32_t cash[40] = {0};
+    uint64_t cash[40] = {0};
     for (size_t i = 0; i < COUNT(path); i++)
         path[i] = 1;
     table[8 * layer_of(c) + entry_of(c, 20, 10)] = 20;
@@ -491,14 +491,14 @@ static struct followed in_one_block(uint16_t *block)
 static void value_table_in(const struct followed *f, const uint8_t *list, const uint8_t *record)
 {
     struct told t, s = untold();
-    struct lent apart, work = lend(f->work_len, sizeof(uint32_t));
+    struct lent apart, work = lend(f->work_len, sizeof(uint64_t));
     same("value_table: number", value_table(f, &t, &apart), GMWB_SUCCESS);
     same("value_table: number in one block",
          gmwb_value_table(record, f->in.record_len, list, f->in.list_len, start(work), f->work_len,
                           f->table, f->table_len, &s.place, &s.value, &s.margin),
          GMWB_SUCCESS);
     same("value_table: value in one block", s.value, t.value);
-    same_slice("value_table: working slice in one block", work, apart, sizeof(uint32_t));
+    same_slice("value_table: working slice in one block", work, apart, sizeof(uint64_t));
     take_back(apart);
     take_back(work);
 }
@@ -506,13 +506,13 @@ static void value_table_in(const struct followed *f, const uint8_t *list, const 
 static void walk_in(const struct followed *f, const uint8_t *list, const uint8_t *record)
 {
     uint64_t place;
-    struct lent apart, cash = lend(f->cash_len, sizeof(uint32_t));
+    struct lent apart, cash = lend(f->cash_len, sizeof(uint64_t));
     same("walk: number", walk(f, &place, &apart), GMWB_SUCCESS);
     same("walk: number in one block",
          gmwb_walk(record, f->in.record_len, list, f->in.list_len, f->table, f->table_len, f->path,
                    f->path_len, start(cash), f->cash_len, &place),
          GMWB_SUCCESS);
-    same_slice("walk: cash in one block", cash, apart, sizeof(uint32_t));
+    same_slice("walk: cash in one block", cash, apart, sizeof(uint64_t));
     take_back(apart);
     take_back(cash);
 }
@@ -520,14 +520,14 @@ static void walk_in(const struct followed *f, const uint8_t *list, const uint8_t
 static void value_in(const struct followed *f, const uint8_t *list, const uint8_t *record)
 {
     struct told t, s = untold();
-    struct lent apart, work = lend(f->work_len, sizeof(uint32_t));
+    struct lent apart, work = lend(f->work_len, sizeof(uint64_t));
     uint16_t *recorded_apart = recorded(&f->in, GMWB_DYNAMIC, &t, &apart), table[ONE_TABLE];
     same("value: number in one block",
          gmwb_value(record, f->in.record_len, list, f->in.list_len, GMWB_DYNAMIC, start(work),
                     f->work_len, table, ONE_TABLE, &s.place, &s.value, &s.margin),
          GMWB_SUCCESS);
     same("value: value in one block", s.value, t.value);
-    same_slice("value: working slice in one block", work, apart, sizeof(uint32_t));
+    same_slice("value: working slice in one block", work, apart, sizeof(uint64_t));
     holds("value: table in one block", memcmp(table, recorded_apart, sizeof table) == 0);
     take_back(apart);
     take_back(work);
@@ -560,7 +560,7 @@ static wide power(wide base, size_t exponent)
 }
 
 /* One path's part in the expected cash, times 10^30. */
-static wide weighed(const struct input *in, const uint16_t *path, const uint32_t *cash)
+static wide weighed(const struct input *in, const uint16_t *path, const uint64_t *cash)
 {
     wide chance = 1, sum = 0, discount = get(in->record + 12, 4);
     for (size_t i = 0; i < PATH_DATES; i++) {

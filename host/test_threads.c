@@ -90,7 +90,7 @@ enum { KINDS = COUNT(CALLS) };
 /* The slices of a call, before it is made. */
 static struct answer lent_to(size_t kind, const struct given *g)
 {
-    size_t work = g->work_len * sizeof(uint32_t), cash = g->cash_len * sizeof(uint32_t);
+    size_t work = g->work_len * sizeof(uint64_t), cash = g->cash_len * sizeof(uint64_t);
     size_t table = g->table.bytes, map = g->map_len * sizeof(uint64_t);
     const size_t bytes[KINDS][LEFT] = {
         {0}, {g->out_len}, {work, table}, {work, table, map}, {work}, {cash},

@@ -36,7 +36,7 @@ static uint32_t value(const struct valuing *v, struct told *told, struct left *l
 
 /* ---- Marked cases ----------------------------------------------------------------------------- */
 
-static void valued(struct terms c, uint64_t behaviour, uint32_t expected, int64_t margin)
+static void valued(struct terms c, uint64_t behaviour, uint64_t expected, int64_t margin)
 {
     struct valuing v = exact(input_of(c, P_RETURNS, 2), behaviour);
     struct told t;
@@ -76,7 +76,7 @@ static void marked_values(void)
 static void falling_rates(void)
 {
     static const uint16_t steps[3] = {0, 100, 1000};
-    static const uint32_t values[3][3] = {
+    static const uint64_t values[3][3] = {
         {122500, 122500, 133500},
         {122500, 123000, 133650},
         {122500, 125000, 134375},
@@ -109,14 +109,14 @@ static void rates_at_zero(void)
 
 /* Value and recorded amount of a state of date 1. */
 static void state(struct terms c, uint64_t behaviour, size_t account, size_t guarantee,
-                  uint32_t expected, uint16_t amount)
+                  uint64_t expected, uint16_t amount)
 {
     struct valuing v = exact(input_of(c, P_RETURNS, 2), behaviour);
     struct told t;
     struct left l;
     same("number", value(&v, &t, &l), GMWB_SUCCESS);
     size_t entry = entry_of(c, account, guarantee);
-    same("value of the state", ((uint32_t *)start(l.work))[entry], expected);
+    same("value of the state", ((uint64_t *)start(l.work))[entry], expected);
     same("recorded amount", ((uint16_t *)start(l.table))[entry], amount);
     take_back_left(l);
 }
@@ -147,7 +147,7 @@ static void maturity_layer(void)
     about("maturity values");
     same("table entries needed", v.table_len, 0);
     same("number", value(&v, &t, &l), GMWB_SUCCESS);
-    const uint32_t *work = start(l.work);
+    const uint64_t *work = start(l.work);
     for (size_t w = 0; w <= c.top; w++)
         for (size_t a = 0; a <= c.premium; a++)
             same("maturity value", work[entry_of(c, w, a)], 10000 * larger(w, a));

@@ -32,7 +32,7 @@ static inline struct valuing exact(struct input in, uint64_t behaviour)
 
 static inline struct left lend_both(const struct valuing *v)
 {
-    struct left l = {lend(v->work_len, sizeof(uint32_t)), lend(v->table_len, sizeof(uint16_t))};
+    struct left l = {lend(v->work_len, sizeof(uint64_t)), lend(v->table_len, sizeof(uint16_t))};
     return l;
 }
 
@@ -44,7 +44,7 @@ static inline void take_back_left(struct left l)
 
 static inline void same_left(struct left got, struct left expected)
 {
-    same_slice("working slice of the two calls", got.work, expected.work, sizeof(uint32_t));
+    same_slice("working slice of the two calls", got.work, expected.work, sizeof(uint64_t));
     same_slice("table of the two calls", got.table, expected.table, sizeof(uint16_t));
 }
 
@@ -59,14 +59,14 @@ static inline void after_refusal(struct told t, struct left l)
 static inline void after_success(struct terms c, struct told t, struct left l)
 {
     size_t layer = layer_of(c);
-    const uint32_t *work = start(l.work);
-    uint32_t rest = 0;
+    const uint64_t *work = start(l.work);
+    uint64_t rest = 0;
     for (size_t i = layer; i < 2 * layer; i++)
         rest |= work[i];
     same("place after success", t.place, 0);
     same_signed("margin", t.margin, (int64_t)t.value - 10000 * (int64_t)c.premium);
     same("second layer zeros", rest, 0);
-    untouched_from("working slice beyond two layers", l.work, work_of(c) * sizeof(uint32_t));
+    untouched_from("working slice beyond two layers", l.work, work_of(c) * sizeof(uint64_t));
     untouched_from("table beyond its layers", l.table, table_of(c) * sizeof(uint16_t));
 }
 
@@ -153,7 +153,7 @@ static inline void all_behaviours(const char *name, uint64_t round, struct valui
                                   uint64_t *came)
 {
     char record[HEX_ROOM], list[HEX_ROOM];
-    uint32_t before = 0;
+    uint64_t before = 0;
     bool other = one_in(16);
     for (v.behaviour = 0; v.behaviour <= (other ? 3 : 2); v.behaviour++) {
         about("%s %" PRIu64 ", behaviour %" PRIu64 ": record %s of %lu bytes, list %s of %lu, "

@@ -13,6 +13,8 @@
  *
  * Numbers. Date, account, guarantee, amount and behaviour are passed in 64 bits, more than any
  * accepted one needs, so that what the caller passes is what is refused: 65,537 is not taken for 1.
+ * Values and cash are stored in 64 bits, in work, value and the cash of a walk; in a booking buffer
+ * cash has 4 bytes. The amounts of a table and the return numbers of a path have 16 bits.
  *
  * Slices. A slice is a pointer, aligned for its type, and the number of entries behind it (bytes
  * for a record, a list and a booking buffer). Nothing is read or written through a pointer whose
@@ -168,9 +170,9 @@ enum gmwb_behaviour {
 uint32_t gmwb_value(const uint8_t *record, size_t record_len,
                     const uint8_t *list, size_t list_len,
                     uint64_t behaviour,
-                    uint32_t *work, size_t work_len,
+                    uint64_t *work, size_t work_len,
                     uint16_t *table, size_t table_len,
-                    uint64_t *place, uint32_t *value, int64_t *margin);
+                    uint64_t *place, uint64_t *value, int64_t *margin);
 
 /* ---- Valuing a contract with a map of surrender ----------------------------------------------
  *
@@ -191,10 +193,10 @@ uint32_t gmwb_value(const uint8_t *record, size_t record_len,
 uint32_t gmwb_value_map(const uint8_t *record, size_t record_len,
                         const uint8_t *list, size_t list_len,
                         uint64_t behaviour,
-                        uint32_t *work, size_t work_len,
+                        uint64_t *work, size_t work_len,
                         uint16_t *table, size_t table_len,
                         uint64_t *map, size_t map_len,
-                        uint64_t *place, uint32_t *value, int64_t *margin, uint64_t *count);
+                        uint64_t *place, uint64_t *value, int64_t *margin, uint64_t *count);
 
 /* ---- Valuing a supplied table ----------------------------------------------------------------
  *
@@ -205,9 +207,9 @@ uint32_t gmwb_value_map(const uint8_t *record, size_t record_len,
  */
 uint32_t gmwb_value_table(const uint8_t *record, size_t record_len,
                           const uint8_t *list, size_t list_len,
-                          uint32_t *work, size_t work_len,
+                          uint64_t *work, size_t work_len,
                           const uint16_t *table, size_t table_len,
-                          uint64_t *place, uint32_t *value, int64_t *margin);
+                          uint64_t *place, uint64_t *value, int64_t *margin);
 
 /* ---- Walking a contract along a path ---------------------------------------------------------
  *
@@ -221,7 +223,7 @@ uint32_t gmwb_walk(const uint8_t *record, size_t record_len,
                    const uint8_t *list, size_t list_len,
                    const uint16_t *table, size_t table_len,
                    const uint16_t *path, size_t path_len,
-                   uint32_t *cash, size_t cash_len,
+                   uint64_t *cash, size_t cash_len,
                    uint64_t *place);
 
 #ifdef __cplusplus

@@ -25,7 +25,7 @@ unsafe fn lent_mut<'a, T>(pointer: *mut T, length: usize) -> &'a mut [T] {
 }
 
 /// Writes place, value and margin; gives the number.
-unsafe fn tell(told: gmwb::Valued, place: *mut u64, value: *mut u32, margin: *mut i64) -> u32 {
+unsafe fn tell(told: gmwb::Valued, place: *mut u64, value: *mut u64, margin: *mut i64) -> u32 {
     *place = told.place;
     *value = told.value;
     *margin = told.margin;
@@ -60,12 +60,12 @@ unsafe extern "C" fn second_value(
     list: *const u8,
     list_len: usize,
     behaviour: u64,
-    work: *mut u32,
+    work: *mut u64,
     work_len: usize,
     table: *mut u16,
     table_len: usize,
     place: *mut u64,
-    value: *mut u32,
+    value: *mut u64,
     margin: *mut i64,
 ) -> u32 {
     let (record, list) = (lent(record, record_len), lent(list, list_len));
@@ -81,14 +81,14 @@ unsafe extern "C" fn second_value_map(
     list: *const u8,
     list_len: usize,
     behaviour: u64,
-    work: *mut u32,
+    work: *mut u64,
     work_len: usize,
     table: *mut u16,
     table_len: usize,
     map: *mut u64,
     map_len: usize,
     place: *mut u64,
-    value: *mut u32,
+    value: *mut u64,
     margin: *mut i64,
     count: *mut u64,
 ) -> u32 {
@@ -106,12 +106,12 @@ unsafe extern "C" fn second_value_table(
     record_len: usize,
     list: *const u8,
     list_len: usize,
-    work: *mut u32,
+    work: *mut u64,
     work_len: usize,
     table: *const u16,
     table_len: usize,
     place: *mut u64,
-    value: *mut u32,
+    value: *mut u64,
     margin: *mut i64,
 ) -> u32 {
     let (record, list) = (lent(record, record_len), lent(list, list_len));
@@ -130,7 +130,7 @@ unsafe extern "C" fn second_walk(
     table_len: usize,
     path: *const u16,
     path_len: usize,
-    cash: *mut u32,
+    cash: *mut u64,
     cash_len: usize,
     place: *mut u64,
 ) -> u32 {

@@ -56,11 +56,16 @@ fn listed(entries: &[u16]) -> String {
 struct Draw(u64);
 
 impl Draw {
-    /// A number from 0 to `most`.
-    fn upto(&mut self, most: usize) -> usize {
+    /// Any number of 64 bits.
+    fn any(&mut self) -> u64 {
         self.0 = self.0.wrapping_mul(6_364_136_223_846_793_005);
         self.0 = self.0.wrapping_add(1_442_695_040_888_963_407);
-        (self.0 >> 33) as usize % (most + 1)
+        self.0
+    }
+
+    /// A number from 0 to `most`.
+    fn upto(&mut self, most: usize) -> usize {
+        (self.any() >> 33) as usize % (most + 1)
     }
 
     fn one<T: Copy>(&mut self, of: &[T]) -> T {
@@ -70,6 +75,11 @@ impl Draw {
     /// LEN:SEED, with some seed.
     fn filled(&mut self, length: usize) -> String {
         format!("{length}:{}", self.upto(99_999))
+    }
+
+    /// The same for a working slice or cash, whose entries are then above 2^32.
+    fn filled_64(&mut self, length: usize) -> String {
+        format!("{length}:{}", self.any())
     }
 
     /// The same for a map: nearly all bits of the first word set, the upper 40 bits of 1,200
@@ -186,7 +196,7 @@ impl Script {
         table: usize,
     ) {
         let (record, list) = (hex(&terms.record()), hex(&list(returns)));
-        let (work, table) = (self.draw.filled(work), self.draw.filled(table));
+        let (work, table) = (self.draw.filled_64(work), self.draw.filled(table));
         writeln!(
             self.text,
             "value {record} {list} {behaviour} {work} {table}"
@@ -194,13 +204,18 @@ impl Script {
         .unwrap();
     }
 
-    /// A valuation with a map, the other slices just long enough.
-    fn value_map(&mut self, terms: Terms, returns: &[Return], behaviour: u64, map: usize) {
+    /// A valuation with a map, the table just long enough.
+    fn value_map(
+        &mut self,
+        terms: Terms,
+        returns: &[Return],
+        behaviour: u64,
+        work: usize,
+        map: usize,
+    ) {
         let (record, list) = (hex(&terms.record()), hex(&list(returns)));
-        let (work, table) = (
-            self.draw.filled(terms.work()),
-            self.draw.filled(terms.table()),
-        );
+        let work = self.draw.filled_64(work);
+        let table = self.draw.filled(terms.table());
         let map = self.draw.filled_map(map);
         writeln!(
             self.text,
@@ -211,7 +226,7 @@ impl Script {
 
     fn value_table(&mut self, terms: Terms, returns: &[Return], work: usize, table: &str) {
         let (record, list) = (hex(&terms.record()), hex(&list(returns)));
-        let work = self.draw.filled(work);
+        let work = self.draw.filled_64(work);
         writeln!(self.text, "value_table {record} {list} {work} {table}").unwrap();
     }
 
@@ -227,7 +242,7 @@ impl Script {
 
     fn walk(&mut self, terms: Terms, returns: &[Return], table: &str, path: &str, cash: usize) {
         let (record, list) = (hex(&terms.record()), hex(&list(returns)));
-        let cash = self.draw.filled(cash);
+        let cash = self.draw.filled_64(cash);
         writeln!(self.text, "walk {record} {list} {table} {path} {cash}").unwrap();
     }
 
@@ -643,7 +658,7 @@ impl Parts {
 
     fn line(&self, operation: &str, draw: &mut Draw) -> String {
         let (record, list) = (hex(&self.record), hex(&self.list));
-        let (table, work) = (listed(&self.table), draw.filled(self.work));
+        let (table, work) = (listed(&self.table), draw.filled_64(self.work));
         match operation {
             "check" => format!("check {record}"),
             "value" => format!("value {record} {list} {} {work} {table}", self.behaviour),
@@ -658,7 +673,7 @@ impl Parts {
                 format!("book {record} {date} {account} {guarantee} {amount} {buffer}")
             }
             _ => {
-                let (path, cash) = (listed(&self.numbers), draw.filled(self.cash));
+                let (path, cash) = (listed(&self.numbers), draw.filled_64(self.cash));
                 format!("walk {record} {list} {table} {path} {cash}")
             }
         }
@@ -935,7 +950,7 @@ fn random_tables(s: &mut Script) {
         let list = hex(&parts.list);
         for _ in 0..3 {
             let path = s.draw.path(terms.dates, parts.list.len() / 4);
-            let (record, cash) = (hex(&parts.record), s.draw.filled(terms.dates.into()));
+            let (record, cash) = (hex(&parts.record), s.draw.filled_64(terms.dates.into()));
             writeln!(s.text, "walk {record} {list} = {path} {cash}").unwrap();
         }
     }
@@ -989,7 +1004,7 @@ fn random_contracts(s: &mut Script) {
 /// A valuation with a map under each behaviour, the last table supplied back and walked.
 fn mapped(s: &mut Script, terms: Terms, returns: &[Return], map: usize) {
     for behaviour in 0..3 {
-        s.value_map(terms, returns, behaviour, map);
+        s.value_map(terms, returns, behaviour, terms.work(), map);
     }
     s.value_table(terms, returns, terms.work(), "=");
     let path = s.draw.path(terms.dates, returns.len());
@@ -1043,22 +1058,24 @@ fn ends_of_words(s: &mut Script) {
         let terms = shape(Terms { step: 250, ..P });
         mapped(s, terms, &P_RETURNS, terms.map());
         mapped(s, shape(Q), &P_RETURNS, terms.map() + 1);
+        let (work, map) = (terms.work(), terms.map());
         let discount = 1;
-        s.value_map(Terms { discount, ..terms }, &P_RETURNS, 1, terms.map());
-        s.value_map(Terms { discount, ..terms }, &P_RETURNS, 2, terms.map());
-        s.value_map(terms, &P_RETURNS, 1, terms.map() - 1);
+        s.value_map(Terms { discount, ..terms }, &P_RETURNS, 1, work, map);
+        s.value_map(Terms { discount, ..terms }, &P_RETURNS, 2, work, map);
+        s.value_map(terms, &P_RETURNS, 1, work, map - 1);
     }
 }
 
 fn lengths_of_maps(s: &mut Script) {
-    s.part("Maps just long enough, one word short, without a word and longer.");
+    s.part("Maps just long enough, one word short, without a word and longer; working slices longer by as much.");
     for _ in 0..20 {
         let terms = s.draw.terms(12, 6);
         let count = 1 + s.draw.upto(3);
         let returns = s.draw.returns(count);
         let (map, behaviour) = (terms.map(), s.draw.upto(2) as u64);
         for map in [0, map.saturating_sub(1), map, map + 1, map + 40] {
-            s.value_map(terms, &returns, behaviour, map);
+            let work = terms.work() + map.saturating_sub(terms.map());
+            s.value_map(terms, &returns, behaviour, work, map);
         }
     }
 }

@@ -16,6 +16,7 @@ const LEAST_REFUSALS: u64 = 10;
 const LEAST_ACCEPTED: u64 = 100;
 const LEAST_FALLEN: u64 = 20;
 const LEAST_MARKED: u64 = 10;
+const LEAST_WIDE: u64 = 20;
 
 /// The fields of a record.
 struct Fields {
@@ -220,7 +221,7 @@ fn list_of(operation: &Operation) -> &[u8] {
 fn lent_fails(operation: &Operation) -> bool {
     let c = Fields::of(record_of(operation));
     let short = |length: usize, needed: u64| (length as u64) < needed;
-    let valuing_fails = |work: &[u32], table: &[u16]| {
+    let valuing_fails = |work: &[u64], table: &[u16]| {
         short(work.len(), 2 * c.layer()) || short(table.len(), c.table())
     };
     match operation {
@@ -485,6 +486,42 @@ fn count_surrendered(tally: &mut Tally, c: &Fields, behaviour: u64, left: &[u16]
     }
 }
 
+/// The working slice or the cash that an operation is lent, if any, and the entries it needs.
+fn stored_in<'a>(c: &Fields, operation: &'a Operation) -> Option<(&'a [u64], u64)> {
+    match operation {
+        Operation::Check { .. } | Operation::Book { .. } => None,
+        Operation::Value(v) | Operation::ValueMap(v, _) => Some((&v.work, 2 * c.layer())),
+        Operation::ValueTable { work, .. } => Some((work, 2 * c.layer())),
+        Operation::Walk { cash, .. } => Some((cash, c.dates)),
+    }
+}
+
+const WIDE: [&str; 3] = ["overwritten", "beyond those needed", "left by a refusal"];
+
+fn wide(name: &str, which: &str) -> String {
+    format!("{name} with entries above 2^32 {which}")
+}
+
+/// Where the working slice or the cash holds entries above 2^32 before the call: so that half
+/// an entry written or cleared is seen.
+fn count_wide(tally: &mut Tally, c: &Fields, operation: &Operation, number: u64) {
+    let Some((entries, needed)) = stored_in(c, operation) else {
+        return;
+    };
+    let parts = match number {
+        0 => {
+            let (overwritten, beyond) = entries.split_at(needed as usize);
+            [overwritten, beyond, &[]]
+        }
+        _ => [&[], &[], entries],
+    };
+    for (which, part) in WIDE.iter().zip(parts) {
+        if !part.is_empty() && part.iter().all(|x| *x > 1 << 32) {
+            count(tally, wide(name_of(operation), which));
+        }
+    }
+}
+
 /// What a refusal by short slices has that the script is to have somewhere.
 fn count_short(tally: &mut Tally, c: &Fields, operation: &Operation) {
     if c.top == 4_000 {
@@ -644,6 +681,9 @@ fn wanted() -> Vec<(String, u64)> {
     for name in ["value", "value_table", "walk"] {
         wanted.push((format!("top 4,000: {}", refusal(name, 11)), 1));
     }
+    for name in ["value", "value_map", "value_table", "walk"] {
+        wanted.extend(WIDE.map(|which| (wide(name, which), LEAST_WIDE)));
+    }
     wanted.extend(SOMEWHERE.map(|case| (case.to_string(), 1)));
     wanted
 }
@@ -674,6 +714,7 @@ fn take_line(tally: &mut Tally, session: &mut Session, line: &str) -> Option<Str
     count(tally, "operations".to_string());
     count_table(tally, line);
     let c = Fields::of(record_of(&operation));
+    count_wide(tally, &c, &operation, number);
     match number {
         0 => count_accepted(tally, &c, &operation, session.table()),
         _ => count_refused(tally, &c, &operation, number),

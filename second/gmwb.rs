@@ -1,4 +1,4 @@
-//! GMWB valuation: the rules of document 01 (01-scope.md), with requests (i) and (ii)
+//! GMWB valuation: the rules of document 01 (01-scope.md), with requests (i) to (iii)
 //! of document 02 (02-change-requests.md), written plainly.
 //!
 //! The parts follow document 01: units and records, one date, values, lent
@@ -28,7 +28,7 @@ pub struct Answer {
 pub struct Valued {
     pub number: u64,
     pub place: u64,
-    pub value: u32,
+    pub value: u64,
     pub margin: i64,
 }
 
@@ -252,12 +252,12 @@ fn maturity_value(account: u64, guarantee: u64) -> u64 {
 
 /// "discount × (sum of weight × value reached) / 10,000,000,000, rounded down once".
 /// A date adds at most 10,000 × 4,000 to a value, so a value is at most
-/// 1,600,000,000 (below 2^32) and the product at most 16 × 10^18 (below 2^64).
-fn discounted(c: &Contract, returns: &[Return], next: &[u32], balance: u64, guarantee: u64) -> u64 {
+/// 1,600,000,000 and the product at most 16 × 10^18 (below 2^64).
+fn discounted(c: &Contract, returns: &[Return], next: &[u64], balance: u64, guarantee: u64) -> u64 {
     let mut sum = 0;
     for r in returns {
         let account = next_account(c, balance, r.factor);
-        sum += r.weight * u64::from(next[entry(c, account, guarantee)]);
+        sum += r.weight * next[entry(c, account, guarantee)];
     }
     c.discount * sum / 10_000_000_000
 }
@@ -266,7 +266,7 @@ fn discounted(c: &Contract, returns: &[Return], next: &[u32], balance: u64, guar
 fn worth(
     c: &Contract,
     returns: &[Return],
-    next: &[u32],
+    next: &[u64],
     date: u64,
     w: u64,
     a: u64,
@@ -283,7 +283,7 @@ fn worth(
 fn best(
     c: &Contract,
     returns: &[Return],
-    next: &[u32],
+    next: &[u64],
     date: u64,
     w: u64,
     a: u64,
@@ -303,9 +303,9 @@ fn best(
 /// "Start: balance U and guarantee U, then the first return." "The contract's value
 /// is the same discounted and rounded sum over the first return, without cash."
 /// "the margin: value less 10,000 × premium".
-fn value_at_start(c: &Contract, returns: &[Return], first: &[u32]) -> (u32, i64) {
+fn value_at_start(c: &Contract, returns: &[Return], first: &[u64]) -> (u64, i64) {
     let value = discounted(c, returns, first, c.premium, c.premium);
-    (value as u32, value as i64 - (UNIT * c.premium) as i64)
+    (value, value as i64 - (UNIT * c.premium) as i64)
 }
 
 // ------------------------------------------------------------ Lent slices
@@ -325,7 +325,8 @@ fn layer_start(c: &Contract, date: u64) -> usize {
     (date as usize - 1) * layer_size(c)
 }
 
-/// "The working slice holds 32-bit numbers, two layers."
+/// The working slice holds "two layers", and "working slices and value fields become
+/// 64-bit".
 fn work_size(c: &Contract) -> usize {
     2 * layer_size(c)
 }
@@ -347,21 +348,19 @@ fn states(c: &Contract) -> impl Iterator<Item = (u64, u64)> {
 }
 
 /// The values of date N.
-fn maturity_layer(c: &Contract) -> Vec<u32> {
-    states(c)
-        .map(|(w, a)| maturity_value(w, a) as u32)
-        .collect()
+fn maturity_layer(c: &Contract) -> Vec<u64> {
+    states(c).map(|(w, a)| maturity_value(w, a)).collect()
 }
 
 /// "After success the first layer holds the values of date 1 and the second zeros."
-fn leave_work(work: &mut [u32], first: &[u32]) {
+fn leave_work(work: &mut [u64], first: &[u64]) {
     work[..first.len()].copy_from_slice(first);
     work[first.len()..2 * first.len()].fill(0);
 }
 
 // ------------------------------------------------------------- Operations
 
-fn valued(result: Result<(u32, i64), Answer>) -> Valued {
+fn valued(result: Result<(u64, i64), Answer>) -> Valued {
     let (told, (value, margin)) = match result {
         Ok(figures) => (SUCCESS, figures),
         Err(refusal) => (refusal, (0, 0)),
@@ -384,7 +383,7 @@ fn read_valuing(
     record: &[u8],
     list: &[u8],
     behaviour: u64,
-    work: &[u32],
+    work: &[u64],
     table: &[u16],
 ) -> Result<(Contract, Vec<Return>, Behaviour), Answer> {
     let (c, returns) = read_both(record, list)?;
@@ -399,15 +398,15 @@ fn fill_table(
     c: &Contract,
     returns: &[Return],
     behaviour: Behaviour,
-    work: &mut [u32],
+    work: &mut [u64],
     table: &mut [u16],
-) -> (u32, i64) {
+) -> (u64, i64) {
     let mut next = maturity_layer(c);
     for date in (1..c.dates).rev() {
         let mut values = Vec::with_capacity(next.len());
         for (w, a) in states(c) {
             let (worth, amount) = best(c, returns, &next, date, w, a, behaviour);
-            values.push(worth as u32);
+            values.push(worth);
             table[layer_start(c, date) + entry(c, w, a)] = amount as u16;
         }
         next = values;
@@ -421,7 +420,7 @@ pub fn value(
     record: &[u8],
     list: &[u8],
     behaviour: u64,
-    work: &mut [u32],
+    work: &mut [u64],
     table: &mut [u16],
 ) -> Valued {
     valued(try_value(record, list, behaviour, work, table))
@@ -431,9 +430,9 @@ fn try_value(
     record: &[u8],
     list: &[u8],
     behaviour: u64,
-    work: &mut [u32],
+    work: &mut [u64],
     table: &mut [u16],
-) -> Result<(u32, i64), Answer> {
+) -> Result<(u64, i64), Answer> {
     let (c, returns, behaviour) = read_valuing(record, list, behaviour, work, table)?;
     Ok(fill_table(&c, &returns, behaviour, work, table))
 }
@@ -443,7 +442,7 @@ pub fn value_map(
     record: &[u8],
     list: &[u8],
     behaviour: u64,
-    work: &mut [u32],
+    work: &mut [u64],
     table: &mut [u16],
     map: &mut [u64],
 ) -> Mapped {
@@ -460,10 +459,10 @@ fn try_value_map(
     record: &[u8],
     list: &[u8],
     behaviour: u64,
-    work: &mut [u32],
+    work: &mut [u64],
     table: &mut [u16],
     map: &mut [u64],
-) -> Result<((u32, i64), u64), Answer> {
+) -> Result<((u64, i64), u64), Answer> {
     let (c, returns, behaviour) = read_valuing(record, list, behaviour, work, table)?;
     refuse_if(map.len() < map_size(&c), 16, 0)?;
     let figures = fill_table(&c, &returns, behaviour, work, table);
@@ -489,16 +488,16 @@ fn fill_map(c: &Contract, table: &[u16], map: &mut [u64]) -> u64 {
 }
 
 /// "valuing a supplied withdrawal table": refusals 1 to 6, 15, 7 to 9, 11 and 14.
-pub fn value_table(record: &[u8], list: &[u8], work: &mut [u32], table: &[u16]) -> Valued {
+pub fn value_table(record: &[u8], list: &[u8], work: &mut [u64], table: &[u16]) -> Valued {
     valued(try_value_table(record, list, work, table))
 }
 
 fn try_value_table(
     record: &[u8],
     list: &[u8],
-    work: &mut [u32],
+    work: &mut [u64],
     table: &[u16],
-) -> Result<(u32, i64), Answer> {
+) -> Result<(u64, i64), Answer> {
     let (c, returns) = read_both(record, list)?;
     let short = work.len() < work_size(&c) || table.len() < table_size(&c);
     refuse_if(short, 11, 0)?;
@@ -509,7 +508,7 @@ fn try_value_table(
         let mut values = Vec::with_capacity(next.len());
         for (w, a) in states(&c) {
             let amount = u64::from(table[layer_start(&c, date) + entry(&c, w, a)]);
-            values.push(worth(&c, &returns, &next, date, w, a, amount) as u32);
+            values.push(worth(&c, &returns, &next, date, w, a, amount));
         }
         next = values;
     }
@@ -576,7 +575,7 @@ pub fn walk(
     list: &[u8],
     table: &[u16],
     numbers: &[u16],
-    cash: &mut [u32],
+    cash: &mut [u64],
 ) -> Answer {
     answer(try_walk(record, list, table, numbers, cash))
 }
@@ -586,7 +585,7 @@ fn try_walk(
     list: &[u8],
     table: &[u16],
     numbers: &[u16],
-    cash: &mut [u32],
+    cash: &mut [u64],
 ) -> Result<(), Answer> {
     let (c, returns) = read_both(record, list)?;
     let dates = c.dates as usize;
@@ -600,13 +599,13 @@ fn try_walk(
     for date in 1..c.dates {
         let amount = u64::from(table[layer_start(&c, date) + entry(&c, account, guarantee)]);
         refuse_if(amount > largest_amount(&c, account, guarantee), 14, date)?;
-        paid.push(cash_for(&c, date, guarantee, amount) as u32);
+        paid.push(cash_for(&c, date, guarantee, amount));
         guarantee = guarantee_after(&c, account, guarantee, amount);
         let balance = balance_after(account, amount);
         let number = usize::from(numbers[date as usize]);
         account = next_account(&c, balance, returns[number].factor);
     }
-    paid.push(maturity_value(account, guarantee) as u32);
+    paid.push(maturity_value(account, guarantee));
     cash[..dates].copy_from_slice(&paid);
     Ok(())
 }
@@ -634,10 +633,10 @@ pub fn program(record: &[u8], list: &[u8]) -> String {
 
 /// "The first three lines give each behaviour's name and the contract's value. Each
 /// later line: return number, account and guarantee at date 1, recorded static, mixed
-/// and dynamic amounts; none for N = 1." "The program lends a working slice of 8,192
-/// numbers and a table of 16,384."
+/// and dynamic amounts; none for N = 1." The program lends "a table of 16,384" and
+/// "4,096 working numbers, refusing by 11 what needs more".
 fn try_program(record: &[u8], list: &[u8]) -> Result<String, Answer> {
-    let mut work = vec![0; 8_192];
+    let mut work = vec![0; 4_096];
     let mut tables = [vec![0; 16_384], vec![0; 16_384], vec![0; 16_384]];
     let mut lines = String::new();
     for (behaviour, name) in ["static", "mixed", "dynamic"].into_iter().enumerate() {

@@ -14,13 +14,12 @@
 //!
 //! RECORD, LIST: bytes as lowercase hex, `-` for none.
 //! BEHAVIOUR, DATE, ACCOUNT, GUARANTEE, AMOUNT: decimal, up to 64 bits.
-//! MAP (64-bit entries), WORK, CASH (32-bit), TABLE, NUMBERS (16-bit), BUFFER (8-bit): a
-//! slice, as
+//! WORK, MAP, CASH (64-bit entries), TABLE, NUMBERS (16-bit), BUFFER (8-bit): a slice, as
 //! - `-`: no entries;
 //! - `5,0,12`: these entries, decimal;
 //! - `LEN:SEED`: LEN entries, entry i being (SEED + 7919 × i) mod M, where M is 251 for
-//!   8-bit, 65521 for 16-bit, 4294967291 for 32-bit and 18446744073709551557 for 64-bit
-//!   entries. LEN is at most 2^30; a SEED of M or more counts as SEED mod M;
+//!   8-bit, 65521 for 16-bit and 18446744073709551557 for 64-bit entries. LEN is at most
+//!   2^30; a SEED of M or more counts as SEED mod M;
 //! - `LEN:SEED:LIMIT`: the same, each entry then taken mod LIMIT (LIMIT 1: all zeros).
 //!
 //! A TABLE may also be
@@ -60,12 +59,13 @@ use std::io::{self, BufRead, Write};
 
 const LARGEST_SLICE: u64 = 1 << 30;
 
-/// Primes: the digest stays below 2^64 without 128-bit products, and a filled slice
-/// uses nearly the full width of its entries.
+/// Primes: a filled slice uses nearly the full width of its entries.
 pub const MOD_8: u64 = 251;
 pub const MOD_16: u64 = 65_521;
-pub const MOD_32: u64 = 4_294_967_291;
 pub const MOD_64: u64 = 18_446_744_073_709_551_557;
+
+/// A prime: the digest stays below 2^64 without 128-bit products.
+const MOD_DIGEST: u64 = 4_294_967_291;
 
 /// Entry i of a slice filled from a seed. The sum may pass 64 bits.
 pub fn fill(seed: u64, i: u64, modulus: u64) -> u64 {
@@ -74,9 +74,9 @@ pub fn fill(seed: u64, i: u64, modulus: u64) -> u64 {
 }
 
 pub fn digest<T: Copy + Into<u64>>(entries: &[T]) -> u64 {
-    entries
-        .iter()
-        .fold(7, |h, x| (h * 31 + (*x).into() % MOD_32 + 1) % MOD_32)
+    entries.iter().fold(7, |h, x| {
+        (h * 31 + (*x).into() % MOD_DIGEST + 1) % MOD_DIGEST
+    })
 }
 
 fn bytes_in(text: &str) -> Result<Vec<u8>, String> {
@@ -161,7 +161,7 @@ pub struct Valuing {
     pub record: Vec<u8>,
     pub list: Vec<u8>,
     pub behaviour: u64,
-    pub work: Vec<u32>,
+    pub work: Vec<u64>,
     pub table: Vec<u16>,
 }
 
@@ -176,7 +176,7 @@ pub enum Operation {
     ValueTable {
         record: Vec<u8>,
         list: Vec<u8>,
-        work: Vec<u32>,
+        work: Vec<u64>,
         table: Vec<u16>,
     },
     Book {
@@ -192,7 +192,7 @@ pub enum Operation {
         list: Vec<u8>,
         table: Vec<u16>,
         numbers: Vec<u16>,
-        cash: Vec<u32>,
+        cash: Vec<u64>,
     },
 }
 
@@ -202,7 +202,7 @@ fn valuing_in(fields: [&str; 5], last: &[u16]) -> Result<Valuing, String> {
         record: bytes_in(record)?,
         list: bytes_in(list)?,
         behaviour: number(behaviour)?,
-        work: slice_in(work, MOD_32)?,
+        work: slice_in(work, MOD_64)?,
         table: table_in(table, last)?,
     })
 }
@@ -224,7 +224,7 @@ fn operation(line: &str, last: &[u16]) -> Result<Operation, String> {
         ["value_table", record, list, work, table] => Operation::ValueTable {
             record: bytes_in(record)?,
             list: bytes_in(list)?,
-            work: slice_in(work, MOD_32)?,
+            work: slice_in(work, MOD_64)?,
             table: table_in(table, last)?,
         },
         ["book", record, date, account, guarantee, amount, buffer] => Operation::Book {
@@ -240,7 +240,7 @@ fn operation(line: &str, last: &[u16]) -> Result<Operation, String> {
             list: bytes_in(list)?,
             table: table_in(table, last)?,
             numbers: slice_in(numbers, MOD_16)?,
-            cash: slice_in(cash, MOD_32)?,
+            cash: slice_in(cash, MOD_64)?,
         },
         _ => return Err("no such operation, or a wrong count of fields".to_string()),
     })
@@ -254,7 +254,7 @@ fn told_figures(v: gmwb::Valued) -> String {
     format!("{} {} {} {}", v.number, v.place, v.value, v.margin)
 }
 
-fn told_value(v: gmwb::Valued, work: &[u32], table: &[u16], full: bool) -> String {
+fn told_value(v: gmwb::Valued, work: &[u64], table: &[u16], full: bool) -> String {
     let mut line = told_figures(v);
     line += &format!(" {} {}", digest(work), digest(table));
     if full {
@@ -263,7 +263,7 @@ fn told_value(v: gmwb::Valued, work: &[u32], table: &[u16], full: bool) -> Strin
     line
 }
 
-fn told_map(m: gmwb::Mapped, work: &[u32], table: &[u16], map: &[u64], full: bool) -> String {
+fn told_map(m: gmwb::Mapped, work: &[u64], table: &[u16], map: &[u64], full: bool) -> String {
     let mut line = format!("{} {}", told_figures(m.valued), m.count);
     line += &format!(" {} {} {}", digest(work), digest(table), digest(map));
     if full {
@@ -280,7 +280,7 @@ fn told_booking(a: gmwb::Answer, buffer: &[u8], full: bool) -> String {
     line
 }
 
-fn told_walk(a: gmwb::Answer, table: &[u16], cash: &[u32], full: bool) -> String {
+fn told_walk(a: gmwb::Answer, table: &[u16], cash: &[u64], full: bool) -> String {
     let mut line = format!("{} {} {}", told(a), digest(table), digest(cash));
     if full {
         line += &format!(" {} {}", listed(table), listed(cash));

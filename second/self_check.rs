@@ -1,11 +1,12 @@
 //! `second self-check`: the figures of document 01's section "Contracts worked by
 //! hand", rates that fall by document 02's request (i), maps of surrender by its request
 //! (ii), every refusal on both sides of its boundary, the order of the checks, what is
-//! left in the lent slices, and properties on random small contracts.
+//! left in the lent slices, whose entries are 64-bit by request (iii), and properties on
+//! random small contracts.
 //!
 //! The operations are only called from outside here, as an engine's caller would.
 
-use crate::script::{answer, digest, fill, MOD_16, MOD_32, MOD_64, MOD_8};
+use crate::script::{answer, digest, fill, MOD_16, MOD_64, MOD_8};
 use crate::terms::{list, Terms, P, P_RETURNS, Q};
 use crate::{gmwb, text};
 use std::fmt::Debug;
@@ -131,14 +132,15 @@ fn filled_16(length: usize) -> Vec<u16> {
         .collect()
 }
 
-fn filled_32(length: usize) -> Vec<u32> {
-    (0..length)
-        .map(|i| fill(9, i as u64, MOD_32) as u32)
+/// A working slice or cash, every entry above 2^32.
+fn filled_64(length: usize) -> Vec<u64> {
+    (0..length as u64)
+        .map(|i| fill((1 << 40) + 9, i, MOD_64))
         .collect()
 }
 
 /// Nearly all bits set.
-fn filled_64(length: usize) -> Vec<u64> {
+fn filled_map(length: usize) -> Vec<u64> {
     (0..length as u64)
         .map(|i| fill(MOD_64 - 10_000_000, i, MOD_64))
         .collect()
@@ -149,15 +151,15 @@ fn valued(
     terms: &Terms,
     returns: &[(u16, u16)],
     behaviour: u64,
-) -> (gmwb::Valued, Vec<u32>, Vec<u16>) {
-    let mut work = filled_32(2 * terms.layer());
+) -> (gmwb::Valued, Vec<u64>, Vec<u16>) {
+    let mut work = filled_64(2 * terms.layer());
     let mut table = filled_16((usize::from(terms.dates) - 1) * terms.layer());
     let (record, list) = (terms.record(), list(returns));
     let answer = gmwb::value(&record, &list, behaviour, &mut work, &mut table);
     (answer, work, table)
 }
 
-fn value_of(terms: &Terms, behaviour: u64) -> (u64, u32, i64) {
+fn value_of(terms: &Terms, behaviour: u64) -> (u64, u64, i64) {
     let answer = valued(terms, &P_RETURNS, behaviour).0;
     (answer.number, answer.value, answer.margin)
 }
@@ -246,7 +248,7 @@ fn stepped_values(t: &mut Tally) {
         let terms = Terms { step, ..P4 };
         for (behaviour, value) in values.into_iter().enumerate() {
             let name = format!("P, N 4, step {step}, behaviour {behaviour}");
-            let margin = i64::from(value) - 100_000;
+            let margin = value as i64 - 100_000;
             let got = value_of(&terms, behaviour as u64);
             t.same(&name, got, (0, value, margin));
         }
@@ -338,9 +340,9 @@ fn mapped(
     behaviour: u64,
     words: usize,
 ) -> (gmwb::Mapped, Run, Vec<u64>) {
-    let mut work = filled_32(2 * terms.layer());
+    let mut work = filled_64(2 * terms.layer());
     let mut table = filled_16((usize::from(terms.dates) - 1) * terms.layer());
-    let mut map = filled_64(words);
+    let mut map = filled_map(words);
     let (record, list) = (terms.record(), list(returns));
     let answer = gmwb::value_map(&record, &list, behaviour, &mut work, &mut table, &mut map);
     (answer, (answer.valued, work, table), map)
@@ -369,7 +371,7 @@ fn map_figures(t: &mut Tally) {
     t.same("W equal to m", map[at_m / 64] >> (at_m % 64) & 1, 0);
     let single = Terms { dates: 1, ..P };
     let (answer, _, map) = mapped(&single, &P_RETURNS, 2, 3);
-    t.same("map of N 1", (answer.count, map), (0, filled_64(3)));
+    t.same("map of N 1", (answer.count, map), (0, filled_map(3)));
 }
 
 /// Top, U, N and the words of the table: it ends inside a word, at its end and one after.
@@ -416,7 +418,7 @@ fn map_of_length(t: &mut Tally, terms: &Terms, words: usize, lent: usize) {
     t.same(&name, told, (number, 0, ones));
     let set: u32 = map[..needed].iter().map(|word| word.count_ones()).sum();
     t.same(&format!("{name}: bits"), u64::from(set), ones);
-    let before = &filled_64(lent)[needed..];
+    let before = &filled_map(lent)[needed..];
     t.same(&format!("{name}: untouched"), &map[needed..], before);
 }
 
@@ -458,13 +460,17 @@ fn printed(t: &mut Tally) {
     }
 }
 
-/// Two layers of 4,096 fit in 8,192 numbers, four in a table of 16,384.
+/// Two layers of 2,048 fit in 4,096 numbers, eight in a table of 16,384. Two layers of 2,049
+/// do not, nor two of 4,096.
 fn printed_within_slices(t: &mut Tally) {
     for (premium, top, dates, fits) in [
-        (1, 2_047, 1, true),
-        (1, 2_048, 1, false),
-        (1, 2_047, 5, true),
-        (1, 2_047, 6, false),
+        (31, 63, 1, true),
+        (1, 1_023, 1, true),
+        (2, 682, 1, false),
+        (1, 1_024, 1, false),
+        (1, 2_047, 1, false),
+        (1, 1_023, 9, true),
+        (1, 1_023, 10, false),
     ] {
         let terms = Terms {
             premium,
@@ -545,16 +551,16 @@ fn called(c: &Call) -> (Five, [bool; 5]) {
     let mut got = [(checked.number, checked.place); 5];
     let mut kept = [true; 5];
 
-    let (mut work, mut table) = (filled_32(c.work), filled_16(c.table.len()));
+    let (mut work, mut table) = (filled_64(c.work), filled_16(c.table.len()));
     let v = gmwb::value(&c.record, &c.list, c.behaviour, &mut work, &mut table);
     got[1] = (v.number, v.place);
-    kept[1] = work == filled_32(c.work) && table == filled_16(c.table.len());
+    kept[1] = work == filled_64(c.work) && table == filled_16(c.table.len());
     kept[1] &= v.value == 0 && v.margin == 0;
 
-    let mut work = filled_32(c.work);
+    let mut work = filled_64(c.work);
     let v = gmwb::value_table(&c.record, &c.list, &mut work, &c.table);
     got[2] = (v.number, v.place);
-    kept[2] = work == filled_32(c.work) && v.value == 0 && v.margin == 0;
+    kept[2] = work == filled_64(c.work) && v.value == 0 && v.margin == 0;
 
     let mut buffer = filled_8(c.buffer);
     let (w, a) = (c.account, c.guarantee);
@@ -562,24 +568,24 @@ fn called(c: &Call) -> (Five, [bool; 5]) {
     got[3] = (b.number, b.place);
     kept[3] = buffer == filled_8(c.buffer);
 
-    let mut cash = filled_32(c.cash);
+    let mut cash = filled_64(c.cash);
     let b = gmwb::walk(&c.record, &c.list, &c.table, &c.numbers, &mut cash);
     got[4] = (b.number, b.place);
-    kept[4] = cash == filled_32(c.cash);
+    kept[4] = cash == filled_64(c.cash);
     (got, kept)
 }
 
 /// Valuing with a map of some words, beside value's input: number and place, and whether
 /// its figures are 0 and its slices as before.
 fn called_with_map(c: &Call, words: usize) -> ((u64, u64), bool) {
-    let (mut work, mut table) = (filled_32(c.work), filled_16(c.table.len()));
-    let mut map = filled_64(words);
+    let (mut work, mut table) = (filled_64(c.work), filled_16(c.table.len()));
+    let mut map = filled_map(words);
     let (record, list) = (&c.record, &c.list);
     let m = gmwb::value_map(record, list, c.behaviour, &mut work, &mut table, &mut map);
-    let kept = work == filled_32(c.work) && table == filled_16(c.table.len());
+    let kept = work == filled_64(c.work) && table == filled_16(c.table.len());
     let zeros = m.valued.value == 0 && m.valued.margin == 0 && m.count == 0;
     let told = (m.valued.number, m.valued.place);
-    (told, kept && zeros && map == filled_64(words))
+    (told, kept && zeros && map == filled_map(words))
 }
 
 impl Tally {
@@ -931,30 +937,32 @@ fn order_of_later_checks(t: &mut Tally) {
 /// Slices longer than needed: the parts named by the document, and the rest as before.
 fn left_in_slices(t: &mut Tally) {
     let (record, returns, layer) = (P.record(), list(&P_RETURNS), P.layer());
-    let (mut work, mut table) = (filled_32(2 * layer + 9), filled_16(layer + 9));
+    let (mut work, mut table) = (filled_64(2 * layer + 9), filled_16(layer + 9));
     gmwb::value(&record, &returns, 2, &mut work, &mut table);
     let second_zero = work[layer..2 * layer].iter().all(|x| *x == 0);
     t.same("second layer zeros", second_zero, true);
-    let rest = filled_32(2 * layer + 9)[2 * layer..].to_vec();
-    t.same("work beyond", work[2 * layer..].to_vec(), rest.clone());
+    let rest = filled_64(2 * layer + 9)[2 * layer..].to_vec();
+    let wide = rest.iter().all(|x| *x > 1 << 32);
+    t.same("work beyond above 2^32", wide, true);
+    t.same("work beyond", work[2 * layer..].to_vec(), rest);
     let beyond = filled_16(layer + 9)[layer..].to_vec();
     t.same("table beyond", table[layer..].to_vec(), beyond);
 
-    let mut again = filled_32(2 * layer + 9);
+    let mut again = filled_64(2 * layer + 9);
     gmwb::value_table(&record, &returns, &mut again, &table);
     t.same("work after a supplied table", again, work);
 
-    let mut cash = filled_32(4);
+    let mut cash = filled_64(4);
     let answer = gmwb::walk(&record, &returns, &table, &[1, 0], &mut cash);
     t.same("walk", (answer.number, answer.place), (0, 0));
     // At (15, 10) the table draws 1; balance 14 falls to 7 beside guarantee 9.
     t.same("cash of the walk", &cash[..2], &[10_000, 90_000][..]);
-    t.same("cash beyond", &cash[2..], &filled_32(4)[2..]);
+    t.same("cash beyond", &cash[2..], &filled_64(4)[2..]);
 
     let short = Terms { dates: 1, ..P };
     let (_, work, _) = valued(&short, &P_RETURNS, 0);
     for (w, a) in short.states() {
-        let expected = (10_000 * w.max(a)) as u32;
+        let expected = 10_000 * w.max(a);
         t.same("N 1: maturity values", work[short.entry(w, a)], expected);
     }
 }
@@ -1007,9 +1015,10 @@ fn script_lines(t: &mut Tally) {
     let p = "0a000500140002000000e80340420f0000000000";
     let least = "01000100010001000000000040420f0000000000";
     let valued = "0 0 10000 0 3700988814 7 0,10000,10000,10000,0,0,0,0 -";
+    let longer = "0 0 10000 0 3061567026 7 0,10000,10000,10000,0,0,0,0,4295030648 -";
     let with_map = "0 0 10000 0 0 3700988814 7 13592 0,10000,10000,10000,0,0,0,0 - \
                     18446744073709551556,7918";
-    t.same("digest of nothing", digest::<u32>(&[]), 7);
+    t.same("digest of nothing", digest::<u64>(&[]), 7);
     t.same("digest of 0, 5", digest(&[0u16, 5]), (7 * 31 + 1) * 31 + 6);
     // 2^32 is 5 more than the modulus, so 2^64 leaves 25.
     t.same("digest of 2^64 - 1", digest(&[u64::MAX]), 7 * 31 + 24 + 1);
@@ -1023,10 +1032,16 @@ fn script_lines(t: &mut Tally) {
             with_map,
         ),
         ("value_table T 10271027 8:5 -", valued),
+        ("value T 10271027 0 9:4294967296 -", longer),
+        ("value_table T 10271027 9:4294967296 -", longer),
         ("book P 1 15 10 6 3:250", "11 0 454051 fa8918"),
         ("book P 1 15 10 6 2:9:1", "11 0 6759 0000"),
         ("book P 1 15 10 6 -", "11 0 7 -"),
         ("walk T 10271027 - 0 2:9", "0 0 7 324687 - 10000,7928"),
+        (
+            "walk T 10271027 - 0 2:4294967305",
+            "0 0 7 324692 - 10000,4294975224",
+        ),
     ] {
         let line = line.replace('P', p).replace('T', least);
         t.same(&line, answer(&line, true), Ok(expected.into()));
@@ -1102,14 +1117,14 @@ fn open(terms: &Terms, behaviour: usize, w: u64, a: u64) -> Vec<u64> {
 }
 
 /// The answer of a valuation, and what it leaves in the working slice and the table.
-type Run = (gmwb::Valued, Vec<u32>, Vec<u16>);
+type Run = (gmwb::Valued, Vec<u64>, Vec<u16>);
 
 /// A contract from each of its dates on, the last first, so that the values of date 1 run
 /// through those of every date. The amounts are those in the whole contract's table.
 fn random_contract(t: &mut Tally, draw: &mut Draw, k: u64) {
     let (terms, returns) = (draw.terms(), draw.returns());
     let whole = [0, 1, 2].map(|b| valued(&terms, &returns, b));
-    let mut next: Vec<Vec<u32>> = Vec::new();
+    let mut next: Vec<Vec<u64>> = Vec::new();
     for date in (1..=u64::from(terms.dates)).rev() {
         let name = format!("random contract {k}: {terms:?} {returns:?}, date {date}");
         let later = terms.from_date(date);
@@ -1136,7 +1151,7 @@ fn supplied_back(
     runs: &[Run; 3],
 ) {
     for (answer, work, table) in runs {
-        let mut again = filled_32(work.len());
+        let mut again = filled_64(work.len());
         let (record, list) = (terms.record(), list(returns));
         let supplied = gmwb::value_table(&record, &list, &mut again, table);
         t.same(&format!("{name}: supplied table"), supplied, *answer);
@@ -1211,8 +1226,8 @@ fn one_step(
     terms: &Terms,
     returns: &[(u16, u16)],
     (date, behaviour): (u64, usize),
-    next: &[u32],
-    left: (&[u32], &[u16]),
+    next: &[u64],
+    left: (&[u64], &[u16]),
 ) {
     for (w, a) in terms.states() {
         let mut best = (0, 0);
@@ -1269,7 +1284,7 @@ fn follow(
     terms: &Terms,
     table: &[u16],
     factors: &[u16],
-    cash: &[u32],
+    cash: &[u64],
     within_m: bool,
 ) {
     let premium = u64::from(terms.premium);
@@ -1288,7 +1303,7 @@ fn follow(
             drawn += amount;
             figures[0]
         };
-        t.same(&format!("{name}: cash"), u64::from(cash[i]), paid);
+        t.same(&format!("{name}: cash"), cash[i], paid);
         if within_m {
             t.same(&format!("{name}: conservation"), drawn + guarantee, premium);
         }

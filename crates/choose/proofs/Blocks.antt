@@ -1,5 +1,5 @@
 -- A block of states, amount after amount. Assumes nothing.
-use mathlib.Core.Bool.{cond}
+use mathlib.Core.Bool.{Bool, true, false, cond}
 use mathlib.Core.List.{List}
 use mathlib.Core.Logic.{_⊎_, inl, inr}
 use mathlib.Core.Path.{_≡_, refl, ap, ap₂, sym, _∙_, subst, subst₂, subst₃}
@@ -22,7 +22,7 @@ unfolding stored
 offered-none values amounts low value amount = record { values-are = refl; amounts-are = refl }
 
 module _ {values amounts values' amounts' : List ℕ} {low i : ℕ} {value amount : ℕ → ℕ} (x : Offered values amounts values' amounts' low i value amount) where
-  held : getD values' (low + i) 0 ≡ getD values (low + i) 0
+  pub held : getD values' (low + i) 0 ≡ getD values (low + i) 0
   held = ap (λ (xs : List ℕ). getD xs (low + i) 0) (x .values-are) ∙ stored-out values low _ i (low + i) (inr (le-refl _))
 
   kept : getD amounts' (low + i) 0 ≡ getD amounts (low + i) 0
@@ -49,6 +49,14 @@ module _ {values amounts values' amounts' : List ℕ} {low i : ℕ} {value amoun
       subst₂ (λ (v a : List ℕ). Offered values amounts v a low (i + 1) value amount) (set-getD values' (low + i) 0) (set-getD amounts' (low + i) 0)
       (offered-next (getD values' (low + i) 0) (getD amounts' (low + i) 0) (rw (le-ltb _ _ h) refl) (rw (le-ltb _ _ h) refl))
 
+-- the larger of two numbers
+pub picked-below : (x y : ℕ) {u most : ℕ} → u ≡ cond (ltb x y) y x → x < most → y < most → u < most
+picked-below x y {u} {most} e h l = subst (λ (z : ℕ). z < most) (sym e) (go (ltb x y))
+  where
+    go : (b : Bool) → cond b y x < most
+    go true = l
+    go false = h
+
 -- ---- the best so far
 pub leading-at : {f : ℕ → ℕ} {lo hi t v : ℕ} → lo ≡ t → hi ≡ t → f t ≡ v → Leading f lo hi t v
 leading-at {f} {lo} {hi} {t} {v} p q r = subst₃ (λ (x y z : ℕ). Leading f x y t z) (sym p) (sym q) r (leading-one f t)
@@ -67,6 +75,10 @@ leads-start {f} values values' amounts amounts' n value lv la fits ev ea same = 
 }
 
 module _ {f : ℕ → ℕ → ℕ} {values amounts : List ℕ} {n : ℕ} {upto : ℕ → ℕ} (x : Leads f values amounts n upto) where
+  -- a value is what some amount tried is worth
+  pub leads-below : {most : ℕ} → ((j t : ℕ) → j < n → t ≤ upto j → f j t < most) → (j : ℕ) → j < n → getD values j 0 < most
+  leads-below {most} h j l = subst (λ (z : ℕ). z < most) (x .each j l .worth) (h j _ l (x .each j l .to))
+
   -- the same amounts by another name
   pub leads-as : (next : ℕ → ℕ) → ((j : ℕ) → j < n → upto j ≡ next j) → Leads f values amounts n next
   leads-as next same = record {

@@ -1,17 +1,19 @@
 -- What a block of states reads, and what it is worth. Assumes nothing.
+use mathlib.Core.Bool.{Bool, true, false, cond}
 use mathlib.Core.List.{List}
 use mathlib.Core.Path.{_≡_, refl, ap, sym, _∙_, subst}
-use Prim.Native.Nat.{ℕ, _+_, _-_, _*_, _/_, _≤_, _<_}
-use native.Mathlib.Nat.{le-trans, le-of-lt, sub-le, zero-add, min-eq-left}
+use Prim.Native.Nat.{ℕ, _+_, _-_, _*_, _/_, _^_, _≤_, _<_, max}
+use native.Mathlib.Nat.{le-trans, le-of-lt, zero-add, min-eq-left}
 use native.Mathlib.Omega.{arith}
+use lib.Dec.{ltb}
 use lib.ListN.{length, getD}
 use Rattle.decision.specs.Choice.{Leading, leading-as, leading-eq}
 use Rattle.slices.specs.Rows.{cells, rows-le, rows-step}
-use Rattle.rules.specs.Date.{freeAmount, cash, balanceAfter, guaranteeAfter}
-use Rattle.laws.specs.Date.{guarantee-le}
-use Rattle.laws.specs.Bounds.{cash-le}
-use Rattle.worth.specs.Worth.{worthOver}
-use Rattle.choose.specs.State.{freeAt, worthAt, Span, Block, Leads, Furthered}
+use Rattle.rules.specs.Contract.{topMost, entryMost}
+use Rattle.rules.specs.Date.{freeAmount, cash}
+use Rattle.worth.specs.Worth.{worthOver, worth-le}
+use Rattle.choose.specs.State.{freeAt, worthAt, Span, Block, Leads, Furthered, triedBelow}
+use Rattle.choose.proofs.Blocks.{leads-below}
 use Rattle.worth.specs.Laws.{free-is, above-is, further-best}
 
 -- c entries of a row
@@ -28,15 +30,23 @@ leads-worth e rate level w from x = record {
 }
 
 module _ {work : List ℕ} {base stride w from n level rate : ℕ} (b : Block work base stride w from n level rate) where
-  -- what an amount is worth fits 32 bits
-  pub worth-small : (j t : ℕ) → j < n → t ≤ 4000 → worthAt (cells work base stride) rate level w from j t ≤ 4040000000
-  unfolding worthOver balanceAfter
+  -- what an amount is worth can be compared
+  pub worth-small : (j t : ℕ) → j < n → t ≤ topMost → worthAt (cells work base stride) rate level w from j t < 2 ^ 63
   worth-small j t h l =
-      let m = freeAmount level (from + j) in
-      let c = cash-le rate m t in
-      let g = le-trans (guarantee-le m w (from + j) t) (sub-le (from + j) t) in
-      let s = b .span .small (w - t) (guaranteeAfter m w (from + j) t) (sub-le w t) (omega (arith, b .span .columns)) in
+      let m = worth-le (cells work base stride) rate (freeAmount level (from + j)) w (from + j) t entryMost
+      (λ x y p q. b .span .small x y p (omega (arith, b .span .columns))) in
       omega arith
+
+  -- .. so that the values of the states can
+  pub block-held : {values amounts : List ℕ} (s : ℕ)
+      → Leads (worthAt (cells work base stride) rate level w from) values amounts n (triedBelow level w from s)
+      → (j : ℕ) → j < n → getD values j 0 < 2 ^ 63
+  unfolding freeAmount
+  block-held s x = leads-below x (λ j t h l. worth-small j t h (le-trans l (most (ltb j s) j)))
+    where
+      most : (p : Bool) (j : ℕ) → cond p (max w (freeAmount level (from + j))) (freeAmount level (from + j)) ≤ topMost
+      most true j = omega (arith, b .level-is, b .span .account)
+      most false j = omega (arith, b .level-is)
 
   -- ---- amount t above m where the account is below the guarantee
   pub level-is : (j : ℕ) → level < w → w < from + j → freeAmount level (from + j) ≡ level

@@ -1,9 +1,9 @@
 -- The amounts up to m, one and two at a time. Assumes nothing.
-use mathlib.Core.Bool.{cond}
+use mathlib.Core.Bool.{Bool, true, false, cond}
 use mathlib.Core.List.{List}
 use mathlib.Core.Logic.{_⊎_, inl, inr}
 use mathlib.Core.Path.{_≡_, refl, ap, sym, _∙_}
-use Prim.Native.Nat.{ℕ, _+_, _-_, _*_, _≤_, _<_, min}
+use Prim.Native.Nat.{ℕ, _+_, _-_, _*_, _^_, _≤_, _<_, min}
 use native.Mathlib.Nat.{sub-le, zero-add}
 use native.Mathlib.Omega.{arith}
 use lib.Dec.{ltb}
@@ -13,7 +13,7 @@ use Rattle.decision.specs.Choice.{Leading, leading-join}
 use Rattle.slices.specs.Rows.{cells}
 use Rattle.choose.specs.State.{freeAt, Span, Leads, triedFree, triedUpto}
 use Rattle.slices.specs.Offered.{Offered}
-use Rattle.choose.proofs.Blocks.{leading-at, leads-offered}
+use Rattle.choose.proofs.Blocks.{leading-at, leads-below, leads-offered}
 use Rattle.choose.proofs.Entries.{block-room}
 
 -- a guarantee that both amounts leave room for
@@ -29,8 +29,15 @@ pair-out t a h = omega arith
 none-behind : (s n j : ℕ) → s + (n - s) ≤ j → j < n → ⊥
 none-behind s n j h l = omega arith
 
-pub pair-cash : (t v : ℕ) → 10000 * (t + 2) + v < 4294967296 → 10000 * (t + 1) + 10000 + v < 4294967296
+pub pair-cash : (t v : ℕ) → 10000 * (t + 2) + v < 2 ^ 63 → 10000 * (t + 1) + 10000 + v < 2 ^ 63
 pair-cash t v h = omega arith
+
+pub upto-free : (from t s j : ℕ) → triedUpto from t s j ≤ from + j
+upto-free from t s j = go (ltb j s)
+  where
+    go : (b : Bool) → cond b (min (t + 1) (from + j)) (min t (from + j)) ≤ from + j
+    go true = omega arith
+    go false = omega arith
 
 -- the entry of amount t
 free-entry : (work : List ℕ) (base stride w from t low i at : ℕ) → at ≡ base + ((w - t) * stride + (from + low - t)) → t ≤ from + low
@@ -40,16 +47,24 @@ free-entry work base stride w from t low i at p k =
     ap (λ (z : ℕ). 10000 * t + getD work z 0) q
 
 module _ {work : List ℕ} {base stride w from n : ℕ} (b : Span work base stride w from n) where
-  -- the entries of amount t stand in a row, and fit 32 bits with its cash
+  -- the entries of amount t stand in a row, and can be compared with its cash
   pub free-room : (t low count at : ℕ) → at ≡ base + ((w - t) * stride + (from + low - t)) → low + count ≤ n → at + count ≤ length work
   free-room t low count at p fits = let r = block-room b (w - t) (from + low - t) count (sub-le w t) (omega (arith, b .columns)) in omega arith
 
   pub free-small : (t low count at : ℕ) → at ≡ base + ((w - t) * stride + (from + low - t)) → t ≤ 4000 → low + count ≤ n → (0 < count → t ≤ from + low)
-      → (i : ℕ) → i < count → 10000 * t + getD work (at + i) 0 < 4294967296
+      → (i : ℕ) → i < count → 10000 * t + getD work (at + i) 0 < 2 ^ 63
   free-small t low count at p h fits k i l =
       let e = free-entry work base stride w from t low i at p (k (omega arith)) in
       let s = b .small (w - t) (from + (low + i) - t) (sub-le w t) (omega (arith, b .columns)) in
       omega arith
+
+  -- .. and so can what the states hold, where no amount passes the guarantee
+  pub free-held : {values amounts : List ℕ} {upto : ℕ → ℕ} → Leads (freeAt (cells work base stride) w from) values amounts n upto
+      → ((j : ℕ) → upto j ≤ from + j) → (j : ℕ) → j < n → getD values j 0 < 2 ^ 63
+  free-held x most = leads-below x (λ j t h l.
+      let k = most j in
+      let s = b .small (w - t) (from + j - t) (sub-le w t) (omega (arith, b .columns)) in
+      omega (arith, b .columns, b .width))
 
   -- the states from `low` on have a guarantee of s or more
   pub reached : (s low end i : ℕ) → low ≡ min end (s - from) → i < end - low → s ≤ from + low

@@ -1,7 +1,7 @@
 -- The best of withdrawing further, for the states whose account is not below the guarantee. Assumes nothing.
 use mathlib.Core.List.{List}
 use mathlib.Core.Path.{_≡_, ap, sym, _∙_, subst₂}
-use Prim.Native.Nat.{ℕ, _+_, _-_, _*_, _≤_, _<_, min, max}
+use Prim.Native.Nat.{ℕ, _+_, _-_, _*_, _^_, _≤_, _<_, min, max}
 use native.Mathlib.Nat.{le-trans, le-of-eq, le-of-lt, max-eq-left, min-eq-right, min-eq-left}
 use native.Mathlib.Omega.{arith}
 use lib.ListN.{length, getD}
@@ -92,7 +92,7 @@ module _ {work table : List ℕ} {base stride w from n level rate : ℕ} (b : Bl
     leads : (i : ℕ) → i < count → Leading (worthAt (cells work base stride) rate level w from (low + i)) (m + 1) w (m + 1 + getD table (at + i) 0) (10000 * m + (10000 - rate) + getD work (at + i) 0)
     leads i l = further-worth b x (low + i) m (at + i) (omega arith) (free i l) above (under i l) (place i l)
 
-    pub further-small : (i : ℕ) → i < count → 10000 * m + (10000 - rate) + getD work (at + i) 0 < 4294967296
+    pub further-small : (i : ℕ) → i < count → 10000 * m + (10000 - rate) + getD work (at + i) 0 < 2 ^ 63
     further-small i l =
         let y = leads i l in
         let s = worth-small b (low + i) (m + 1 + getD table (at + i) 0) (omega arith) (omega (arith, y .to, b .span .account)) in

@@ -2,7 +2,7 @@
 use mathlib.Core.List.{List}
 use mathlib.Core.Logic.{_⊎_, inl, inr}
 use mathlib.Core.Path.{_≡_, ap, ap₂, sym, _∙_, subst}
-use Prim.Native.Nat.{ℕ, _+_, _-_, _*_, _/_, _≤_, _<_, min}
+use Prim.Native.Nat.{ℕ, _+_, _-_, _*_, _/_, _^_, _≤_, _<_, min}
 use native.Mathlib.Nat.{le-trans, le-of-eq, sub-le, mul-le-mul-right}
 use native.Mathlib.Decide.{decLe}
 use native.Mathlib.Omega.{arith}
@@ -66,7 +66,7 @@ module _ {work : List ℕ} {base stride w from n level rate : ℕ} (b : Block wo
         moved : (x y : ℕ) {u v : ℕ} → u ≡ v → x + (y + u) ≡ x + y + v
         moved x y e = omega arith
 
-    pub share-fits : (i : ℕ) → i < end - low → k + getD work (base + (w - (t + 1)) * stride + (from + low + i) * ((w - (t + 1)) * inverse) / 1099511627776) 0 < 4294967296
+    pub share-fits : (i : ℕ) → i < end - low → k + getD work (base + (w - (t + 1)) * stride + (from + low + i) * ((w - (t + 1)) * inverse) / 1099511627776) 0 < 2 ^ 63
     share-fits i l =
         let e = share-value i l in
         let s = worth-small b (low + i) (t + 1) (omega arith) (omega (arith, b .span .account)) in

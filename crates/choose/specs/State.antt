@@ -7,7 +7,7 @@ use lib.Dec.{ltb}
 use lib.ListN.{length, getD}
 use Rattle.decision.specs.Choice.{Leading}
 use Rattle.slices.specs.Rows.{cells}
-use Rattle.rules.specs.Contract.{topMost, rateMost}
+use Rattle.rules.specs.Contract.{topMost, rateMost, entryMost}
 use Rattle.rules.specs.Date.{dynamic, freeAmount}
 use Rattle.further.specs.Further.{furtherValue, furtherAmount}
 use Rattle.worth.specs.Worth.{worthOver, bestValue, bestAmount}
@@ -19,7 +19,7 @@ pub record Span (work : List ℕ) (base stride w from n : ℕ) : Type 0 where
   pub columns : from + n ≤ stride
   pub width : stride ≤ 4001
   pub rows : base + (w + 1) * stride ≤ length work
-  pub small : (x y : ℕ) → x ≤ w → y < stride → cells work base stride x y ≤ 4000000000
+  pub small : (x y : ℕ) → x ≤ w → y < stride → cells work base stride x y ≤ entryMost
 
 -- .. with the level and the penalty
 pub record Block (work : List ℕ) (base stride w from n level rate : ℕ) : Type 0 where

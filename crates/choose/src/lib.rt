@@ -3,7 +3,7 @@
 // guarantee can be widened.
 ghost use mathlib.Core.Bool.{true, cond};
 ghost use mathlib.Core.Path.{_≡_};
-ghost use Prim.Native.Nat.{ℕ, _+_, _-_, _*_, _/_, _≤_, _<_, min, max};
+ghost use Prim.Native.Nat.{ℕ, _+_, _-_, _*_, _/_, _^_, _≤_, _<_, min, max};
 ghost use lib.Dec.{ltb};
 ghost use lib.ListN.{length, getD};
 ghost use Rattle.slices.specs.Stored.{stored};
@@ -14,7 +14,7 @@ ghost use Rattle.rules.specs.Date.{freeAmount};
 ghost use Rattle.choose.specs.State.{Furthered, Span, Block, Leads, Chosen, Rising, Bounded, freeAt, worthAt, triedFree, triedUpto, triedBelow, triedRun};
 
 // Amount 0.
-fn start_block(values: &mut [u32; 64], amounts: &mut [u32; 64], work: &[u32], at: usize, n: usize)
+fn start_block(values: &mut [u64; 64], amounts: &mut [u64; 64], work: &[u64], at: usize, n: usize)
     requires { ⌜ (n ≤ 64) × (at + n ≤ length (now work)) ⌝ }
     ensures { λ _. ⌜ (now (values .exit) ≡ stored (now (values .entry)) 0 (λ (j : ℕ). getD (now (work .entry)) (at + j) 0) n) × (now (amounts .exit) ≡ stored (now (amounts .entry)) 0 (λ (j : ℕ). 0) n) ⌝ }
 {
@@ -26,16 +26,16 @@ fn start_block(values: &mut [u32; 64], amounts: &mut [u32; 64], work: &[u32], at
 
 // Amount t, to n states from state `low` on.
 fn offer(
-    values: &mut [u32; 64],
-    amounts: &mut [u32; 64],
-    work: &[u32],
+    values: &mut [u64; 64],
+    amounts: &mut [u64; 64],
+    work: &[u64],
     low: usize,
     at: usize,
     n: usize,
-    cash: u32,
-    t: u32,
+    cash: u64,
+    t: u64,
 )
-    requires { ⌜ (low + n ≤ 64) × (at + n ≤ length (now work)) × ((i : ℕ) → i < n → cash + getD (now work) (at + i) 0 < 4294967296) ⌝ }
+    requires { ⌜ (low + n ≤ 64) × (at + n ≤ length (now work)) × ((i : ℕ) → i < n → cash + getD (now work) (at + i) 0 < 2 ^ 63) × ((i : ℕ) → i < n → getD (now values) (low + i) 0 < 2 ^ 63) ⌝ }
     ensures { λ _. ⌜ Offered (now (values .entry)) (now (amounts .entry)) (now (values .exit)) (now (amounts .exit)) low n (λ (i : ℕ). cash + getD (now (work .entry)) (at + i) 0) (λ (i : ℕ). t) ⌝ }
 {
     for i in 0..n {
@@ -48,18 +48,18 @@ fn offer(
 
 // The better of amount t with its cash and amount t + 1 with more: one load and one store of a state for two amounts.
 fn offer_two(
-    values: &mut [u32; 64],
-    amounts: &mut [u32; 64],
-    work: &[u32],
+    values: &mut [u64; 64],
+    amounts: &mut [u64; 64],
+    work: &[u64],
     low: usize,
     at: usize,
     next: usize,
     n: usize,
-    cash: u32,
-    more: u32,
-    t: u32,
+    cash: u64,
+    more: u64,
+    t: u64,
 )
-    requires { ⌜ (low + n ≤ 64) × (at + n ≤ length (now work)) × (next + n ≤ length (now work)) × ((i : ℕ) → i < n → cash + getD (now work) (at + i) 0 < 4294967296) × ((i : ℕ) → i < n → more + getD (now work) (next + i) 0 < 4294967296) × (t ≤ topMost) ⌝ }
+    requires { ⌜ (low + n ≤ 64) × (at + n ≤ length (now work)) × (next + n ≤ length (now work)) × ((i : ℕ) → i < n → cash + getD (now work) (at + i) 0 < 2 ^ 63) × ((i : ℕ) → i < n → more + getD (now work) (next + i) 0 < 2 ^ 63) × (t ≤ topMost) × ((i : ℕ) → i < n → getD (now values) (low + i) 0 < 2 ^ 63) ⌝ }
     ensures { λ _. ⌜ Offered (now (values .entry)) (now (amounts .entry)) (now (values .exit)) (now (amounts .exit)) low n (λ (i : ℕ). cond (ltb (cash + getD (now (work .entry)) (at + i) 0) (more + getD (now (work .entry)) (next + i) 0)) (more + getD (now (work .entry)) (next + i) 0) (cash + getD (now (work .entry)) (at + i) 0)) (λ (i : ℕ). cond (ltb (cash + getD (now (work .entry)) (at + i) 0) (more + getD (now (work .entry)) (next + i) 0)) (t + 1) t) ⌝ }
 {
     for i in 0..n {
@@ -75,9 +75,9 @@ fn offer_two(
 
 // Amount t + 1, to the states below state `end` whose guarantee it does not pass.
 fn offer_free(
-    values: &mut [u32; 64],
-    amounts: &mut [u32; 64],
-    work: &[u32],
+    values: &mut [u64; 64],
+    amounts: &mut [u64; 64],
+    work: &[u64],
     base: usize,
     stride: usize,
     w: usize,
@@ -98,16 +98,16 @@ fn offer_free(
         low,
         at,
         end - low,
-        (10000 * (t + 1)) as u32,
-        (t + 1) as u32,
+        (10000 * (t + 1)) as u64,
+        (t + 1) as u64,
     );
 }
 
 // Amounts t + 1 and t + 2, each to the states whose guarantee it does not pass.
 fn offer_pair(
-    values: &mut [u32; 64],
-    amounts: &mut [u32; 64],
-    work: &[u32],
+    values: &mut [u64; 64],
+    amounts: &mut [u64; 64],
+    work: &[u64],
     base: usize,
     stride: usize,
     w: usize,
@@ -122,7 +122,7 @@ fn offer_pair(
     offer_free(values, amounts, work, base, stride, w, from, n, both, t);
     let one = base + (date::less(w, t + 1) * stride + date::less(from + both, t + 1));
     let two = base + (date::less(w, t + 2) * stride + date::less(from + both, t + 2));
-    let cash = (10000 * (t + 1)) as u32;
+    let cash = (10000 * (t + 1)) as u64;
     offer_two(
         values,
         amounts,
@@ -133,15 +133,15 @@ fn offer_pair(
         n - both,
         cash,
         cash + 10000,
-        (t + 1) as u32,
+        (t + 1) as u64,
     );
 }
 
 // The best of the amounts 0 to m.
 fn free_block(
-    values: &mut [u32; 64],
-    amounts: &mut [u32; 64],
-    work: &[u32],
+    values: &mut [u64; 64],
+    amounts: &mut [u64; 64],
+    work: &[u64],
     base: usize,
     stride: usize,
     w: usize,
@@ -165,23 +165,23 @@ fn free_block(
 
 // The best of withdrawing further, read off the rows below.
 fn offer_further(
-    values: &mut [u32; 64],
-    amounts: &mut [u32; 64],
-    work: &[u32],
+    values: &mut [u64; 64],
+    amounts: &mut [u64; 64],
+    work: &[u64],
     table: &[u16],
     low: usize,
     at: usize,
     n: usize,
-    cash: u32,
-    t: u32,
+    cash: u64,
+    t: u64,
 )
-    requires { ⌜ (low + n ≤ 64) × (at + n ≤ length (now work)) × (at + n ≤ length (now table)) × ((i : ℕ) → i < n → cash + getD (now work) (at + i) 0 < 4294967296) × (t ≤ 4001) ⌝ }
+    requires { ⌜ (low + n ≤ 64) × (at + n ≤ length (now work)) × (at + n ≤ length (now table)) × ((i : ℕ) → i < n → cash + getD (now work) (at + i) 0 < 2 ^ 63) × (t ≤ 4001) × ((i : ℕ) → i < n → getD (now values) (low + i) 0 < 2 ^ 63) ⌝ }
     ensures { λ _. ⌜ Offered (now (values .entry)) (now (amounts .entry)) (now (values .exit)) (now (amounts .exit)) low n (λ (i : ℕ). cash + getD (now (work .entry)) (at + i) 0) (λ (i : ℕ). t + getD (now (table .entry)) (at + i) 0) ⌝ }
 {
     for i in 0..n {
         let held = values[low + i];
         let other = cash + work[at + i];
-        let amount = t + table[at + i] as u32;
+        let amount = t + table[at + i] as u64;
         values[low + i] = date::pick(held, other, held, other);
         amounts[low + i] = date::pick(held, other, amounts[low + i], amount);
     }
@@ -189,9 +189,9 @@ fn offer_further(
 
 // Up to the level m is the guarantee itself, and none is left.
 fn further_few(
-    values: &mut [u32; 64],
-    amounts: &mut [u32; 64],
-    work: &[u32],
+    values: &mut [u64; 64],
+    amounts: &mut [u64; 64],
+    work: &[u64],
     table: &[u16],
     base: usize,
     stride: usize,
@@ -208,16 +208,16 @@ fn further_few(
     for j in 0..few {
         let a = from + j;
         let at = (w - a - 1) * stride;
-        let cash = (10000 * a + (10000 - rate)) as u32;
-        offer_further(values, amounts, work, table, j, at, 1, cash, (a + 1) as u32);
+        let cash = (10000 * a + (10000 - rate)) as u64;
+        offer_further(values, amounts, work, table, j, at, 1, cash, (a + 1) as u64);
     }
 }
 
 // The best of the amounts above m where the account is not below the guarantee: account and guarantee fall alike.
 fn further_block(
-    values: &mut [u32; 64],
-    amounts: &mut [u32; 64],
-    work: &[u32],
+    values: &mut [u64; 64],
+    amounts: &mut [u64; 64],
+    work: &[u64],
     table: &[u16],
     base: usize,
     stride: usize,
@@ -247,7 +247,7 @@ fn further_block(
     let end = date::smaller(n, date::less(w + 1, from));
     if low < end {
         let at = (w - level - 1) * stride + (from + low - (level + 1));
-        let cash = (10000 * level + (10000 - rate)) as u32;
+        let cash = (10000 * level + (10000 - rate)) as u64;
         offer_further(
             values,
             amounts,
@@ -257,20 +257,20 @@ fn further_block(
             at,
             end - low,
             cash,
-            (level + 1) as u32,
+            (level + 1) as u64,
         );
     }
 }
 
 // No more than any of n values from state `low` on.
-fn least(values: &[u32; 64], low: usize, n: usize) -> u32
+fn least(values: &[u64; 64], low: usize, n: usize) -> u64
     requires { ⌜ low + n ≤ 64 ⌝ }
     ensures { λ r. ⌜ ((i : ℕ) → i < n → r ≤ getD (now (values .entry)) (low + i) 0) ⌝ }
 {
-    let mut r: u32 = 4294967295;
+    let mut r: u64 = 18446744073709551615;
     for i in 0..n {
         let value = values[low + i];
-        r = date::pick(value, r, r, value);
+        r = date::pick_any(value, r, r, value);
     }
     r
 }
@@ -278,18 +278,18 @@ fn least(values: &[u32; 64], low: usize, n: usize) -> u32
 // Amount t where the guarantee falls in proportion: what is left of guarantee a is the high part of a × step. A branch here: the
 // loop looks up single entries, so it is not widened, and an amount seldom gains.
 fn offer_share(
-    values: &mut [u32; 64],
-    amounts: &mut [u32; 64],
-    work: &[u32],
+    values: &mut [u64; 64],
+    amounts: &mut [u64; 64],
+    work: &[u64],
     low: usize,
     n: usize,
     at: usize,
     first: usize,
     step: usize,
-    cash: u32,
-    t: u32,
+    cash: u64,
+    t: u64,
 )
-    requires { ⌜ (low + n ≤ 64) × ((first + n) * step < 18446744073709551616) × ((i : ℕ) → i < n → at + (first + i) * step / 1099511627776 < length (now work)) × ((i : ℕ) → i < n → cash + getD (now work) (at + (first + i) * step / 1099511627776) 0 < 4294967296) ⌝ }
+    requires { ⌜ (low + n ≤ 64) × ((first + n) * step < 18446744073709551616) × ((i : ℕ) → i < n → at + (first + i) * step / 1099511627776 < length (now work)) × ((i : ℕ) → i < n → cash + getD (now work) (at + (first + i) * step / 1099511627776) 0 < 2 ^ 63) ⌝ }
     ensures { λ _. ⌜ Offered (now (values .entry)) (now (amounts .entry)) (now (values .exit)) (now (amounts .exit)) low n (λ (i : ℕ). cash + getD (now (work .entry)) (at + (first + i) * step / 1099511627776) 0) (λ (i : ℕ). t) ⌝ }
 {
     let mut quotient = first * step;
@@ -306,9 +306,9 @@ fn offer_share(
 // Amount t + 1, to a run of 16 states. Where the rows rise with the guarantee and the run's last state cannot gain, no state
 // of it can: then the amount is passed over.
 fn share_amount(
-    values: &mut [u32; 64],
-    amounts: &mut [u32; 64],
-    work: &[u32],
+    values: &mut [u64; 64],
+    amounts: &mut [u64; 64],
+    work: &[u64],
     base: usize,
     stride: usize,
     w: usize,
@@ -318,7 +318,7 @@ fn share_amount(
     rate: usize,
     low: usize,
     inverse: usize,
-    bound: u32,
+    bound: u64,
     rising: bool,
     t: usize,
 )
@@ -329,7 +329,7 @@ fn share_amount(
     let x = w - (t + 1);
     let at = base + x * stride;
     let step = x * inverse;
-    let cash = date::cash(rate, level, t + 1) as u32;
+    let cash = date::cash(rate, level, t + 1) as u64;
     if rising {
         let last = (from + low + count - 1) * step / 1099511627776;
         if cash + work[at + last] <= bound {
@@ -346,16 +346,16 @@ fn share_amount(
         from + low,
         step,
         cash,
-        (t + 1) as u32,
+        (t + 1) as u64,
     );
 }
 
 // The best of the amounts above m of 16 states. A × x / w is the high part of A × x × inverse: inverse is 2^40 / w rounded
 // up, and A × x times the rounding stays below the 2^40 / w that a remainder leaves. Gives the state after them.
 fn share_run(
-    values: &mut [u32; 64],
-    amounts: &mut [u32; 64],
-    work: &[u32],
+    values: &mut [u64; 64],
+    amounts: &mut [u64; 64],
+    work: &[u64],
     base: usize,
     stride: usize,
     w: usize,
@@ -396,9 +396,9 @@ fn share_run(
 
 // The best of the amounts above m where the account is below the guarantee.
 fn share_block(
-    values: &mut [u32; 64],
-    amounts: &mut [u32; 64],
-    work: &[u32],
+    values: &mut [u64; 64],
+    amounts: &mut [u64; 64],
+    work: &[u64],
     base: usize,
     stride: usize,
     w: usize,
@@ -434,9 +434,9 @@ fn share_block(
 
 // The values and the recorded amounts of a block under the dynamic behaviour: every amount from 0 to the larger of w and m.
 pub fn dynamic_block(
-    values: &mut [u32; 64],
-    amounts: &mut [u32; 64],
-    work: &[u32],
+    values: &mut [u64; 64],
+    amounts: &mut [u64; 64],
+    work: &[u64],
     table: &[u16],
     base: usize,
     stride: usize,
@@ -480,19 +480,19 @@ pub fn dynamic_block(
 }
 
 // How often a row falls, counted so that the loop can be widened.
-fn falls(work: &[u32], at: usize, n: usize) -> u32
+fn falls(work: &[u64], at: usize, n: usize) -> u64
     requires { ⌜ (n ≤ topMost) × ((i : ℕ) → i < n → at + i + 1 < length (now work)) ⌝ }
     ensures { λ r. ⌜ (r ≤ n) × (r ≡ 0 → (i : ℕ) → i < n → getD (now (work .entry)) (at + i) 0 ≤ getD (now (work .entry)) (at + i + 1) 0) ⌝ }
 {
-    let mut r: u32 = 0;
+    let mut r: u64 = 0;
     for i in 0..n {
-        r += date::pick(work[at + i + 1], work[at + i], 0, 1);
+        r += date::pick_any(work[at + i + 1], work[at + i], 0, 1);
     }
     r
 }
 
 // Whether each of n rows rises with the guarantee. The rules do not say so, so it is tested.
-pub fn rises(work: &[u32], base: usize, stride: usize, n: usize) -> bool
+pub fn rises(work: &[u64], base: usize, stride: usize, n: usize) -> bool
     requires { ⌜ (n ≤ 4001) × (stride ≤ 4001) × (base + n * stride ≤ length (now work)) ⌝ }
     ensures { λ r. ⌜ (r ≡ true → Rising (cells (now (work .entry)) base stride) stride n) ⌝ }
 {

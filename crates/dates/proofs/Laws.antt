@@ -11,10 +11,10 @@ use borrow.Rule.Slice.PartMut.{midOf, putMid, mid-len}
 use Rattle.slices.specs.Stored.{stored, length-stored, stored-out}
 use Rattle.slices.specs.Rows.{cells, flat, layer-stored, cells-kept, rows-le, rows-before}
 use Rattle.slices.specs.Parts.{put-long, put-in, put-above}
-use Rattle.rules.specs.Contract.{Terms, rateMost, returnsOf}
+use Rattle.rules.specs.Contract.{Terms, rateMost, returnsOf, entryMost}
 use Rattle.rules.specs.Product.{recordedAmount}
-use Rattle.rules.specs.FixedTerm.{InRange, rateIn, layerSize, fixedTerm}
-use Rattle.laws.specs.Bounds.{state-value-le, value-room}
+use Rattle.rules.specs.FixedTerm.{rateIn, layerSize, fixedTerm}
+use Rattle.laws.specs.Bounds.{value-most}
 use Rattle.rules.specs.Operations.{behaviourOf, tableSize}
 use Rattle.expect.specs.Expected.{expected, expected-le, expected-same}
 use Rattle.further.specs.Further.{Room, furtherValue, furtherAmount}
@@ -22,7 +22,7 @@ use Rattle.worth.specs.Worth.{bestValue, bestAmount, value-same, amount-same}
 use Rattle.states.specs.Row.{Deciding}
 use Rattle.dates.specs.Dated.{Dating, Dated, Prepared}
 use Rattle.dates.specs.Layer.{DateLayer, entry-within, layer-within, layer-long}
-use Rattle.dates.specs.Back.{at, valuesOn, value-back, amount-back, maturity-is, Valued, Starting}
+use Rattle.dates.specs.Back.{at, valuesOn, values-most, value-back, amount-back, maturity-is, Valued, Starting}
 
 -- ---- what the dynamic behaviour reads
 module _ {work table work' table' : List ℕ} {base stride n : ℕ} (k : ℕ) (r : Room work table base stride n)
@@ -76,27 +76,27 @@ module _ {behaviour : ℕ} {c : Terms} {count rate : ℕ} {work table list : Lis
   -- the two layers, in rows
   pub fits : size + size ≤ length work
   unfolding layerSize
-  fits = d .layers .room
+  fits = d .first .layers .room
 
   pub entries : length table ≡ size
   unfolding layerSize
   entries = d .table-is
 
   pub width : stride ≤ 4001
-  width = omega (arith, d .layers .valid .premium, d .layers .valid .top)
+  width = omega (arith, d .first .layers .valid .premium, d .first .layers .valid .top)
 
   pub few : n ≤ 4001
-  few = omega (arith, d .layers .valid .top)
+  few = omega (arith, d .first .layers .valid .top)
 
   -- the second layer holds the sums
   module _ (work₁ : List ℕ) (is : work₁ ≡ stored work size (flat stride sums) size) where
     pub sums-stored : (x y : ℕ) → x < n → y < stride → cells work₁ size stride x y ≡ sums x y
     sums-stored x y i l = ap (λ (xs : List ℕ). cells xs size stride x y) is ∙ layer-stored work size stride n sums fits .cell x y i l
 
-    sums-small : (x y : ℕ) → x < n → y < stride → cells work₁ size stride x y ≤ 4000000000
+    sums-small : (x y : ℕ) → x < n → y < stride → cells work₁ size stride x y ≤ entryMost
     sums-small x y i l =
         le-trans (le-of-eq (sums-stored x y i l))
-        (expected-le c (returnsOf list) (cells work 0 stride) x y 4000000000 (d .layers .valid) (d .listing .valid) (λ w h. d .small w y h (omega arith)))
+        (expected-le c (returnsOf list) (cells work 0 stride) x y entryMost (d .first .layers .valid) (d .listing .valid) (λ w h. le-trans (d .first .small w y h (omega arith)) (value-most (d .first .layers .valid))))
 
     pub room-first : Room work₁ table size stride n
     room-first = record {
@@ -171,18 +171,14 @@ module _ {behaviour : ℕ} {c : Terms} {count : ℕ} {work₀ table₀ list work
       known = s .known;
       rate-is = small-rate;
       listing = s .listing;
-      layers = record { valid = s .layers .valid; room = omega (arith, s .layers .room, v .long) };
+      first = record {
+        layers = record { valid = s .layers .valid; room = omega (arith, s .layers .room, v .long) };
+        small = λ w a h k.
+            le-trans (le-of-eq (v .values w a h k))
+            (values-most c (returnsOf list) (behaviourOf behaviour) (s .layers .valid) (s .listing .valid) (suc i) w a h k);
+      };
       table-is = layer-long p table room;
-      small = λ w a h k. le-trans (le-of-eq (v .values w a h k)) (small w a h k);
     }
-      where
-        small : (w a : ℕ) → w ≤ c .top → a ≤ c .premium → valuesOn c (returnsOf list) (behaviourOf behaviour) (suc i) w a ≤ 4000000000
-        small w a h k =
-            let v = s .layers .valid in
-            let u = s .listing .valid in
-            let g : InRange c (at w a) = record { account = h; guarantee = k } in
-            let most = state-value-le c (returnsOf list) v u (behaviourOf behaviour) (suc i) (at w a) g in
-            le-trans most (value-room c (returnsOf list) v u (suc i))
 
     module _ (work₁ part₁ : List ℕ)
         (d : Dated (behaviourOf behaviour) c (returnsOf list) (rateIn c i) work (midOf from (to - from) table) work₁ part₁)

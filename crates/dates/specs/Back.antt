@@ -10,6 +10,8 @@ use Rattle.slices.specs.Rows.{cells}
 use Rattle.rules.specs.Contract.{Terms, Returns, returnsOf}
 use Rattle.rules.specs.Date.{Behaviour, maturityValue}
 use Rattle.rules.specs.Product.{stateValue, recordedAmount}
+use Rattle.laws.specs.Accepted.{Valid, ValidReturns}
+use Rattle.laws.specs.Bounds.{valueMost, state-value-most}
 use Rattle.rules.specs.FixedTerm.{State, freeIn, admissibleIn, limitIn, rateIn, cashIn, afterIn, reachBy, expectOver, processOf, layerSize, fixedTerm}
 use Rattle.rules.specs.Operations.{tableSize}
 use Rattle.expect.specs.Expected.{reachedSum, expected, Listing, Layers}
@@ -35,6 +37,11 @@ amount-back c rs b i w a = refl
 pub maturity-is : (c : Terms) (rs : Returns) (b : Behaviour) (w a : ℕ) → valuesOn c rs b (c .dates) w a ≡ maturityValue w a
 unfolding stateValue fixedTerm processOf
 maturity-is c rs b w a = value-last (processOf c rs) (admissibleIn c b) (at w a)
+
+-- no value is above what a contract's values can be
+pub values-most : (c : Terms) (rs : Returns) (b : Behaviour) → Valid c → ValidReturns rs
+    → (i w a : ℕ) → w ≤ c .top → a ≤ c .premium → valuesOn c rs b i w a ≤ valueMost c
+values-most c rs b v u i w a h k = state-value-most c rs v u b i (at w a) (record { account = h; guarantee = k })
 
 -- ---- what the loop over the dates holds: the dates above i are valued
 pub record Valued (b : Behaviour) (c : Terms) (rs : Returns) (work table work' table' : List ℕ) (i : ℕ) : Type 0 where

@@ -7,7 +7,7 @@ use Rattle.slices.specs.Rows.{cells}
 use Rattle.rules.specs.Contract.{Terms, Returns, rateMost}
 use Rattle.rules.specs.Date.{Behaviour}
 use Rattle.rules.specs.FixedTerm.{layerSize}
-use Rattle.expect.specs.Expected.{expected, Listing, Layers}
+use Rattle.expect.specs.Expected.{expected, Listing, Values}
 use Rattle.worth.specs.Worth.{bestValue, bestAmount}
 use Rattle.choose.specs.State.{Furthered}
 
@@ -15,9 +15,8 @@ pub record Dating (behaviour : ℕ) (c : Terms) (count rate : ℕ) (work table l
   pub known : behaviour ≤ 2
   pub rate-is : rate ≤ rateMost
   pub listing : Listing list count
-  pub layers : Layers c work
+  pub first : Values c work
   pub table-is : length table ≡ layerSize c
-  pub small : (w a : ℕ) → w ≤ c .top → a ≤ c .premium → cells work 0 (c .premium + 1) w a ≤ 4000000000
 
 pub record Dated (b : Behaviour) (c : Terms) (rs : Returns) (rate : ℕ) (work table work' table' : List ℕ) : Type 0 where
   pub long : length work' ≡ length work

@@ -16,17 +16,17 @@ ghost use Rattle.further.specs.Further.{Room};
 use contract::Contract;
 
 // The maturity values of account w.
-fn maturity_row(work: &mut [u32], stride: usize, w: usize)
+fn maturity_row(work: &mut [u64], stride: usize, w: usize)
     requires { ⌜ (w ≤ topMost) × (stride ≤ 4001) × (w * stride + stride ≤ length (now work)) ⌝ }
     ensures { λ _. ⌜ now (work .exit) ≡ stored (now (work .entry)) (w * stride) (maturityValue w) stride ⌝ }
 {
     let row = w * stride;
     for a in 0..stride {
-        work[row + a] = date::maturity_value(w, a) as u32;
+        work[row + a] = date::maturity_value(w, a) as u64;
     }
 }
 
-pub fn fill_maturity(work: &mut [u32], stride: usize, n: usize)
+pub fn fill_maturity(work: &mut [u64], stride: usize, n: usize)
     requires { ⌜ (n ≤ 4001) × (stride ≤ 4001) × (n * stride ≤ length (now work)) ⌝ }
     ensures { λ _. ⌜ now (work .exit) ≡ stored (now (work .entry)) 0 (flat stride maturityValue) (n * stride) ⌝ }
 {
@@ -35,7 +35,7 @@ pub fn fill_maturity(work: &mut [u32], stride: usize, n: usize)
     }
 }
 
-pub fn clear(work: &mut [u32], from: usize, n: usize)
+pub fn clear(work: &mut [u64], from: usize, n: usize)
     requires { ⌜ from + n ≤ length (now work) ⌝ }
     ensures { λ _. ⌜ now (work .exit) ≡ stored (now (work .entry)) from (λ (i : ℕ). 0) n ⌝ }
 {
@@ -47,7 +47,7 @@ pub fn clear(work: &mut [u32], from: usize, n: usize)
 // What the dynamic behaviour reads beside the discounted sums.
 fn prepare(
     behaviour: usize,
-    work: &mut [u32],
+    work: &mut [u64],
     table: &mut [u16],
     base: usize,
     stride: usize,
@@ -58,14 +58,14 @@ fn prepare(
     ensures { λ _. ⌜ Prepared behaviour (now (work .entry)) (now (table .entry)) (now (work .exit)) (now (table .exit)) base stride n (10000 - rate) ⌝ }
 {
     if behaviour == 2 {
-        further::further_layer(work, table, base, stride, n, (10000 - rate) as u32);
+        further::further_layer(work, table, base, stride, n, (10000 - rate) as u64);
     }
 }
 
 // The values and amounts of one date.
 pub fn one_date(
     behaviour: usize,
-    work: &mut [u32],
+    work: &mut [u64],
     table: &mut [u16],
     list: &[u8],
     count: usize,
@@ -105,7 +105,7 @@ pub fn layer_of(c: Contract, i: usize) -> Part
 // Every decision date, from the last to the first, each in its own layer of the table.
 pub fn all_dates(
     behaviour: usize,
-    work: &mut [u32],
+    work: &mut [u64],
     table: &mut [u16],
     list: &[u8],
     count: usize,

@@ -1,25 +1,30 @@
 -- A row of discounted sums: what is read is not what is written, and every sum fits. Assumes nothing.
 use mathlib.Core.List.{List}
 use mathlib.Core.Logic.{inl, inr}
-use mathlib.Core.Path.{_≡_, refl, ap, ap₂, sym, _∙_}
-use Prim.Native.Nat.{ℕ, zero, suc, _+_, _*_, _≤_, _<_}
-use native.Mathlib.Nat.{le-trans, le-of-eq, le-of-lt, mul-le-mul, mul-le-mul-left, zero-add}
+use mathlib.Core.Path.{_≡_, refl, ap, ap₂, sym, _∙_, subst}
+use Prim.Native.Nat.{ℕ, zero, suc, _+_, _*_, _%_, _≤_, _<_, max}
+use native.Mathlib.Nat.{le-trans, le-of-eq, mul-le-mul, mul-le-mul-left, zero-add, mod-eq-of-lt}
+use native.Mathlib.Decide.{decLe}
 use native.Mathlib.Omega.{arith}
 use lib.ListN.{getD, length, replicate, getD-replicate}
 use Rattle.decision.specs.Index.{sum, sum-le, sum-eq, sum-next, sum-times}
 use Rattle.slices.specs.Stored.{stored, length-stored, stored-out, stored-first, stored-join}
 use Rattle.slices.specs.Rows.{cells, flat, flat-at, within-rows, rows-le, rows-step}
-use Rattle.rules.specs.Contract.{Terms, Returns, returnsOf}
+use Rattle.rules.specs.Contract.{Terms, Returns, returnsOf, weightTotal, weightMost, entryMost}
 use Rattle.rules.specs.Date.{nextAccount, discounted}
 use Rattle.rules.specs.FixedTerm.{layerSize}
-use Rattle.laws.specs.Bounds.{discounted-average}
+use Rattle.laws.specs.Bounds.{valueMost, value-most}
 use Rattle.laws.specs.Date.{account-le}
-use Rattle.expect.specs.Expected.{reachedSum, expected, term, Run, Summed, Row, Listing, Layers, Balance}
+use Rattle.expect.specs.Expected.{reachedSum, expected, term, productMost, Reached, Run, Summed, Row, Listing, Values, Within, Balance}
 
 -- ---- sums along the guarantees
 -- a product is small
-pub product-small : {x y : ℕ} → x ≤ 10000 → y < 4294967296 → x * y ≤ 42949672960000
-product-small h l = mul-le-mul {n₂ = 10000} {m₂ = 4294967296} h (le-of-lt l)
+pub product-small : {x y : ℕ} → x ≤ weightMost → y ≤ entryMost → x * y ≤ productMost
+product-small h l = mul-le-mul {n₂ = weightMost} {m₂ = entryMost} h l
+
+pub reached-up : {work starts weights : List ℕ} {most a k : ℕ} (m : ℕ)
+    → Reached work starts weights most a k → most ≤ m → Reached work starts weights m a k
+reached-up m r l = record { light = r .light; within = r .within; small = le-trans (r .small) l }
 
 pub sum-four : (f : ℕ → ℕ) (k : ℕ) → sum f (k + 4) ≡ sum f k + (f k + f (k + 1) + f (k + 2) + f (k + 3))
 sum-four f k =
@@ -29,24 +34,40 @@ sum-four f k =
     let four : sum f (k + 4) ≡ sum f (k + 3) + f (k + 3) = ap (sum f) (let e : k + 4 ≡ k + 3 + 1 = omega arith in e) ∙ sum-next f (k + 3) in
     omega arith
 
-module _ {work starts weights : List ℕ} {count from n : ℕ} (r : Run work starts weights count from n) where
-  pub run-read : (k j : ℕ) → k < count → j < n → getD starts k 0 + (from + j) < length work
-  run-read k j m l = let b = r .within k m in omega arith
+pub twice-four : (f : ℕ → ℕ) (k x y : ℕ) {s : ℕ} → s ≡ sum f k → sum f (k + 4) ≡ sum f k + x → sum f (k + 4 + 4) ≡ sum f (k + 4) + y
+    → s + (x + y) ≡ sum f (k + 8)
+twice-four f k x y p q r = let e : sum f (k + 4 + 4) ≡ sum f (k + 8) = ap (sum f) (omega arith) in omega arith
 
-  pub sum-small : ((j : ℕ) → getD work j 0 < 4294967296) → (a k : ℕ) → k ≤ count → sum (term work starts weights a) k ≤ 42949672960000 * k
+-- a number of 32 bits is its low part
+pub low-part : {x : ℕ} → x ≤ 4294967295 → x % 4294967296 ≡ x
+low-part h = mod-eq-of-lt (omega arith)
+
+-- the largest of the numbers looked at
+pub larger-next : (xs : List ℕ) (i r x : ℕ) {r' : ℕ} → x ≡ getD xs i 0 → r' ≡ max r x → ((j : ℕ) → j < i → getD xs j 0 ≤ r)
+    → (j : ℕ) → j < i + 1 → getD xs j 0 ≤ r'
+larger-next xs i r x {r'} p q h j l = go (decLe i j)
+  where
+    go : Dec (i ≤ j) → getD xs j 0 ≤ r'
+    go (yes m) = let e : getD xs j 0 ≡ getD xs i 0 = ap (λ (z : ℕ). getD xs z 0) (omega arith) in omega arith
+    go (no m) = let b = h j (omega arith) in omega arith
+
+module _ {work starts weights : List ℕ} {count most from n : ℕ} (r : Run work starts weights count most from n) where
+  pub sum-small : (j k : ℕ) → j < n → k ≤ count → sum (term work starts weights (from + j)) k ≤ productMost * k
   unfolding sum
-  sum-small small a zero l = omega arith
-  sum-small small a (suc k) l =
-      let before = sum-small small a k (omega arith) in
-      let last = product-small (r .light k (omega arith)) (small (getD starts k 0 + a)) in
+  sum-small j zero l h = omega arith
+  sum-small j (suc k) l h =
+      let before = sum-small j k l (omega arith) in
+      let x = r .reached k j (omega arith) l in
+      let last = product-small (x .light) (le-trans (x .small) (r .most-is)) in
       omega arith
 
-  pub run-fewer : (k : ℕ) → k ≤ count → Run work starts weights k from n
-  run-fewer k h = record {
+  -- fewer returns, or a larger bound
+  pub run-part : (k m : ℕ) → k ≤ count → most ≤ m → m ≤ entryMost → Run work starts weights k m from n
+  run-part k m h l e = record {
     few = omega (arith, r .few);
     short = r .short;
-    light = λ i l. r .light i (omega arith);
-    within = λ i l. r .within i (omega arith);
+    most-is = e;
+    reached = λ i j g p. reached-up m (r .reached i j (omega arith) p) l;
   }
 
 -- an entry that is not stored yet
@@ -58,44 +79,54 @@ pub summed : {work starts weights : List ℕ} (sums sums' : List ℕ) (from n k 
     → sums' ≡ stored sums 0 (λ j. sum (term work starts weights (from + j)) k) n → n ≤ length sums → Summed work starts weights sums' from n k
 summed sums sums' from n k e fits = record { long = let l = ap length e ∙ length-stored sums 0 _ n in omega arith; each = λ j l. ap (λ (xs : List ℕ). getD xs j 0) e ∙ stored-first sums _ n j fits l }
 
-module _ {work starts weights : List ℕ} {count discount to stride : ℕ} (r : Row work starts weights count discount to stride) where
+module _ {work starts weights : List ℕ} {count discount most to stride : ℕ} (r : Row work starts weights count discount most to stride) where
   -- the rows that are read lie before the row that is written
+  row-kept : (g : ℕ → ℕ) (n k a : ℕ) → k < count → a < stride
+      → getD (stored work to g n) (getD starts k 0 + a) 0 ≡ getD work (getD starts k 0 + a) 0
+  row-kept g n k a m l = stored-out work to g n (getD starts k 0 + a) (inl (let b = r .below k m in omega arith))
+
   pub row-sum : (g : ℕ → ℕ) (n a : ℕ) → a < stride
       → sum (term (stored work to g n) starts weights a) count ≡ sum (term work starts weights a) count
-  row-sum g n a l = sum-eq _ _ count (λ k m.
-      ap (λ (x : ℕ). getD weights k 0 * x) (stored-out work to g n (getD starts k 0 + a) (inl (let b = r .below k m in omega arith))))
+  row-sum g n a l = sum-eq _ _ count (λ k m. ap (λ (x : ℕ). getD weights k 0 * x) (row-kept g n k a m l))
 
-  pub row-read : (k a : ℕ) → k < count → a < stride → getD starts k 0 + a < length work
-  row-read k a m l = let b = r .below k m in omega (arith, r .room)
+  pub row-reached : (k a : ℕ) → k < count → a < stride → Reached work starts weights most a k
+  row-reached k a m l = record {
+    light = r .light k m;
+    within = let b = r .below k m in omega (arith, r .room);
+    small = r .small k a m l;
+  }
 
-  pub row-sum-le : ((j : ℕ) → getD work j 0 < 4294967296) → (a : ℕ) → sum (term work starts weights a) count ≤ 10000 * 4294967295
-  row-sum-le small a =
+  pub row-sum-le : (a : ℕ) → a < stride → sum (term work starts weights a) count ≤ weightTotal * entryMost
+  row-sum-le a l =
       le-trans
-      (sum-le (term work starts weights a) (λ k. getD weights k 0 * 4294967295) count (λ k m. mul-le-mul-left (getD weights k 0) (let s = small (getD starts k 0 + a) in omega arith)))
-      (le-of-eq (sum-times (λ k. getD weights k 0) 4294967295 count ∙ ap (λ (x : ℕ). x * 4294967295) (r .total)))
+      (sum-le (term work starts weights a) (λ k. getD weights k 0 * entryMost) count
+      (λ k m. mul-le-mul-left (getD weights k 0) (le-trans (r .small k a m l) (r .most-is))))
+      (le-of-eq (sum-times (λ k. getD weights k 0) entryMost count ∙ ap (λ (x : ℕ). x * entryMost) (r .total)))
 
-  pub row-small : ((j : ℕ) → getD work j 0 < 4294967296) → (a : ℕ) → discounted discount (sum (term work starts weights a) count) ≤ 4294967295
-  row-small small a = discounted-average discount _ 4294967295 (r .discount-is) (row-sum-le small a)
-
-  -- the first m guarantees, in a slice as long
-  pub row-part : (work' : List ℕ) (m : ℕ) → length work' ≡ length work → m ≤ stride → Row work' starts weights count discount to m
-  row-part work' m long h = record {
+  -- the first m guarantees, some of the row filled
+  pub row-part : (work' : List ℕ) (g : ℕ → ℕ) (n m : ℕ) → work' ≡ stored work to g n → m ≤ stride
+      → Row work' starts weights count discount most to m
+  row-part work' g n m e h = record {
     few = r .few;
     discount-is = r .discount-is;
+    most-is = r .most-is;
     total = r .total;
     light = r .light;
+    small = λ k a l p.
+        rw (ap (λ (xs : List ℕ). getD xs (getD starts k 0 + a) 0) e ∙ row-kept g n k a l (omega arith))
+        (r .small k a l (omega arith));
     below = λ k l. let b = r .below k l in omega arith;
-    room = omega (arith, r .room);
+    room = let l = ap length e ∙ length-stored work to g n in omega (arith, r .room);
   }
 
 -- the last n guarantees of a row
-pub row-run : {work starts weights : List ℕ} {count discount to : ℕ} (from n : ℕ) → Row work starts weights count discount to (from + n) → n ≤ 256
-    → Run work starts weights count from n
+pub row-run : {work starts weights : List ℕ} {count discount most to : ℕ} (from n : ℕ) → Row work starts weights count discount most to (from + n) → n ≤ 256
+    → Run work starts weights count most from n
 row-run from n r h = record {
   few = r .few;
   short = h;
-  light = r .light;
-  within = λ k l. let b = r .below k l in omega (arith, r .room);
+  most-is = r .most-is;
+  reached = λ k j l m. row-reached r k (from + j) l (omega arith);
 }
 
 -- no returns yet
@@ -104,7 +135,7 @@ unfolding sum
 summed-none from n h = record { long = h; each = λ j l. getD-replicate 256 j 0 0 (omega arith) }
 
 -- ---- the row of one balance
-module _ {c : Terms} {work list weights : List ℕ} {count balance stride size : ℕ} (b : Balance c work list weights count balance stride size) where
+module _ {c : Terms} {work list weights : List ℕ} {count most balance stride size : ℕ} (b : Balance c work list weights count most balance stride size) where
   -- a row of the first layer ends within it
   reached-within : (x : ℕ) → x ≤ c .top → x * stride + stride ≤ size
   reached-within x l = let m = rows-le stride (x + 1) (c .top + 1) (omega arith) in omega (arith, rows-step stride x, b .size-is)
@@ -123,12 +154,22 @@ module _ {c : Terms} {work list weights : List ℕ} {count balance stride size :
   module _ (starts : List ℕ)
       (starts-are : (k : ℕ) → k < count → getD starts k 0 ≡ nextAccount (c .fee) (c .top) balance (returnsOf list .factor k) * stride)
     where
-      pub balance-row : Row work starts weights count (c .discount) (size + balance * stride) stride
+      place : (k a : ℕ) → k < count
+          → 0 + (nextAccount (c .fee) (c .top) balance (returnsOf list .factor k) * (c .premium + 1) + a) ≡ getD starts k 0 + a
+      place k a l =
+          let x = nextAccount (c .fee) (c .top) balance (returnsOf list .factor k) in
+          zero-add _ ∙ ap (λ (y : ℕ). y + a) (ap (λ (z : ℕ). x * z) (sym (b .stride-is)) ∙ sym (starts-are k l))
+
+      pub balance-row : Row work starts weights count (c .discount) most (size + balance * stride) stride
       balance-row = record {
         few = b .listing .few;
         discount-is = b .layers .valid .discount;
+        most-is = b .most-is;
         total = sum-eq _ _ count (b .weights-are) ∙ ap (sum (returnsOf list .weight)) (b .listing .all) ∙ b .listing .valid .total;
         light = λ k l. rw (b .weights-are k l) (b .listing .valid .weight k (omega (arith, b .listing .all)));
+        small = λ k a l m.
+            let x = account-le (c .fee) (c .top) balance (returnsOf list .factor k) in
+            subst (λ (z : ℕ). getD work z 0 ≤ most) (place k a l) (b .small _ a x (omega (arith, b .stride-is)));
         below = λ k l.
             let m = reached-within _ (account-le (c .fee) (c .top) balance (returnsOf list .factor k)) in
             rw (starts-are k l) (omega arith);
@@ -143,17 +184,26 @@ module _ {c : Terms} {work list weights : List ℕ} {count balance stride size :
           ∙ ap (sum _) (b .listing .all))
 
 -- ---- the balance of the start
-pub start-balance : {c : Terms} {work list weights : List ℕ} {count : ℕ} → Listing list count → Layers c work
+pub start-balance : {c : Terms} {work list weights : List ℕ} {count : ℕ} → Listing list count → Values c work
     → ((k : ℕ) → k < count → getD weights k 0 ≡ returnsOf list .weight k)
-    → Balance c work list weights count (c .premium) (c .premium + 1) ((c .top + 1) * (c .premium + 1))
-start-balance h l w = record {
+    → Balance c work list weights count (valueMost c) (c .premium) (c .premium + 1) ((c .top + 1) * (c .premium + 1))
+start-balance h v w = record {
   listing = h;
-  layers = l;
+  layers = v .layers;
+  most-is = value-most (v .layers .valid);
+  small = v .small;
   weights-are = w;
-  balance-is = l .valid .premium;
+  balance-is = v .layers .valid .premium;
   stride-is = refl;
   size-is = refl;
 }
+
+-- the first layer stays as the second is filled
+pub within-kept : (c : Terms) (work : List ℕ) {most : ℕ} (work' : List ℕ) (f : ℕ → ℕ) (n : ℕ) → Within c work most
+    → work' ≡ stored work ((c .top + 1) * (c .premium + 1)) f n → Within c work' most
+within-kept c work work' f n small e w a h l =
+    let i = within-rows (c .premium + 1) (c .top + 1) w a (omega arith) (omega arith) in
+    rw (ap (λ (xs : List ℕ). cells xs 0 (c .premium + 1) w a) e ∙ stored-out work _ f n _ (inl (omega arith))) (small w a h l)
 
 -- ---- row after row
 module _ (c : Terms) (rs : Returns) (work : List ℕ) (stride size : ℕ) (size-is : size ≡ (c .top + 1) * stride) where

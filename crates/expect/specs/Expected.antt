@@ -5,12 +5,13 @@ use Prim.Native.Nat.{ℕ, _+_, _*_, _≤_, _<_}
 use native.Mathlib.Nat.{le-trans, le-of-eq, mul-le-mul-left}
 use lib.ListN.{getD, length}
 use Rattle.decision.specs.Index.{sum, sum-le, sum-eq, sum-times}
-use Rattle.rules.specs.Contract.{Terms, Returns, returnsOf, discountMost, weightTotal, weightMost, returnsMost}
+use Rattle.slices.specs.Rows.{cells}
+use Rattle.rules.specs.Contract.{Terms, Returns, returnsOf, discountMost, weightTotal, weightMost, returnsMost, entryMost}
 use Rattle.rules.specs.Date.{nextAccount, discounted}
 use Rattle.rules.specs.FixedTerm.{layerSize}
 use Rattle.laws.specs.Accepted.{Valid, ValidReturns}
 use Rattle.laws.specs.Date.{account-le}
-use Rattle.laws.specs.Bounds.{discounted-average}
+use Rattle.laws.specs.Bounds.{discounted-average, valueMost}
 
 -- the sum of weight × value reached
 unfoldable pub reachedSum : Terms → Returns → (ℕ → ℕ → ℕ) → ℕ → ℕ → ℕ
@@ -24,12 +25,22 @@ expected c rs v balance a = discounted (c .discount) (reachedSum c rs v balance 
 abbrev pub term : List ℕ → List ℕ → List ℕ → ℕ → ℕ → ℕ
 term work starts weights a k = getD weights k 0 * getD work (getD starts k 0 + a) 0
 
--- n guarantees, from `from` on, in rows that the slice holds
-pub record Run (work starts weights : List ℕ) (count from n : ℕ) : Type 0 where
+-- what no such product passes
+abbrev pub productMost : ℕ
+productMost = 48000000000000
+
+-- the value that return k reaches with guarantee a: in the slice, and at most `most`
+pub record Reached (work starts weights : List ℕ) (most a k : ℕ) : Type 0 where
+  pub light : getD weights k 0 ≤ weightMost
+  pub within : getD starts k 0 + a < length work
+  pub small : getD work (getD starts k 0 + a) 0 ≤ most
+
+-- n guarantees, from `from` on
+pub record Run (work starts weights : List ℕ) (count most from n : ℕ) : Type 0 where
   pub few : count ≤ returnsMost
   pub short : n ≤ 256
-  pub light : (k : ℕ) → k < count → getD weights k 0 ≤ weightMost
-  pub within : (k : ℕ) → k < count → getD starts k 0 + (from + n) ≤ length work
+  pub most-is : most ≤ entryMost
+  pub reached : (k j : ℕ) → k < count → j < n → Reached work starts weights most (from + j) k
 
 -- .. and their sums over the first k returns
 pub record Summed (work starts weights sums : List ℕ) (from n k : ℕ) : Type 0 where
@@ -37,11 +48,13 @@ pub record Summed (work starts weights sums : List ℕ) (from n k : ℕ) : Type 
   pub each : (j : ℕ) → j < n → getD sums j 0 ≡ sum (term work starts weights (from + j)) k
 
 -- a row to be filled at `to`, from rows that lie before it
-pub record Row (work starts weights : List ℕ) (count discount to stride : ℕ) : Type 0 where
+pub record Row (work starts weights : List ℕ) (count discount most to stride : ℕ) : Type 0 where
   pub few : count ≤ returnsMost
   pub discount-is : discount ≤ discountMost
+  pub most-is : most ≤ entryMost
   pub total : sum (λ k. getD weights k 0) count ≡ weightTotal
   pub light : (k : ℕ) → k < count → getD weights k 0 ≤ weightMost
+  pub small : (k a : ℕ) → k < count → a < stride → getD work (getD starts k 0 + a) 0 ≤ most
   pub below : (k : ℕ) → k < count → getD starts k 0 + stride ≤ to
   pub room : to + stride ≤ length work
 
@@ -57,10 +70,21 @@ pub record Layers (c : Terms) (work : List ℕ) : Type 0 where
   pub valid : Valid c
   pub room : layerSize c + layerSize c ≤ length work
 
+-- no value of the first layer is above `most`
+abbrev pub Within : Terms → List ℕ → ℕ → Type 0
+Within c work most = (w a : ℕ) → w ≤ c .top → a ≤ c .premium → cells work 0 (c .premium + 1) w a ≤ most
+
+-- .. in a layer of values
+pub record Values (c : Terms) (work : List ℕ) : Type 0 where
+  pub layers : Layers c work
+  pub small : Within c work (valueMost c)
+
 -- a balance whose row is to be filled
-pub record Balance (c : Terms) (work list weights : List ℕ) (count balance stride size : ℕ) : Type 0 where
+pub record Balance (c : Terms) (work list weights : List ℕ) (count most balance stride size : ℕ) : Type 0 where
   pub listing : Listing list count
   pub layers : Layers c work
+  pub most-is : most ≤ entryMost
+  pub small : Within c work most
   pub weights-are : (k : ℕ) → k < count → getD weights k 0 ≡ returnsOf list .weight k
   pub balance-is : balance ≤ c .top
   pub stride-is : stride ≡ c .premium + 1

@@ -5,32 +5,64 @@ ghost use lib.ListN.{length, getD};
 ghost use Rattle.decision.specs.Index.{sum};
 ghost use Rattle.slices.specs.Stored.{stored};
 ghost use Rattle.slices.specs.Rows.{cells, flat};
-ghost use Rattle.rules.specs.Contract.{topMost, weightMost, returnsMost, discountMost, returnsOf};
+ghost use Rattle.rules.specs.Contract.{topMost, weightTotal, returnsMost, discountMost, returnsOf, entryMost};
 ghost use Rattle.rules.specs.Date.{nextAccount, discounted};
 ghost use Rattle.rules.specs.FixedTerm.{layerSize};
 ghost use Rattle.laws.specs.Accepted.{Valid};
 ghost use Rattle.contract.specs.Reading.{termsIn};
-ghost use Rattle.expect.specs.Expected.{term, Run, Summed, Row, Listing, Layers, Balance, expected};
+ghost use Rattle.expect.specs.Expected.{term, productMost, Reached, Run, Summed, Row, Listing, Values, Within, Balance, expected};
 use contract::Contract;
 
-// What return k adds to the sum of guarantee a. Both factors have 32 bits, so that the loops over guarantees can be widened.
-fn product(work: &[u32], starts: &[usize; 64], weights: &[u32; 64], k: usize, a: usize) -> usize
-    requires { ⌜ (k < returnsMost) × (getD (now weights) k 0 ≤ weightMost) × (getD (now starts) k 0 + a < length (now work)) ⌝ }
-    ensures { λ r. ⌜ (r ≡ term (now (work .entry)) (now (starts .entry)) (now (weights .entry)) a k) × (r ≤ 42949672960000) ⌝ }
+// How many returns are averaged, by what they are discounted, and what no value reached passes.
+struct Average {
+    count: usize,
+    discount: usize,
+    most: usize,
+}
+
+// What return k adds to the sum of guarantee a.
+fn product(work: &[u64], starts: &[usize; 64], weights: &[u32; 64], k: usize, a: usize) -> usize
+    requires { ⌜ (k < returnsMost) × Reached (now work) (now starts) (now weights) entryMost a k ⌝ }
+    ensures { λ r. ⌜ (r ≡ term (now (work .entry)) (now (starts .entry)) (now (weights .entry)) a k) × (r ≤ productMost) ⌝ }
 {
     let at = starts[k] + a;
-    date::wide(weights[k]) * date::wide(work[at])
+    weights[k] as usize * date::wide(work[at])
+}
+
+// The same where the value has 32 bits: a product of two such numbers can be widened.
+fn low_product(work: &[u64], starts: &[usize; 64], weights: &[u32; 64], k: usize, a: usize) -> usize
+    requires { ⌜ (k < returnsMost) × Reached (now work) (now starts) (now weights) 4294967295 a k ⌝ }
+    ensures { λ r. ⌜ (r ≡ term (now (work .entry)) (now (starts .entry)) (now (weights .entry)) a k) × (r ≤ productMost) ⌝ }
+{
+    let at = starts[k] + a;
+    weights[k] as usize * date::wide(work[at] % 4294967296)
+}
+
+// .. and of four returns.
+fn low_four(work: &[u64], starts: &[usize; 64], weights: &[u32; 64], k: usize, a: usize) -> usize
+    requires { ⌜ (k + 4 ≤ returnsMost) × ((i : ℕ) → i < k + 4 → Reached (now work) (now starts) (now weights) 4294967295 a i) ⌝ }
+    ensures { λ r. ⌜
+        (sum (term (now (work .entry)) (now (starts .entry)) (now (weights .entry)) a) (k + 4)
+        ≡ sum (term (now (work .entry)) (now (starts .entry)) (now (weights .entry)) a) k + r)
+        × (r ≤ 4 * productMost)
+        ⌝ }
+{
+    let first = low_product(work, starts, weights, k, a);
+    let second = low_product(work, starts, weights, k + 1, a);
+    let third = low_product(work, starts, weights, k + 2, a);
+    let fourth = low_product(work, starts, weights, k + 3, a);
+    first + second + third + fourth
 }
 
 // The sum over the returns for guarantee a.
 fn reached_sum(
-    work: &[u32],
+    work: &[u64],
     starts: &[usize; 64],
     weights: &[u32; 64],
     count: usize,
     a: usize,
 ) -> usize
-    requires { ⌜ (count ≤ returnsMost) × ((k : ℕ) → k < count → getD (now weights) k 0 ≤ weightMost) × ((k : ℕ) → k < count → getD (now starts) k 0 + a < length (now work)) ⌝ }
+    requires { ⌜ (count ≤ returnsMost) × ((k : ℕ) → k < count → Reached (now work) (now starts) (now weights) entryMost a k) ⌝ }
     ensures { λ r. ⌜ (r ≡ sum (term (now (work .entry)) (now (starts .entry)) (now (weights .entry)) a) count) × (r ≤ 100000000000000000) ⌝ }
 {
     let mut s: usize = 0;
@@ -43,14 +75,17 @@ fn reached_sum(
 // Return k, for n guarantees.
 fn add_one(
     sums: &mut [usize; 256],
-    work: &[u32],
+    work: &[u64],
     starts: &[usize; 64],
     weights: &[u32; 64],
     k: usize,
     from: usize,
     n: usize,
 )
-    requires { ⌜ Run (now work) (now starts) (now weights) (k + 1) from n × Summed (now work) (now starts) (now weights) (now sums) from n k ⌝ }
+    requires { ⌜
+        Run (now work) (now starts) (now weights) (k + 1) entryMost from n
+        × Summed (now work) (now starts) (now weights) (now sums) from n k
+        ⌝ }
     ensures { λ _. ⌜ Summed (now (work .entry)) (now (starts .entry)) (now (weights .entry)) (now (sums .exit)) from n (k + 1) ⌝ }
 {
     for j in 0..n {
@@ -58,46 +93,55 @@ fn add_one(
     }
 }
 
-// Four returns at once: one load and one store of a sum for four products.
-fn add_four(
+// Eight returns at once: one load and one store of a sum for eight products.
+fn add_eight(
     sums: &mut [usize; 256],
-    work: &[u32],
+    work: &[u64],
     starts: &[usize; 64],
     weights: &[u32; 64],
     k: usize,
     from: usize,
     n: usize,
 )
-    requires { ⌜ Run (now work) (now starts) (now weights) (k + 4) from n × Summed (now work) (now starts) (now weights) (now sums) from n k ⌝ }
-    ensures { λ _. ⌜ Summed (now (work .entry)) (now (starts .entry)) (now (weights .entry)) (now (sums .exit)) from n (k + 4) ⌝ }
+    requires { ⌜
+        Run (now work) (now starts) (now weights) (k + 8) 4294967295 from n
+        × Summed (now work) (now starts) (now weights) (now sums) from n k
+        ⌝ }
+    ensures { λ _. ⌜ Summed (now (work .entry)) (now (starts .entry)) (now (weights .entry)) (now (sums .exit)) from n (k + 8) ⌝ }
 {
     for j in 0..n {
         let a = from + j;
-        let first = product(work, starts, weights, k, a);
-        let second = product(work, starts, weights, k + 1, a);
-        let third = product(work, starts, weights, k + 2, a);
-        let fourth = product(work, starts, weights, k + 3, a);
-        sums[j] += first + second + third + fourth;
+        let first = low_four(work, starts, weights, k, a);
+        let second = low_four(work, starts, weights, k + 4, a);
+        sums[j] += first + second;
     }
 }
 
-// The next four returns, or one where fewer are left. Gives the number of the return after them.
+// The next eight returns, or one where fewer are left or a value has more than 32 bits. Gives the number of the return after them.
 fn add_next(
     sums: &mut [usize; 256],
-    work: &[u32],
+    work: &[u64],
     starts: &[usize; 64],
     weights: &[u32; 64],
-    count: usize,
+    average: Average,
     k: usize,
     from: usize,
     n: usize,
 ) -> usize
-    requires { ⌜ Run (now work) (now starts) (now weights) count from n × Summed (now work) (now starts) (now weights) (now sums) from n k × (k < count) ⌝ }
-    ensures { λ r. ⌜ Summed (now (work .entry)) (now (starts .entry)) (now (weights .entry)) (now (sums .exit)) from n r × (k < r) × (r ≤ count) ⌝ }
+    requires { ⌜
+        Run (now work) (now starts) (now weights) (average .count) (average .most) from n
+        × Summed (now work) (now starts) (now weights) (now sums) from n k
+        × (k < average .count)
+        ⌝ }
+    ensures { λ r. ⌜
+        Summed (now (work .entry)) (now (starts .entry)) (now (weights .entry)) (now (sums .exit)) from n r
+        × (k < r)
+        × (r ≤ average .count)
+        ⌝ }
 {
-    if k + 4 <= count {
-        add_four(sums, work, starts, weights, k, from, n);
-        return k + 4;
+    if k + 8 <= average.count && average.most < 4294967296 {
+        add_eight(sums, work, starts, weights, k, from, n);
+        return k + 8;
     }
     add_one(sums, work, starts, weights, k, from, n);
     k + 1
@@ -106,67 +150,68 @@ fn add_next(
 // The sums of n guarantees, from `from` on.
 fn add_all(
     sums: &mut [usize; 256],
-    work: &[u32],
+    work: &[u64],
     starts: &[usize; 64],
     weights: &[u32; 64],
-    count: usize,
+    average: Average,
     from: usize,
     n: usize,
 )
-    requires { ⌜ Run (now work) (now starts) (now weights) count from n × Summed (now work) (now starts) (now weights) (now sums) from n 0 ⌝ }
-    ensures { λ _. ⌜ Summed (now (work .entry)) (now (starts .entry)) (now (weights .entry)) (now (sums .exit)) from n count ⌝ }
+    requires { ⌜
+        Run (now work) (now starts) (now weights) (average .count) (average .most) from n
+        × Summed (now work) (now starts) (now weights) (now sums) from n 0
+        ⌝ }
+    ensures { λ _. ⌜ Summed (now (work .entry)) (now (starts .entry)) (now (weights .entry)) (now (sums .exit)) from n (average .count) ⌝ }
 {
     let mut k: usize = 0;
-    while k < count {
-        k = add_next(sums, work, starts, weights, count, k, from, n);
+    while k < average.count {
+        k = add_next(sums, work, starts, weights, average, k, from, n);
     }
 }
 
-fn store_sums(work: &mut [u32], sums: &[usize; 256], discount: usize, to: usize, n: usize)
-    requires { ⌜ (discount ≤ discountMost) × (n ≤ 256) × (to + n ≤ length (now work)) × ((j : ℕ) → j < n → getD (now sums) j 0 ≤ 42949672950000) ⌝ }
+fn store_sums(work: &mut [u64], sums: &[usize; 256], discount: usize, to: usize, n: usize)
+    requires { ⌜ (discount ≤ discountMost) × (n ≤ 256) × (to + n ≤ length (now work)) × ((j : ℕ) → j < n → getD (now sums) j 0 ≤ weightTotal * entryMost) ⌝ }
     ensures { λ _. ⌜ now (work .exit) ≡ stored (now (work .entry)) to (λ (j : ℕ). discounted discount (getD (now (sums .entry)) j 0)) n ⌝ }
 {
     for j in 0..n {
-        work[to + j] = date::discounted(discount, sums[j]) as u32;
+        work[to + j] = date::discounted(discount, sums[j]) as u64;
     }
 }
 
 // The discounted sums of n guarantees, from `from` on, in the row at `to`.
 fn expect_run(
-    work: &mut [u32],
+    work: &mut [u64],
     starts: &[usize; 64],
     weights: &[u32; 64],
-    count: usize,
-    discount: usize,
+    average: Average,
     to: usize,
     from: usize,
     n: usize,
 )
-    requires { ⌜ Row (now work) (now starts) (now weights) count discount to (from + n) × (n ≤ 256) ⌝ }
-    ensures { λ _. ⌜ now (work .exit) ≡ stored (now (work .entry)) (to + from) (λ (j : ℕ). discounted discount (sum (term (now (work .entry)) (now (starts .entry)) (now (weights .entry)) (from + j)) count)) n ⌝ }
+    requires { ⌜ Row (now work) (now starts) (now weights) (average .count) (average .discount) (average .most) to (from + n) × (n ≤ 256) ⌝ }
+    ensures { λ _. ⌜ now (work .exit) ≡ stored (now (work .entry)) (to + from) (λ (j : ℕ). discounted (average .discount) (sum (term (now (work .entry)) (now (starts .entry)) (now (weights .entry)) (from + j)) (average .count))) n ⌝ }
 {
     let mut sums = [0usize; 256];
-    add_all(&mut sums, &work[..], starts, weights, count, from, n);
-    store_sums(work, &sums, discount, to + from, n);
+    add_all(&mut sums, &work[..], starts, weights, average, from, n);
+    store_sums(work, &sums, average.discount, to + from, n);
 }
 
 // The row at `to`: the discounted sum of each guarantee, 256 at a time.
 fn expect_row(
-    work: &mut [u32],
+    work: &mut [u64],
     starts: &[usize; 64],
     weights: &[u32; 64],
-    count: usize,
-    discount: usize,
+    average: Average,
     to: usize,
     stride: usize,
 )
-    requires { ⌜ Row (now work) (now starts) (now weights) count discount to stride ⌝ }
-    ensures { λ _. ⌜ now (work .exit) ≡ stored (now (work .entry)) to (λ (a : ℕ). discounted discount (sum (term (now (work .entry)) (now (starts .entry)) (now (weights .entry)) a) count)) stride ⌝ }
+    requires { ⌜ Row (now work) (now starts) (now weights) (average .count) (average .discount) (average .most) to stride ⌝ }
+    ensures { λ _. ⌜ now (work .exit) ≡ stored (now (work .entry)) to (λ (a : ℕ). discounted (average .discount) (sum (term (now (work .entry)) (now (starts .entry)) (now (weights .entry)) a) (average .count))) stride ⌝ }
 {
     let mut from: usize = 0;
     while from < stride {
         let n = date::smaller(256, stride - from);
-        expect_run(work, starts, weights, count, discount, to, from, n);
+        expect_run(work, starts, weights, average, to, from, n);
         from += n;
     }
 }
@@ -200,50 +245,78 @@ fn fill_starts(
 
 // The row of one balance in the second layer.
 fn expect_balance(
-    work: &mut [u32],
+    work: &mut [u64],
     list: &[u8],
     weights: &[u32; 64],
-    count: usize,
+    average: Average,
     c: Contract,
     balance: usize,
     stride: usize,
     size: usize,
 )
-    requires { ⌜ Balance (termsIn c) (now work) (now list) (now weights) count balance stride size ⌝ }
+    requires { ⌜ Balance (termsIn c) (now work) (now list) (now weights) (average .count) (average .most) balance stride size × (average .discount ≡ c .discount) ⌝ }
     ensures { λ _. ⌜ now (work .exit) ≡ stored (now (work .entry)) (size + balance * stride) (expected (termsIn c) (returnsOf (now (list .entry))) (cells (now (work .entry)) 0 stride) balance) stride ⌝ }
 {
     let mut starts = [0usize; 64];
-    fill_starts(&mut starts, list, count, c, balance, stride);
+    fill_starts(&mut starts, list, average.count, c, balance, stride);
     expect_row(
         work,
         &starts,
         weights,
-        count,
-        c.discount,
+        average,
         size + balance * stride,
         stride,
     );
 }
 
+// No entry of the first n is above it.
+fn largest(work: &[u64], n: usize) -> usize
+    requires { ⌜ n ≤ length (now work) ⌝ }
+    ensures { λ r. ⌜ ((i : ℕ) → i < n → getD (now (work .entry)) i 0 ≤ r) ⌝ }
+{
+    let mut r: usize = 0;
+    for i in 0..n {
+        r = date::larger(r, date::wide(work[i]));
+    }
+    r
+}
+
+// No value of the first layer is above it. The values are looked at only where those of such a contract could pass 32 bits.
+fn most(work: &[u64], size: usize, c: Contract) -> usize
+    requires { ⌜ Values (termsIn c) (now work) × (size ≡ layerSize (termsIn c)) ⌝ }
+    ensures { λ r. ⌜ (r ≤ entryMost) × Within (termsIn c) (now (work .entry)) r ⌝ }
+{
+    let most = 30000 * (c.top * c.dates);
+    if most < 4294967296 {
+        return most;
+    }
+    date::smaller(most, largest(work, size))
+}
+
 // The second layer: the discounted sum of every balance and guarantee, where the first holds the next date's values.
-pub fn expect_layer(work: &mut [u32], list: &[u8], count: usize, c: Contract)
-    requires { ⌜ Listing (now list) count × Layers (termsIn c) (now work) ⌝ }
+pub fn expect_layer(work: &mut [u64], list: &[u8], count: usize, c: Contract)
+    requires { ⌜ Listing (now list) count × Values (termsIn c) (now work) ⌝ }
     ensures { λ _. ⌜ now (work .exit) ≡ stored (now (work .entry)) (layerSize (termsIn c)) (flat (c .premium + 1) (expected (termsIn c) (returnsOf (now (list .entry))) (cells (now (work .entry)) 0 (c .premium + 1)))) (layerSize (termsIn c)) ⌝ }
 {
     let stride = c.premium + 1;
     let size = (c.top + 1) * stride;
     let mut weights = [0u32; 64];
     fill_weights(&mut weights, list, count);
+    let average = Average {
+        count,
+        discount: c.discount,
+        most: most(&work[..], size, c),
+    };
     let end = c.top + 1;
     for balance in 0..end {
-        expect_balance(work, list, &weights, count, c, balance, stride, size);
+        expect_balance(work, list, &weights, average, c, balance, stride, size);
     }
 }
 
 // The discounted sum over the first return, from balance and guarantee U.
-pub fn start_value(work: &[u32], list: &[u8], count: usize, c: Contract) -> u32
-    requires { ⌜ Listing (now list) count × Layers (termsIn c) (now work) ⌝ }
-    ensures { λ r. ⌜ r ≡ expected (termsIn c) (returnsOf (now (list .entry))) (cells (now (work .entry)) 0 (c .premium + 1)) (c .premium) (c .premium) ⌝ }
+pub fn start_value(work: &[u64], list: &[u8], count: usize, c: Contract) -> u64
+    requires { ⌜ Listing (now list) count × Values (termsIn c) (now work) ⌝ }
+    ensures { λ r. ⌜ (r ≡ expected (termsIn c) (returnsOf (now (list .entry))) (cells (now (work .entry)) 0 (c .premium + 1)) (c .premium) (c .premium)) × (r ≤ entryMost) ⌝ }
 {
     let stride = c.premium + 1;
     let mut weights = [0u32; 64];
@@ -251,5 +324,5 @@ pub fn start_value(work: &[u32], list: &[u8], count: usize, c: Contract) -> u32
     let mut starts = [0usize; 64];
     fill_starts(&mut starts, list, count, c, c.premium, stride);
     let s = reached_sum(work, &starts, &weights, count, c.premium);
-    date::discounted(c.discount, s) as u32
+    date::discounted(c.discount, s) as u64
 }

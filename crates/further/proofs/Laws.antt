@@ -7,6 +7,7 @@ use native.Mathlib.Nat.{mul-le-mul, zero-mul}
 use native.Mathlib.Omega.{arith}
 use lib.ListN.{getD, length}
 use Rattle.slices.specs.Stored.{stored, stored-out, length-stored}
+use Rattle.rules.specs.Contract.{entryMost}
 use Rattle.slices.specs.Rows.{cells, flat, cells-kept, layer-stored, row-next, rows-le, rows-step, rows-before}
 use Rattle.further.specs.Further.{furtherValue, furtherAmount, Room, Below, amount-small, value-small}
 
@@ -62,9 +63,9 @@ module _ {work table : List ℕ} {base stride b k : ℕ} (r : Room work table ba
       ∙ ap (λ (j : ℕ). getD table j 0) (below-place a)
       ∙ x .amounts (a - 1) (omega arith)
 
-  pub below-small : (a : ℕ) → a < stride → k ≤ 10000 → furtherValue (cells work base stride) k (b - 1) (a - 1) ≤ 4040000000
+  pub below-small : (a : ℕ) → a < stride → k ≤ 10000 → furtherValue (cells work base stride) k (b - 1) (a - 1) ≤ entryMost + 40000000
   below-small a l h =
-      let v = value-small (cells work base stride) k (b - 1) (a - 1) 4000000000 (λ y z m n. r .small y z (omega (arith, x .some)) (omega arith)) in
+      let v = value-small (cells work base stride) k (b - 1) (a - 1) entryMost (λ y z m n. r .small y z (omega (arith, x .some)) (omega arith)) in
       let few : b - 1 ≤ 4000 = omega (arith, r .few) in
       let p = mul-le-mul h few in
       omega arith

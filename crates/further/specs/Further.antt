@@ -10,6 +10,7 @@ use lib.Dec.{T, ltb, ltb→lt, nltb→le}
 use lib.ListN.{getD, length}
 use Rattle.decision.specs.Choice.{Leading, leading-one, leading-join, leading-shift}
 use Rattle.slices.specs.Rows.{cells}
+use Rattle.rules.specs.Contract.{entryMost}
 
 -- what s further is worth from balance b and guarantee a, where e gives the discounted sums
 abbrev pub further : (ℕ → ℕ → ℕ) → ℕ → ℕ → ℕ → ℕ → ℕ
@@ -75,8 +76,7 @@ pub record Room (work table : List ℕ) (base stride n : ℕ) : Type 0 where
   pub apart : n * stride ≤ base
   pub room : base + n * stride ≤ length work
   pub entries : n * stride ≤ length table
-  -- so that a year's cash on top of a sum still fits 32 bits
-  pub small : (x y : ℕ) → x < n → y < stride → cells work base stride x y ≤ 4000000000
+  pub small : (x y : ℕ) → x < n → y < stride → cells work base stride x y ≤ entryMost
 
 -- the row below b is filled
 pub record Below (work table : List ℕ) (base stride b k : ℕ) : Type 0 where

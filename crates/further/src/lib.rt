@@ -9,11 +9,11 @@ ghost use Rattle.slices.specs.Rows.{cells, flat};
 ghost use Rattle.further.specs.Further.{furtherValue, furtherAmount, Room, Below};
 
 struct Best {
-    value: u32,
+    value: u64,
     amount: u16,
 }
 
-fn better(stay: u32, further: u32, amount: u16) -> Best
+fn better(stay: u64, further: u64, amount: u16) -> Best
     requires { ⌜ amount ≤ 4000 ⌝ }
     ensures { λ r. ⌜ (r .value ≡ max stay further) × (r .amount ≡ cond (ltb stay further) (1 + amount) 0) ⌝ }
 {
@@ -30,7 +30,7 @@ fn better(stay: u32, further: u32, amount: u16) -> Best
 }
 
 // At balance 0 nothing further can be withdrawn.
-fn first_row(work: &mut [u32], table: &mut [u16], base: usize, stride: usize)
+fn first_row(work: &mut [u64], table: &mut [u16], base: usize, stride: usize)
     requires { ⌜ Room (now work) (now table) base stride 1 ⌝ }
     ensures { λ _. ⌜ (now (work .exit) ≡ stored (now (work .entry)) 0 (cells (now (work .entry)) base stride 0) stride) × (now (table .exit) ≡ stored (now (table .entry)) 0 (λ (a : ℕ). 0) stride) ⌝ }
 {
@@ -41,7 +41,7 @@ fn first_row(work: &mut [u32], table: &mut [u16], base: usize, stride: usize)
 }
 
 // The row of balance b, from the row below it.
-fn further_row(work: &mut [u32], table: &mut [u16], base: usize, stride: usize, b: usize, k: u32)
+fn further_row(work: &mut [u64], table: &mut [u16], base: usize, stride: usize, b: usize, k: u64)
     requires { ⌜ Room (now work) (now table) base stride (b + 1) × Below (now work) (now table) base stride b k × (k ≤ 10000) ⌝ }
     ensures { λ _. ⌜ (now (work .exit) ≡ stored (now (work .entry)) (b * stride) (furtherValue (cells (now (work .entry)) base stride) k b) stride) × (now (table .exit) ≡ stored (now (table .entry)) (b * stride) (furtherAmount (cells (now (work .entry)) base stride) k b) stride) ⌝ }
 {
@@ -55,7 +55,7 @@ fn further_row(work: &mut [u32], table: &mut [u16], base: usize, stride: usize, 
     }
 }
 
-fn fill_row(work: &mut [u32], table: &mut [u16], base: usize, stride: usize, b: usize, k: u32)
+fn fill_row(work: &mut [u64], table: &mut [u16], base: usize, stride: usize, b: usize, k: u64)
     requires { ⌜ Room (now work) (now table) base stride (b + 1) × (1 ≤ b → Below (now work) (now table) base stride b k) × (k ≤ 10000) ⌝ }
     ensures { λ _. ⌜ (now (work .exit) ≡ stored (now (work .entry)) (b * stride) (furtherValue (cells (now (work .entry)) base stride) k b) stride) × (now (table .exit) ≡ stored (now (table .entry)) (b * stride) (furtherAmount (cells (now (work .entry)) base stride) k b) stride) ⌝ }
 {
@@ -68,12 +68,12 @@ fn fill_row(work: &mut [u32], table: &mut [u16], base: usize, stride: usize, b: 
 
 // The rows of balances 0 to n - 1.
 pub fn further_layer(
-    work: &mut [u32],
+    work: &mut [u64],
     table: &mut [u16],
     base: usize,
     stride: usize,
     n: usize,
-    k: u32,
+    k: u64,
 )
     requires { ⌜ Room (now work) (now table) base stride n × (k ≤ 10000) ⌝ }
     ensures { λ _. ⌜ (now (work .exit) ≡ stored (now (work .entry)) 0 (flat stride (furtherValue (cells (now (work .entry)) base stride) k)) (n * stride)) × (now (table .exit) ≡ stored (now (table .entry)) 0 (flat stride (furtherAmount (cells (now (work .entry)) base stride) k)) (n * stride)) ⌝ }

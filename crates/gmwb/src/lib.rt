@@ -46,10 +46,10 @@ pub extern "C" fn gmwb_value(
     bytes: &[u8],
     list: &[u8],
     behaviour: u64,
-    work: &mut [u32],
+    work: &mut [u64],
     table: &mut [u16],
     place: &mut u64,
-    value: &mut u32,
+    value: &mut u64,
     margin: &mut i64,
 ) -> u32
     ensures { λ r. ⌜ r ≡ valuingAnswer (now (bytes .entry)) (now (list .entry)) behaviour (now (work .entry)) (now (table .entry)) .number ⌝ }
@@ -74,11 +74,11 @@ pub extern "C" fn gmwb_value_map(
     bytes: &[u8],
     list: &[u8],
     behaviour: u64,
-    work: &mut [u32],
+    work: &mut [u64],
     table: &mut [u16],
     map: &mut [u64],
     place: &mut u64,
-    value: &mut u32,
+    value: &mut u64,
     margin: &mut i64,
     count: &mut u64,
 ) -> u32
@@ -102,10 +102,10 @@ pub extern "C" fn gmwb_value_map(
 pub extern "C" fn gmwb_value_table(
     bytes: &[u8],
     list: &[u8],
-    work: &mut [u32],
+    work: &mut [u64],
     table: &[u16],
     place: &mut u64,
-    value: &mut u32,
+    value: &mut u64,
     margin: &mut i64,
 ) -> u32
     ensures { λ r. ⌜ r ≡ suppliedAnswer (now (bytes .entry)) (now (list .entry)) (now (work .entry)) (now (table .entry)) .number ⌝ }
@@ -129,7 +129,7 @@ pub extern "C" fn gmwb_walk(
     list: &[u8],
     table: &[u16],
     path: &[u16],
-    cash: &mut [u32],
+    cash: &mut [u64],
     place: &mut u64,
 ) -> u32
     ensures { λ r. ⌜ r ≡ numberOf (walkVerdict (now (bytes .entry)) (now (list .entry)) (now (table .entry)) (now (path .entry)) (now (cash .entry))) ⌝ }

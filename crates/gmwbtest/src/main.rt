@@ -16,7 +16,7 @@ struct Left {
 }
 
 // Prints the answer to a line, and tells how many entries the last table has.
-fn tell(line: &[u8], held: usize, work: &mut [u32], table: &mut [u16]) -> usize
+fn tell(line: &[u8], held: usize, work: &mut [u64], table: &mut [u16]) -> usize
     requires { ⌜ held ≤ length (now table) ⌝ }
     ensures { λ r. ⌜ r ≤ length (now (table .entry)) ⌝ }
 {
@@ -28,7 +28,7 @@ fn tell(line: &[u8], held: usize, work: &mut [u32], table: &mut [u16]) -> usize
 }
 
 // Answers the lines that are whole.
-fn lines(text: &[u8], held: usize, work: &mut [u32], table: &mut [u16]) -> Left
+fn lines(text: &[u8], held: usize, work: &mut [u64], table: &mut [u16]) -> Left
     requires { ⌜ held ≤ length (now table) ⌝ }
     ensures { λ r. ⌜ (r .at ≤ length (now (text .entry))) × (r .table ≤ length (now (table .entry))) ⌝ }
 {
@@ -65,7 +65,7 @@ fn more(fd: i32, text: &mut [u8], held: usize) -> usize
     held + n
 }
 
-fn run(fd: i32, text: &mut [u8], work: &mut [u32], table: &mut [u16]) {
+fn run(fd: i32, text: &mut [u8], work: &mut [u64], table: &mut [u16]) {
     let mut held = 0;
     let mut last = 0;
     for piece in 0..PIECES {
@@ -85,7 +85,7 @@ fn main() {
         return;
     }
     let mut text = [0u8; 65536];
-    let mut work: [u32; 65536] = [0; 65536];
+    let mut work: [u64; 65536] = [0; 65536];
     let mut table: [u16; 65536] = [0; 65536];
     run(fd, &mut text, &mut work, &mut table);
     libc::close(fd);

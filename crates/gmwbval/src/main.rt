@@ -20,7 +20,7 @@ fn main() {
     let terms_length = read(b"terms.bin", &mut terms);
     let mut returns = [0u8; 512];
     let returns_length = read(b"returns.bin", &mut returns);
-    let mut work: [u32; 8192] = [0; 8192];
+    let mut work: [u64; 4096] = [0; 4096];
     let mut statics: [u16; 16384] = [0; 16384];
     let mut mixeds: [u16; 16384] = [0; 16384];
     let mut dynamics: [u16; 16384] = [0; 16384];

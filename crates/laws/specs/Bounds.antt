@@ -1,17 +1,17 @@
--- Values, cash, amounts and accounts of an accepted contract fit the widths of the slices. Assumes nothing.
+-- Values, amounts and accounts of an accepted contract fit the widths of the slices. Assumes nothing.
 use mathlib.Core.Path.{ap, _∙_}
 use Prim.Native.Nat.{ℕ, _+_, _-_, _*_, _/_, _^_, _≤_, _<_}
-use native.Mathlib.Nat.{le-trans, le-of-eq, mul-le-mul, mul-le-mul-left, div-le-of-le-mul, sub-le, max-le, min-le-left}
+use native.Mathlib.Nat.{le-trans, le-of-eq, mul-le-mul, mul-le-mul-left, mul-le-mul-right, mul-comm, mul-assoc, div-le-of-le-mul, sub-le, max-le, min-le-left}
 use native.Mathlib.Omega.{arith}
 use lib.Dec.{T}
 use Rattle.decision.specs.Index.{sum-le, sum-times}
 use Rattle.decision.specs.Process.{Table, tableValue, Decides}
 use Rattle.decision.specs.Optimal.{recorded-best}
 use Rattle.decision.specs.Bounds.{value-bounded, start-bounded, table-bounded}
-use Rattle.rules.specs.Contract.{Terms, Returns, discountMost, weightTotal}
-use Rattle.rules.specs.Date.{Behaviour, dynamic, penalty, cash, nextAccount, maturityValue, discounted}
+use Rattle.rules.specs.Contract.{Terms, Returns, discountMost, weightTotal, entryMost}
+use Rattle.rules.specs.Date.{Behaviour, dynamic, cash, nextAccount, maturityValue, discounted}
 use Rattle.rules.specs.Product.{stateValue, recordedAmount, contractValue}
-use Rattle.rules.specs.FixedTerm.{State, Held, InRange, freeIn, admissibleIn, rateIn, cashIn, reachBy, expectOver, processOf, fixedTerm}
+use Rattle.rules.specs.FixedTerm.{State, Held, InRange, freeIn, admissibleIn, cashIn, reachBy, expectOver, processOf, fixedTerm}
 use Rattle.laws.specs.Accepted.{Valid, ValidReturns}
 use Rattle.laws.specs.Date.{admits-within, amount-most}
 use Rattle.laws.specs.FixedTerm.{opened, closed}
@@ -26,13 +26,20 @@ pub cash-le : (rate m t : ℕ) → cash rate m t ≤ 10000 * t
 unfolding cash
 cash-le rate m t = sub-le _ _
 
+-- what no value of a contract passes: in each period three times top, a factor's most
+abbrev pub valueMost : Terms → ℕ
+valueMost c = 30000 * (c .top * c .dates)
+
+pub value-most : {c : Terms} → Valid c → valueMost c ≤ entryMost
+value-most v = mul-le-mul-left 30000 (mul-le-mul (v .top) (v .dates))
+
 module _ (c : Terms) (rs : Returns) (v : Valid c) (u : ValidReturns rs) where
   -- admissible amounts are at most top
   pub amount-le : (b : Behaviour) (s : State) (t : ℕ) → InRange c s → T (admissibleIn c b s t) → t ≤ c .top
   unfolding admissibleIn freeIn
   amount-le b s t g p = amount-most (c .level) (g .account) (le-trans (g .guarantee) (v .premium)) (admits-within b _ _ t p)
 
-  ends : (s : State) → InRange c s → processOf c rs .final s ≤ 10000 * c .top
+  pub ends : (s : State) → InRange c s → processOf c rs .final s ≤ 10000 * c .top
   unfolding processOf maturityValue
   ends s g = mul-le-mul-left 10000 (max-le (g .account) (le-trans (g .guarantee) (v .premium)))
 
@@ -67,25 +74,22 @@ module _ (c : Terms) (rs : Returns) (v : Valid c) (u : ValidReturns rs) where
   contract-value-le b =
       start-bounded (processOf c rs) (admissibleIn c b) (opened c rs b) (InRange c) (closed c rs b) (10000 * c .top) (10000 * c .top) ends (pays b) averages
 
-  -- .. so every value fits 32 bits (the largest is 1,600,000,000), with room for the cash of one more date
-  pub value-room : (i : ℕ) → 10000 * c .top + (c .dates - i) * (10000 * c .top) ≤ 4000000000
+  -- .. so no value passes the most that an entry holds
+  pub value-room : (i : ℕ) → 10000 * c .top + (c .dates - i) * (10000 * c .top) ≤ valueMost c
   value-room i =
-      let t : 10000 * c .top ≤ 40000000 = omega (arith, v .top) in
-      let n : c .dates - i ≤ 40 = omega (arith, v .dates) in
-      let p = mul-le-mul n t in
-      omega arith
+      let n = mul-le-mul-right (10000 * c .top) (sub-le (c .dates) i) in
+      let one = mul-le-mul-left (c .top) (v .dates-least) in
+      omega (arith, mul-comm (c .dates) (10000 * c .top), mul-assoc 10000 (c .top) (c .dates))
 
-  pub state-value-fits : (b : Behaviour) (i : ℕ) (s : State) → InRange c s → stateValue (fixedTerm c rs) b i s < 2 ^ 32
-  state-value-fits b i s g = let l = state-value-le b i s g in let m = value-room i in omega arith
+  pub state-value-most : (b : Behaviour) (i : ℕ) (s : State) → InRange c s → stateValue (fixedTerm c rs) b i s ≤ valueMost c
+  state-value-most b i s g = le-trans (state-value-le b i s g) (value-room i)
 
-  pub contract-value-fits : (b : Behaviour) → contractValue (fixedTerm c rs) b < 2 ^ 32
-  contract-value-fits b = let l = contract-value-le b in let m = value-room 1 in omega arith
+  pub table-value-most : (d : Table State)
+      → ((i : ℕ) (s : State) → Decides (processOf c rs) (InRange c) i s → T (admissibleIn c dynamic s (d i s)))
+      → (i : ℕ) (s : State) → 1 ≤ i → i ≤ c .dates → InRange c s → tableValue (processOf c rs) d i s ≤ valueMost c
+  table-value-most d admits i s l m g = le-trans (table-value-le d admits i s l m g) (value-room i)
 
-  -- .. as do cash and penalty; amounts and accounts fit 16
-  pub cash-fits : (b : Behaviour) (i : ℕ) (s : State) (t : ℕ) → InRange c s → T (admissibleIn c b s t) → cashIn c i s t < 2 ^ 32
-  unfolding cashIn
-  cash-fits b i s t g p = let l = cash-le (rateIn c i) (freeIn c s) t in let m = amount-le b s t g p in omega (arith, v .top)
-
+  -- amounts and accounts fit 16 bits
   pub amount-fits : (b : Behaviour) (s : State) (t : ℕ) → InRange c s → T (admissibleIn c b s t) → t < 2 ^ 16
   amount-fits b s t g p = let l = amount-le b s t g p in omega (arith, v .top)
 

@@ -11,3 +11,4 @@ pub mod Booking
 pub mod Supplied
 pub mod Step
 pub mod Map
+pub mod Narrow

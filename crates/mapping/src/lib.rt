@@ -23,7 +23,7 @@ pub fn value_map(
     bytes: &[u8],
     list: &[u8],
     behaviour: usize,
-    work: &mut [u32],
+    work: &mut [u64],
     table: &mut [u16],
     map: &mut [u64],
 ) -> Mapped

@@ -2,17 +2,18 @@
 use mathlib.Core.List.{List}
 use mathlib.Core.Logic.{_⊎_, inl, inr}
 use mathlib.Core.Path.{_≡_, refl, ap, sym, _∙_, subst, subst₂}
-use Prim.Native.Nat.{ℕ, _+_, _-_, _*_, _≤_, _<_, min}
+use Prim.Native.Nat.{ℕ, _+_, _-_, _*_, _^_, _≤_, _<_, max, min}
 use native.Mathlib.Nat.{le-refl, le-trans, le-of-eq}
 use native.Mathlib.Decide.{decLe}
 use native.Mathlib.Omega.{arith}
 use lib.ListN.{length, getD}
 use borrow.Author.Tests.{lt-ltb, le-ltb}
-use Rattle.rules.specs.Date.{Behaviour, static, mixed, freeAmount, cash}
+use Rattle.rules.specs.Contract.{entryMost}
+use Rattle.rules.specs.Date.{Behaviour, static, mixed, freeAmount, largestAmount, cash}
 use Rattle.slices.specs.Stored.{stored, length-stored, stored-in, stored-out, stored-join, stored-eq, is-stored}
 use Rattle.slices.specs.Rows.{cells, cells-kept, rows-le, rows-step}
 use Rattle.slices.specs.Offered.{Offered}
-use Rattle.worth.specs.Worth.{worthOver, bestValue, bestAmount}
+use Rattle.worth.specs.Worth.{worthOver, bestValue, bestAmount, worth-le}
 use Rattle.plain.specs.Row.{staticValue, Holds, Settled, Plain, mixedBelow}
 use Rattle.worth.specs.Laws.{free-is, state-found, static-best, mixed-kept, mixed-offered, surrender-is}
 
@@ -81,7 +82,7 @@ module _ {work table : List ℕ} {base stride w level : ℕ} (p : Plain work tab
   pub sums-room : (x y c : ℕ) → x ≤ w → y + c ≤ stride → base + (x * stride + y) + c ≤ length work
   sums-room x y c h l = let q = rows-le stride (x + 1) (w + 1) (omega arith) in let s = rows-step stride x in omega (arith, p .rows)
 
-  pub sum-small : (x y t : ℕ) → x ≤ w → y < stride → t ≤ 4000 → 10000 * t + cells work base stride x y < 4294967296
+  pub sum-small : (x y t : ℕ) → x ≤ w → y < stride → t ≤ 4000 → 10000 * t + cells work base stride x y < 2 ^ 63
   sum-small x y t h l k = let s = p .small x y h l in omega arith
 
   pub base-is : base + (0 * stride + 0) ≡ base
@@ -90,8 +91,25 @@ module _ {work table : List ℕ} {base stride w level : ℕ} (p : Plain work tab
   pub base-read : base < length work
   base-read = let r = sums-room 0 0 1 (omega arith) (omega (arith, p .level-is)) in omega arith
 
-  pub base-small : getD work base 0 ≤ 4000000000
-  base-small = subst (λ (z : ℕ). getD work z 0 ≤ 4000000000) base-is (p .small 0 0 (omega arith) (omega (arith, p .level-is)))
+  pub base-small : getD work base 0 ≤ entryMost
+  base-small = subst (λ (z : ℕ). getD work z 0 ≤ entryMost) base-is (p .small 0 0 (omega arith) (omega (arith, p .level-is)))
+
+  -- the values of a row can be compared
+  pub settled-small : {b : ℕ → Behaviour} {rate : ℕ} {work' table' work'' table'' : List ℕ}
+      → Settled b (cells work base stride) rate level w work' table' work'' table'' (w * stride) stride
+      → (a : ℕ) → a < stride → getD work'' (w * stride + a) 0 < 2 ^ 63
+  unfolding largestAmount freeAmount
+  settled-small {rate = rate} {table'' = table''} s a l =
+      let h = s .each a l in
+      let t = getD table'' (w * stride + a) 0 in
+      let m = worth-le (cells work base stride) rate (freeAmount level a) w a t entryMost (λ x y i j. p .small x y i (omega arith)) in
+      let n : t ≤ max w (min level a) = h .within in
+      omega (arith, h .worth, m, p .account, p .level-is, p .width)
+
+  -- .. and nothing of the sums has moved
+  pub base-settled : {b : ℕ → Behaviour} {rate : ℕ} {work'' table'' : List ℕ}
+      → Settled b (cells work base stride) rate level w work table work'' table'' (w * stride) stride → getD work'' base 0 ≤ entryMost
+  base-settled s = rw (s .work-out base (inr (let r = row-room 0 stride (omega arith) in omega arith))) base-small
 
   -- the row in two parts
   module _ {work' : List ℕ} (at : ℕ) (few : work' ≡ stored work (w * stride) (λ a. 10000 * a + cells work base stride (w - a) 0) level) (at-is : at ≡ base + (w - level) * stride) where

@@ -8,7 +8,7 @@ use lib.Dec.{ltb}
 use lib.ListN.{length, getD}
 use Rattle.decision.specs.Choice.{Best}
 use Rattle.slices.specs.Rows.{cells}
-use Rattle.rules.specs.Contract.{topMost}
+use Rattle.rules.specs.Contract.{topMost, entryMost}
 use Rattle.rules.specs.Date.{Behaviour, static, mixed, freeAmount, largestAmount, admits}
 use Rattle.worth.specs.Worth.{worthOver}
 
@@ -42,4 +42,4 @@ pub record Plain (work table : List ℕ) (base stride w level : ℕ) : Type 0 wh
   pub apart : (w + 1) * stride ≤ base
   pub rows : base + (w + 1) * stride ≤ length work
   pub entries : (w + 1) * stride ≤ length table
-  pub small : (x y : ℕ) → x ≤ w → y < stride → cells work base stride x y ≤ 4000000000
+  pub small : (x y : ℕ) → x ≤ w → y < stride → cells work base stride x y ≤ entryMost

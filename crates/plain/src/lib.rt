@@ -2,7 +2,7 @@
 // that they can be widened.
 ghost use mathlib.Core.Bool.{cond};
 ghost use mathlib.Core.Path.{_≡_};
-ghost use Prim.Native.Nat.{ℕ, _+_, _-_, _*_, _≤_, _<_, min};
+ghost use Prim.Native.Nat.{ℕ, _+_, _-_, _*_, _^_, _≤_, _<_, min};
 ghost use lib.Dec.{ltb};
 ghost use lib.ListN.{length, getD};
 ghost use Rattle.slices.specs.Stored.{stored};
@@ -14,14 +14,14 @@ ghost use Rattle.rules.specs.Operations.{behaviourOf};
 ghost use Rattle.worth.specs.Worth.{bestValue, bestAmount};
 ghost use Rattle.plain.specs.Row.{staticValue, Settled, Plain, mixedBelow};
 
-fn pick_amount(held: u32, other: u32, old: u16, new: u16) -> u16
+fn pick_amount(held: u64, other: u64, old: u16, new: u16) -> u16
     ensures { λ r. ⌜ r ≡ cond (ltb held other) new old ⌝ }
 {
     if held < other { new } else { old }
 }
 
-fn copy(work: &mut [u32], to: usize, at: usize, n: usize, cash: u32)
-    requires { ⌜ (to + n ≤ at) × (at + n ≤ length (now work)) × ((i : ℕ) → i < n → cash + getD (now work) (at + i) 0 < 4294967296) ⌝ }
+fn copy(work: &mut [u64], to: usize, at: usize, n: usize, cash: u64)
+    requires { ⌜ (to + n ≤ at) × (at + n ≤ length (now work)) × ((i : ℕ) → i < n → cash + getD (now work) (at + i) 0 < 2 ^ 63) ⌝ }
     ensures { λ _. ⌜ now (work .exit) ≡ stored (now (work .entry)) to (λ (i : ℕ). cash + getD (now (work .entry)) (at + i) 0) n ⌝ }
 {
     for i in 0..n {
@@ -40,7 +40,7 @@ fn fill(table: &mut [u16], to: usize, n: usize, t: u16)
 
 // Below the level m is the guarantee itself, and none is left.
 fn static_few(
-    work: &mut [u32],
+    work: &mut [u64],
     table: &mut [u16],
     base: usize,
     stride: usize,
@@ -52,14 +52,14 @@ fn static_few(
 {
     let row = w * stride;
     for a in 0..level {
-        work[row + a] = (10000 * a) as u32 + work[base + date::less(w, a) * stride];
+        work[row + a] = (10000 * a) as u64 + work[base + date::less(w, a) * stride];
         table[row + a] = a as u16;
     }
 }
 
 // Every state withdraws m.
 fn static_row(
-    work: &mut [u32],
+    work: &mut [u64],
     table: &mut [u16],
     base: usize,
     stride: usize,
@@ -72,11 +72,11 @@ fn static_row(
     static_few(work, table, base, stride, w, level);
     let to = w * stride + level;
     let at = base + date::less(w, level) * stride;
-    copy(work, to, at, stride - level, (10000 * level) as u32);
+    copy(work, to, at, stride - level, (10000 * level) as u64);
     fill(table, to, stride - level, level as u16);
 }
 
-fn mark(work: &[u32], table: &mut [u16], to: usize, n: usize, other: u32, t: u16)
+fn mark(work: &[u64], table: &mut [u16], to: usize, n: usize, other: u64, t: u16)
     requires { ⌜ (to + n ≤ length (now work)) × (to + n ≤ length (now table)) ⌝ }
     ensures { λ _. ⌜ now (table .exit) ≡ stored (now (table .entry)) to (λ (i : ℕ). cond (ltb (getD (now (work .entry)) (to + i) 0) other) t (getD (now (table .entry)) (to + i) 0)) n ⌝ }
 {
@@ -85,8 +85,8 @@ fn mark(work: &[u32], table: &mut [u16], to: usize, n: usize, other: u32, t: u16
     }
 }
 
-fn raise(work: &mut [u32], to: usize, n: usize, other: u32)
-    requires { ⌜ to + n ≤ length (now work) ⌝ }
+fn raise(work: &mut [u64], to: usize, n: usize, other: u64)
+    requires { ⌜ (to + n ≤ length (now work)) × (other < 2 ^ 63) × ((i : ℕ) → i < n → getD (now work) (to + i) 0 < 2 ^ 63) ⌝ }
     ensures { λ _. ⌜ now (work .exit) ≡ stored (now (work .entry)) to (λ (i : ℕ). cond (ltb (getD (now (work .entry)) (to + i) 0) other) other (getD (now (work .entry)) (to + i) 0)) n ⌝ }
 {
     for i in 0..n {
@@ -96,8 +96,13 @@ fn raise(work: &mut [u32], to: usize, n: usize, other: u32)
 }
 
 // Amount t, worth the same to each of n states.
-fn offer_same(work: &mut [u32], table: &mut [u16], to: usize, n: usize, other: u32, t: u16)
-    requires { ⌜ (to + n ≤ length (now work)) × (to + n ≤ length (now table)) ⌝ }
+fn offer_same(work: &mut [u64], table: &mut [u16], to: usize, n: usize, other: u64, t: u16)
+    requires { ⌜
+        (to + n ≤ length (now work))
+        × (to + n ≤ length (now table))
+        × (other < 2 ^ 63)
+        × ((i : ℕ) → i < n → getD (now work) (to + i) 0 < 2 ^ 63)
+        ⌝ }
     ensures { λ _. ⌜ Offered (now (work .entry)) (now (table .entry)) (now (work .exit)) (now (table .exit)) to n (λ (i : ℕ). other) (λ (i : ℕ). t) ⌝ }
 {
     mark(&work[..], table, to, n, other, t);
@@ -106,7 +111,7 @@ fn offer_same(work: &mut [u32], table: &mut [u16], to: usize, n: usize, other: u
 
 // The whole account, where the guarantee is below it and the level.
 fn surrender_few(
-    work: &mut [u32],
+    work: &mut [u64],
     table: &mut [u16],
     base: usize,
     stride: usize,
@@ -119,14 +124,14 @@ fn surrender_few(
 {
     let few = date::smaller(level, w);
     for a in 0..few {
-        let other = date::cash(rate, a, w) as u32 + work[base];
+        let other = date::cash(rate, a, w) as u64 + work[base];
         offer_same(work, table, w * stride + a, 1, other, w as u16);
     }
 }
 
 // The whole account, where it is above m.
 fn surrender_row(
-    work: &mut [u32],
+    work: &mut [u64],
     table: &mut [u16],
     base: usize,
     stride: usize,
@@ -139,7 +144,7 @@ fn surrender_row(
 {
     surrender_few(work, table, base, stride, w, level, rate);
     if level < w {
-        let other = date::cash(rate, level, w) as u32 + work[base];
+        let other = date::cash(rate, level, w) as u64 + work[base];
         offer_same(
             work,
             table,
@@ -154,7 +159,7 @@ fn surrender_row(
 // The values and the recorded amounts of a row under behaviour 0 static, 1 mixed.
 pub fn plain_row(
     behaviour: usize,
-    work: &mut [u32],
+    work: &mut [u64],
     table: &mut [u16],
     base: usize,
     stride: usize,

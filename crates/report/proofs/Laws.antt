@@ -81,12 +81,12 @@ lines-eq f g (suc n) h = ap₂ (λ (x y : List ℕ). x ++ y) (lines-eq f g n (λ
 
 module _ (bytes list : List ℕ) where
   -- the checks ask no more of the slices than their lengths
-  pub same-verdict : (behaviour : ℕ) (work table : List ℕ) → behaviour ≤ 2 → length work ≡ 8192 → length table ≡ 16384
+  pub same-verdict : (behaviour : ℕ) (work table : List ℕ) → behaviour ≤ 2 → length work ≡ 4096 → length table ≡ 16384
       → valuingVerdict bytes list behaviour work table ≡ programVerdict bytes list
   unfolding programVerdict valuingVerdict lentChecks valuingChecks short behaviourNumber
   same-verdict behaviour work table h long long-table =
       let known : ltb 2 behaviour ≡ ltb 2 0 = le-ltb 2 behaviour h ∙ sym (le-ltb 2 0 (omega arith)) in
-      let work-is : length work ≡ length {A = ℕ} (replicate 8192 0) = long ∙ sym (length-replicate {A = ℕ} 8192 0) in
+      let work-is : length work ≡ length {A = ℕ} (replicate 4096 0) = long ∙ sym (length-replicate {A = ℕ} 4096 0) in
       let table-is : length table ≡ length {A = ℕ} (replicate 16384 0) = long-table ∙ sym (length-replicate {A = ℕ} 16384 0) in
       λ i. verdict (recordChecks bytes ++ listChecks list ++ (check 10 0 (known i) ∷ check 11 0 (ltb (work-is i) (2 * layerSize (termsOf bytes)) || ltb (table-is i) (tableSize (termsOf bytes))) ∷ []))
 
@@ -96,7 +96,7 @@ module _ (bytes list : List ℕ) where
   refused-text (refused n p) h = refl
 
   -- what a refusal prints
-  pub refused-printed : (work table : List ℕ) (r : declared.Answer) → length work ≡ 8192 → length table ≡ 16384
+  pub refused-printed : (work table : List ℕ) (r : declared.Answer) → length work ≡ 4096 → length table ≡ 16384
       → r ≡ answerOf (valuingAnswer bytes list 0 work table) → (r .number ≡ 0 → ⊥) → line refusedWord (r .number ∷ r .place ∷ []) ≡ printed bytes list
   unfolding printed valuingAnswer answer
   refused-printed work table r long long-table e h =
@@ -105,7 +105,7 @@ module _ (bytes list : List ℕ) where
       let p : r .place ≡ placeOf (programVerdict bytes list) = ap (λ (a : declared.Answer). a .place) e ∙ ap placeOf same in
       ap₂ (λ (x y : ℕ). line refusedWord (x ∷ y ∷ [])) n p ∙ refused-text (programVerdict bytes list) (λ z. h (n ∙ z))
 
-  pub program-accepts : (work table : List ℕ) (r : declared.Answer) → length work ≡ 8192 → length table ≡ 16384
+  pub program-accepts : (work table : List ℕ) (r : declared.Answer) → length work ≡ 4096 → length table ≡ 16384
       → r ≡ answerOf (valuingAnswer bytes list 0 work table) → r .number ≡ 0 → programVerdict bytes list ≡ accepted
   program-accepts work table r long long-table e z =
       sym (same-verdict 0 work table (omega arith) long long-table)
@@ -115,7 +115,7 @@ module _ (bytes list : List ℕ) where
   pub filled : {t₀ t₁ t₂ : List ℕ} → programVerdict bytes list ≡ accepted → length t₀ ≡ 16384 → length t₁ ≡ 16384 → length t₂ ≡ 16384 → Filled bytes list t₀ t₁ t₂
   unfolding programVerdict behaviourNumber valuingVerdict valuingChecks
   filled a l₀ l₁ l₂ =
-      let work = replicate {A = ℕ} 8192 0 in
+      let work = replicate {A = ℕ} 4096 0 in
       let table = replicate {A = ℕ} 16384 0 in
       let c = termsOf bytes in
       let within = valuing-room bytes list 0 work table a .entries in
@@ -134,7 +134,7 @@ module _ (bytes list : List ℕ) where
         → getD table (entryBy (termsOf bytes) (returnsOf list) k) 0
         ≡ recordedAmount (productOf bytes list) (behaviourOf behaviour) 1 (reachBy (termsOf bytes) (returnsOf list) (startOf (termsOf bytes)) k)
 
-  pub valued : (behaviour : ℕ) (work table : List ℕ) (r : declared.Answer) (table' : List ℕ) → behaviour ≤ 2 → length work ≡ 8192 → length table ≡ 16384
+  pub valued : (behaviour : ℕ) (work table : List ℕ) (r : declared.Answer) (table' : List ℕ) → behaviour ≤ 2 → length work ≡ 4096 → length table ≡ 16384
       → programVerdict bytes list ≡ accepted
       → r ≡ answerOf (valuingAnswer bytes list behaviour work table) → table' ≡ valuingTable bytes list behaviour work table → Valued behaviour (r .value) table'
   unfolding productOf
@@ -196,7 +196,7 @@ tabled {t₀ = t₀} {t₁ = t₁} {t₂ = t₂} {c = c} x h f =
 
 -- ---- what the arrays hold at the end
 module _ (bytes list : List ℕ) where
-  module _ (behaviour : ℕ) (work table : List ℕ) (h : behaviour ≤ 2) (long : length work ≡ 8192) (long-table : length table ≡ 16384) where
+  module _ (behaviour : ℕ) (work table : List ℕ) (h : behaviour ≤ 2) (long : length work ≡ 4096) (long-table : length table ≡ 16384) where
     pub table-left : valuingTable bytes list behaviour work table ≡ tableLeft bytes list (behaviourOf behaviour) table
     unfolding valuingTable tableLeft
     table-left =
@@ -210,7 +210,7 @@ module _ (bytes list : List ℕ) where
         (same-verdict bytes list behaviour work table h long long-table)
 
   -- a refusal leaves all as it was
-  pub refuses : (work table : List ℕ) (r : declared.Answer) → length work ≡ 8192 → length table ≡ 16384
+  pub refuses : (work table : List ℕ) (r : declared.Answer) → length work ≡ 4096 → length table ≡ 16384
       → r ≡ answerOf (valuingAnswer bytes list 0 work table) → (r .number ≡ 0 → ⊥) → numberOf (programVerdict bytes list) ≡ 0 → ⊥
   unfolding valuingAnswer answer
   refuses work table r long long-table e h z =

@@ -59,12 +59,12 @@ fn word(out: &mut [u8], at: usize, text: &[u8]) -> usize
 }
 
 // A name and a value.
-fn value_line(out: &mut [u8], at: usize, name: &[u8], value: u32) -> usize
+fn value_line(out: &mut [u8], at: usize, name: &[u8], value: u64) -> usize
     requires { ⌜ at + (length (now name) + 22) ≤ length (now out) ⌝ }
     ensures { λ r. ⌜ Put (length (now (name .entry)) + 22) (now (out .entry)) at (line (now (name .entry)) (value ∷ [])) r (now (out .exit)) ⌝ }
 {
     let named = word(out, at, name);
-    let next = number(out, named, value as u64);
+    let next = number(out, named, value);
     byte(out, next, 10)
 }
 
@@ -80,7 +80,7 @@ fn refusal(out: &mut [u8], refused: u32, place: u64) -> usize
 }
 
 // The three lines of the values.
-fn value_lines(out: &mut [u8], statics: u32, mixeds: u32, dynamics: u32) -> usize
+fn value_lines(out: &mut [u8], statics: u64, mixeds: u64, dynamics: u64) -> usize
     requires { ⌜ 84 ≤ length (now out) ⌝ }
     ensures { λ r. ⌜ Put 84 (now (out .entry)) 0 (line (nameOf static) (statics ∷ []) ++ line (nameOf mixed) (mixeds ∷ []) ++ line (nameOf dynamic) (dynamics ∷ [])) r (now (out .exit)) ⌝ }
 {
@@ -199,7 +199,7 @@ fn all_lines(
 pub fn print(
     bytes: &[u8],
     list: &[u8],
-    work: &mut [u32; 8192],
+    work: &mut [u64; 4096],
     statics: &mut [u16; 16384],
     mixeds: &mut [u16; 16384],
     dynamics: &mut [u16; 16384],

@@ -216,3 +216,22 @@ pub printed-P : printed (packed P) returnsP
     49 ∷ 32 ∷ 49 ∷ 53 ∷ 32 ∷ 49 ∷ 48 ∷ 32 ∷ 53 ∷ 32 ∷ 53 ∷ 32 ∷ 49 ∷ 10 ∷ []
 unfolding sum first firstFrom largest smallestBest worth valueOver value recorded startValue word long bytesOf termsOf returnsOf freeAmount largestAmount surrenders admits rateOn penalty cash guaranteeAfter balanceAfter nextAccount maturityValue discounted stateValue recordedAmount contractValue freeIn admissibleIn limitIn cashIn afterIn reachBy expectOver startOf processOf layerSize layoutOf fixedTerm checkEach verdict outside short termsChecks recordChecks badReturn listChecks productOf behaviourNumber tableSize lentChecks valuingChecks valuingVerdict digits decimal numbered line nameOf linesOf valueLine returnLine lineCount valuesText textOf programVerdict printed packed P returnsP
 printed-P = refl
+
+-- "the program lends 4,096 working numbers, refusing by 11 what needs more": two layers of 64 × 32 entries, and of 683 × 3
+abbrev pub P-wide : ℕ → ℕ → Terms
+P-wide premium top = record {
+  premium = premium;
+  level = 1;
+  top = top;
+  dates = 2;
+  fee = 0;
+  penalty = 1000;
+  discount = 1000000;
+  step = 0;
+  spare = 0;
+}
+
+pub program-room : (programVerdict (packed (P-wide 31 63)) returnsP ≡ accepted)
+    × (programVerdict (packed (P-wide 2 682)) returnsP ≡ refused 11 0)
+unfolding sum first firstFrom word long bytesOf termsOf returnsOf layerSize checkEach verdict outside short termsChecks recordChecks badReturn listChecks behaviourNumber tableSize lentChecks valuingChecks valuingVerdict programVerdict packed returnsP
+program-room = (refl, refl)

@@ -16,7 +16,7 @@ use Rattle.rules.specs.Refusals.{Check, check, checkEach, Verdict, verdi
 unfoldable pub productOf : List ℕ → List ℕ → Product State Held
 productOf bytes list = fixedTerm (termsOf bytes) (returnsOf list)
 
--- "value (32-bit)", "margin (64-bit, signed)"
+-- "margin (64-bit, signed)"; "Working slices and value fields become 64-bit"
 pub record Answer : Type 0 where
   pub number : ℕ
   pub place : ℕ
@@ -172,7 +172,7 @@ walkChecks bytes list table path cashes =
 unfoldable pub walkVerdict : List ℕ → List ℕ → List ℕ → List ℕ → List ℕ → Verdict
 walkVerdict bytes list table path cashes = verdict (walkChecks bytes list table path cashes)
 
--- "fills N cash amounts (32-bit) in order ..; cash entries beyond N are untouched"
+-- "fills N cash amounts .. in order ..; cash entries beyond N are untouched"; "become 64-bit; cash in a walk too"
 unfoldable pub walkCashes : List ℕ → List ℕ → List ℕ → List ℕ → List ℕ → List ℕ
 walkCashes bytes list table path cashes =
     onSuccess (walkVerdict bytes list table path cashes) (walkCash (productOf bytes list) table path ++ drop (termsOf bytes .dates) cashes) cashes

@@ -67,9 +67,10 @@ module _ (X : Product State Held) where
   textOf accepted = valuesText
   textOf (refused n p) = line refusedWord (n ∷ p ∷ [])
 
--- "The program lends a working slice of 8,192 numbers and a table of 16,384." The three behaviours have the same checks.
+-- "the program lends 4,096 working numbers, refusing by 11 what needs more", ".. and a table of 16,384." The three behaviours
+-- have the same checks.
 unfoldable pub programVerdict : List ℕ → List ℕ → Verdict
-programVerdict bytes list = valuingVerdict bytes list (behaviourNumber static) (replicate 8192 0) (replicate 16384 0)
+programVerdict bytes list = valuingVerdict bytes list (behaviourNumber static) (replicate 4096 0) (replicate 16384 0)
 
 -- all that is printed
 unfoldable pub printed : List ℕ → List ℕ → List ℕ

@@ -156,10 +156,6 @@ fn wide16(x: u16) -> u64 {
     x as u64
 }
 
-fn wide32(x: u32) -> u64 {
-    x as u64
-}
-
 impl Number {
     // One digit more, where it fits 64 bits.
     fn more(self, d: u8) -> Number {
@@ -325,16 +321,6 @@ fn fill64(out: &mut [u64], n: usize, seed: u64, limit: u64)
     }
 }
 
-fn fill32(out: &mut [u32], n: usize, seed: u64, limit: u64)
-    requires { ⌜ (n ≤ length (now out)) × (0 < limit) ⌝ }
-{
-    let mut x = seed % 4294967291;
-    for i in 0..n {
-        out[i] = rest(x, limit) as u32;
-        x = (x + 7919) % 4294967291;
-    }
-}
-
 fn fill16(out: &mut [u16], n: usize, seed: u64, limit: u64)
     requires { ⌜ (n ≤ length (now out)) × (0 < limit) ⌝ }
 {
@@ -371,14 +357,6 @@ fn slice64(text: &[u8], out: &mut [u64]) -> Count
 {
     let p = shaped(text, 18446744073709551557, out.len());
     fill64(out, p.length, p.seed, p.limit);
-    p.count()
-}
-
-fn slice32(text: &[u8], out: &mut [u32]) -> Count
-    ensures { λ r. ⌜ r .n ≤ length (now (out .entry)) ⌝ }
-{
-    let p = shaped(text, 4294967291, out.len());
-    fill32(out, p.length, p.seed, p.limit);
     p.count()
 }
 
@@ -487,14 +465,6 @@ fn digest64(s: &[u64]) -> u64 {
     let mut h: u64 = 7;
     for i in 0..s.len() {
         h = mixed(h, s[i]);
-    }
-    h
-}
-
-fn digest32(s: &[u32]) -> u64 {
-    let mut h: u64 = 7;
-    for i in 0..s.len() {
-        h = mixed(h, wide32(s[i]));
     }
     h
 }
@@ -710,21 +680,21 @@ fn amounts(out: &mut [u8], answer: Answer) -> usize
     ensures { λ r. ⌜ r ≤ length (now (out .entry)) ⌝ }
 {
     let a = outcome(out, answer.number, answer.place);
-    let b = spaced(out, a, answer.value as u64);
+    let b = spaced(out, a, answer.value);
     let margin = answer.margin;
     signed(out, b, margin)
 }
 
 // The digests of a working slice and a table.
-fn digests(out: &mut [u8], at: usize, work: &[u32], table: &[u16]) -> usize
+fn digests(out: &mut [u8], at: usize, work: &[u64], table: &[u16]) -> usize
     requires { ⌜ at ≤ length (now out) ⌝ }
     ensures { λ r. ⌜ r ≤ length (now (out .entry)) ⌝ }
 {
-    let next = spaced(out, at, digest32(work));
+    let next = spaced(out, at, digest64(work));
     spaced(out, next, digest16(table))
 }
 
-fn valued(answer: Answer, work: &[u32], table: &[u16], out: &mut [u8]) -> usize
+fn valued(answer: Answer, work: &[u64], table: &[u16], out: &mut [u8]) -> usize
     ensures { λ r. ⌜ r ≤ length (now (out .entry)) ⌝ }
 {
     let a = amounts(out, answer);
@@ -736,7 +706,7 @@ fn value(
     record: &[u8],
     list: &[u8],
     behaviour: u64,
-    work: &mut [u32],
+    work: &mut [u64],
     table: &mut [u16],
     out: &mut [u8],
 ) -> usize
@@ -750,7 +720,7 @@ fn value_map(
     record: &[u8],
     list: &[u8],
     behaviour: u64,
-    work: &mut [u32],
+    work: &mut [u64],
     table: &mut [u16],
     map: &mut [u64],
     out: &mut [u8],
@@ -780,13 +750,13 @@ fn work_and_table(
     i: usize,
     j: usize,
     held: usize,
-    work: &mut [u32],
+    work: &mut [u64],
     table: &mut [u16],
 ) -> Lengths
     requires { ⌜ held ≤ length (now table) ⌝ }
     ensures { λ r. ⌜ (r .work ≤ length (now (work .entry))) × (r .table ≤ length (now (table .entry))) ⌝ }
 {
-    let c = slice32(part(line, SPACE, i), work);
+    let c = slice64(part(line, SPACE, i), work);
     let d = table16(part(line, SPACE, j), table, held);
     Lengths {
         known: c.known && d.known,
@@ -801,7 +771,7 @@ fn value_line(
     list: &[u8],
     line: &[u8],
     held: usize,
-    work: &mut [u32],
+    work: &mut [u64],
     table: &mut [u16],
     out: &mut [u8],
 ) -> Done
@@ -832,7 +802,7 @@ fn map_line(
     list: &[u8],
     line: &[u8],
     held: usize,
-    work: &mut [u32],
+    work: &mut [u64],
     table: &mut [u16],
     out: &mut [u8],
 ) -> Done
@@ -861,7 +831,7 @@ fn map_line(
     Done { text, table: n }
 }
 
-fn value_of(record: &[u8], list: &[u8], work: &mut [u32], table: &[u16], out: &mut [u8]) -> usize
+fn value_of(record: &[u8], list: &[u8], work: &mut [u64], table: &[u16], out: &mut [u8]) -> usize
     ensures { λ r. ⌜ r ≤ length (now (out .entry)) ⌝ }
 {
     let answer = supplied::value(record, list, work, table);
@@ -874,7 +844,7 @@ fn table_line(
     list: &[u8],
     line: &[u8],
     held: usize,
-    work: &mut [u32],
+    work: &mut [u64],
     table: &mut [u16],
     out: &mut [u8],
 ) -> Done
@@ -896,7 +866,7 @@ fn walked(
     list: &[u8],
     table: &[u16],
     path: &[u16],
-    cash: &mut [u32],
+    cash: &mut [u64],
     out: &mut [u8],
 ) -> usize
     ensures { λ r. ⌜ r ≤ length (now (out .entry)) ⌝ }
@@ -904,7 +874,7 @@ fn walked(
     let told = walk::walk(record, list, table, path, cash);
     let a = outcome(out, told.number, told.place);
     let b = spaced(out, a, digest16(table));
-    let c = spaced(out, b, digest32(cash));
+    let c = spaced(out, b, digest64(cash));
     byte(out, c, NEW_LINE)
 }
 
@@ -914,7 +884,7 @@ fn walk_line(
     list: &[u8],
     line: &[u8],
     held: usize,
-    work: &mut [u32],
+    work: &mut [u64],
     table: &mut [u16],
     out: &mut [u8],
 ) -> Done
@@ -948,7 +918,7 @@ fn with_list(
     list: &[u8],
     line: &[u8],
     held: usize,
-    work: &mut [u32],
+    work: &mut [u64],
     table: &mut [u16],
     out: &mut [u8],
 ) -> Done
@@ -972,7 +942,7 @@ fn list_line(
     line: &[u8],
     kind: usize,
     held: usize,
-    work: &mut [u32],
+    work: &mut [u64],
     table: &mut [u16],
     out: &mut [u8],
 ) -> Done
@@ -1007,7 +977,7 @@ fn kept(text: usize, held: usize) -> Done
 }
 
 // Answers a line at the start of out. `held` entries of the table are the last table.
-pub fn answer(line: &[u8], held: usize, work: &mut [u32], table: &mut [u16], out: &mut [u8]) -> Done
+pub fn answer(line: &[u8], held: usize, work: &mut [u64], table: &mut [u16], out: &mut [u8]) -> Done
     requires { ⌜ held ≤ length (now table) ⌝ }
     ensures { λ r. ⌜ (r .text ≤ length (now (out .entry))) × (r .table ≤ length (now (table .entry))) ⌝ }
 {

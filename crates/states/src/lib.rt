@@ -13,10 +13,10 @@ ghost use Rattle.states.specs.Row.{Deciding, Row};
 
 // A block of n states, to the entries from `at` on.
 fn store(
-    work: &mut [u32],
+    work: &mut [u64],
     table: &mut [u16],
-    values: &[u32; 64],
-    amounts: &[u32; 64],
+    values: &[u64; 64],
+    amounts: &[u64; 64],
     at: usize,
     n: usize,
 )
@@ -31,7 +31,7 @@ fn store(
 
 // The dynamic behaviour, for n guarantees of account w, from `from` on.
 fn dynamic_run(
-    work: &mut [u32],
+    work: &mut [u64],
     table: &mut [u16],
     base: usize,
     stride: usize,
@@ -45,8 +45,8 @@ fn dynamic_run(
     requires { ⌜ Row 2 (now work) (now table) base stride w level rate rising × (n ≤ 64) × (from + n ≤ stride) ⌝ }
     ensures { λ _. ⌜ (now (work .exit) ≡ stored (now (work .entry)) (w * stride + from) (λ (j : ℕ). bestValue dynamic (cells (now (work .entry)) base stride) rate level w (from + j)) n) × (now (table .exit) ≡ stored (now (table .entry)) (w * stride + from) (λ (j : ℕ). bestAmount dynamic (cells (now (work .entry)) base stride) rate level w (from + j)) n) ⌝ }
 {
-    let mut values = [0u32; 64];
-    let mut amounts = [0u32; 64];
+    let mut values = [0u64; 64];
+    let mut amounts = [0u64; 64];
     choose::dynamic_block(
         &mut values,
         &mut amounts,
@@ -66,7 +66,7 @@ fn dynamic_run(
 
 // .. for all of them, 64 at a time.
 fn dynamic_row(
-    work: &mut [u32],
+    work: &mut [u64],
     table: &mut [u16],
     base: usize,
     stride: usize,
@@ -89,7 +89,7 @@ fn dynamic_row(
 // The states of account w.
 fn decide_row(
     behaviour: usize,
-    work: &mut [u32],
+    work: &mut [u64],
     table: &mut [u16],
     base: usize,
     stride: usize,
@@ -109,7 +109,7 @@ fn decide_row(
 }
 
 // Whether the dynamic behaviour may pass amounts over. The others try none.
-fn rising(behaviour: usize, work: &[u32], base: usize, stride: usize, n: usize) -> bool
+fn rising(behaviour: usize, work: &[u64], base: usize, stride: usize, n: usize) -> bool
     requires { ⌜ (n ≤ 4001) × (stride ≤ 4001) × (base + n * stride ≤ length (now work)) ⌝ }
     ensures { λ r. ⌜ (r ≡ true → Rising (cells (now (work .entry)) base stride) stride n) ⌝ }
 {
@@ -122,7 +122,7 @@ fn rising(behaviour: usize, work: &[u32], base: usize, stride: usize, n: usize) 
 // The states of the accounts below n, from the last one down: each reads only the rows below its own.
 pub fn decide_layer(
     behaviour: usize,
-    work: &mut [u32],
+    work: &mut [u64],
     table: &mut [u16],
     base: usize,
     stride: usize,

@@ -3,7 +3,7 @@ use mathlib.Core.List.{List, _++_}
 use mathlib.Core.Logic.{inr}
 use mathlib.Core.Path.{_≡_, refl, ap, ap₂, sym, _∙_, subst}
 use Prim.Native.Nat.{ℕ, suc, _+_, _-_, _*_, _≤_, _<_, max}
-use native.Mathlib.Nat.{zero-add, le-trans, le-of-eq, min-le-right, sub-le}
+use native.Mathlib.Nat.{zero-add, le-trans, le-of-eq, min-le-right}
 use native.Mathlib.Omega.{arith}
 use lib.Dec.{T}
 use lib.ListN.{length, getD, drop, replicate}
@@ -15,16 +15,16 @@ use Rattle.decision.specs.Layers.{low-digit, lookup, layer}
 use Rattle.slices.specs.Parts.{part-at}
 use Rattle.slices.specs.Stored.{stored, length-stored, stored-out}
 use Rattle.slices.specs.Rows.{cells, flat, cells-kept, within-rows, rows-le, rows-step, row-next, layer-stored}
-use Rattle.rules.specs.Contract.{Terms, rateMost, termsOf, Returns, returnsOf}
-use Rattle.rules.specs.Date.{dynamic, freeAmount, admits, balanceAfter, guaranteeAfter, maturityValue, margin}
+use Rattle.rules.specs.Contract.{Terms, rateMost, termsOf, Returns, returnsOf, entryMost}
+use Rattle.rules.specs.Date.{dynamic, freeAmount, admits, maturityValue, margin}
 use Rattle.rules.specs.Product.{suppliedValue, suppliedLayer}
 use Rattle.rules.specs.Refusals.{Verdict, accepted, refused, verdict, numberOf, placeOf, onSuccess, recordChecks, listChecks}
-use Rattle.rules.specs.FixedTerm.{InRange, freeIn, admissibleIn, rateIn, cashIn, afterIn, reachBy, expectOver, startOf, processOf, layerSize, layoutOf, fixedTerm}
+use Rattle.rules.specs.FixedTerm.{freeIn, admissibleIn, rateIn, cashIn, afterIn, reachBy, expectOver, startOf, processOf, layerSize, layoutOf, fixedTerm}
 use Rattle.rules.specs.Operations.{productOf, answer, workAfter, tableSize, badAt, badEntry, tableChecks, suppliedChecks, suppliedVerdict, suppliedAnswer, suppliedWork}
 use Rattle.laws.specs.Supplied.{all-admitted}
-use Rattle.laws.specs.Date.{dynamic-is, amount-most, guarantee-le}
-use Rattle.laws.specs.Accepted.{Valid, then-accepted, then-refused}
-use Rattle.laws.specs.Bounds.{cash-le, table-value-le, value-room}
+use Rattle.laws.specs.Date.{dynamic-is}
+use Rattle.laws.specs.Accepted.{Valid, ValidReturns, then-accepted, then-refused}
+use Rattle.laws.specs.Bounds.{table-value-most, valueMost, value-most}
 use Rattle.expect.specs.Expected.{expected, reachedSum, Listing, expected-le, expected-same}
 use Rattle.worth.specs.Worth.{worthOver, worth-same}
 use Rattle.dates.specs.Back.{at}
@@ -67,18 +67,8 @@ module _ {work layer : List ℕ} {base stride level rate : ℕ} (w : ℕ) (d : F
       free = min-le-right level a;
       column = l;
       rows = rw (length-stored work (w * stride) f n) (d .room);
+      small = λ x y p q. subst (λ (e : ℕ → ℕ → ℕ). e x y ≤ entryMost) (sym sums-kept) (d .small x y (omega arith) (omega arith));
     }
-
-  pub value-small : (a : ℕ) → a < stride → followed (cells work base stride) (cells layer 0 stride) rate level w a ≤ 4040000000
-  unfolding worthOver balanceAfter freeAmount
-  value-small a l =
-      let t = cells layer 0 stride w a in
-      let m = freeAmount level a in
-      let c = cash-le rate m t in
-      let u : t ≤ 4000 = amount-most level (omega (arith, d .few)) (omega (arith, d .width)) (amount-within a l) in
-      let g = le-trans (guarantee-le m w a t) (sub-le a t) in
-      let s = d .small (w - t) (guaranteeAfter m w a t) (let z = sub-le w t in omega arith) (omega arith) in
-      omega arith
 
 -- ---- row after row
 module _ {work layer : List ℕ} {base stride n level rate : ℕ} (d : Following work layer base stride n level rate) (w : ℕ) (h : w + 1 ≤ n) where
@@ -117,23 +107,23 @@ module _ {c : Terms} {count rate : ℕ} {work layer list : List ℕ} (d : OneDat
     unfolding layerSize
     sums-are w a h l =
         ap (λ (xs : List ℕ). cells xs ((c .top + 1) * (c .premium + 1)) (c .premium + 1) w a) is
-        ∙ layer-stored work ((c .top + 1) * (c .premium + 1)) (c .premium + 1) (c .top + 1) _ (d .layers .room) .cell w a (omega arith) (omega arith)
+        ∙ layer-stored work ((c .top + 1) * (c .premium + 1)) (c .premium + 1) (c .top + 1) _ (d .first .layers .room) .cell w a (omega arith) (omega arith)
 
     pub following : Following work₁ layer ((c .top + 1) * (c .premium + 1)) (c .premium + 1) (c .top + 1) (c .level) rate
     unfolding layerSize
     following =
-        let v = d .layers .valid in
+        let v = d .first .layers .valid in
         record {
           few = omega (arith, v .top);
           width = omega (arith, v .premium, v .top);
           rate-is = d .rate-is;
           apart = omega arith;
-          room = rw (ap length is ∙ length-stored work _ _ _) (d .layers .room);
+          room = rw (ap length is ∙ length-stored work _ _ _) (d .first .layers .room);
           entries = omega (arith, d .layer-is);
           admitted = λ w a i k. d .admitted w a (omega arith) (omega arith);
           small = λ w a i k.
               rw (sums-are w a (omega arith) (omega arith))
-              (expected-le c (returnsOf list) (cells work 0 (c .premium + 1)) w a 4000000000 v (d .listing .valid) (λ x h. d .small x a h (omega arith)));
+              (expected-le c (returnsOf list) (cells work 0 (c .premium + 1)) w a entryMost v (d .listing .valid) (λ x h. le-trans (d .first .small x a h (omega arith)) (value-most v)));
         }
 
     module _ (work₂ : List ℕ)
@@ -192,6 +182,14 @@ unfolding admissibleIn freeIn processOf
 admitted-at c rs table valid none i w a some before h l =
     all-admitted c rs table valid none i (at w a) (record { from = some; before = before; range = record { account = h; guarantee = l } })
 
+-- no value of a table whose entries are admitted is above what a contract's values can be
+pub table-on-most : {c : Terms} (rs : Returns) (table : List ℕ) → Valid c → ValidReturns rs
+    → tableSize c ≤ first (badEntry c table) (tableSize c)
+    → (i w a : ℕ) → 1 ≤ i → i ≤ c .dates → w ≤ c .top → a ≤ c .premium → tableOn c rs table i w a ≤ valueMost c
+table-on-most {c} rs table v u none i w a some before h l =
+    let good = all-admitted c rs table v none in
+    table-value-most c rs v u (lookup (layoutOf c) table) good i (at w a) some before (record { account = h; guarantee = l })
+
 module _ {c : Terms} {count : ℕ} {work₀ table list work : List ℕ} (s : Starting c count work₀ table list)
     {i from to : ℕ} (p : DateLayer c i from to) (some : 0 < i) (before : i < c .dates)
     (v : First (tableOn c (returnsOf list) table (suc i)) c work₀ work)
@@ -207,22 +205,17 @@ module _ {c : Terms} {count : ℕ} {work₀ table list work : List ℕ} (s : Sta
     one-date small-rate = record {
       rate-is = small-rate;
       listing = s .listing;
-      layers = record { valid = s .layers .valid; room = omega (arith, s .layers .room, v .long) };
+      first = record {
+        layers = record { valid = s .layers .valid; room = omega (arith, s .layers .room, v .long) };
+        small = λ w a h l.
+            le-trans (le-of-eq (v .values w a h l))
+            (table-on-most (returnsOf list) table (s .layers .valid) (s .listing .valid) (s .none-bad) (suc i) w a (omega arith) (omega arith) h l);
+      };
       layer-is = layer-long p table (s .entries);
       admitted = λ w a h l.
           subst (λ (t : ℕ). T (admits dynamic (freeAmount (c .level) a) w t)) (sym (amount-is w a h l))
           (admitted-at c (returnsOf list) table (s .layers .valid) (s .none-bad) i w a some before h l);
-      small = λ w a h l. le-trans (le-of-eq (v .values w a h l)) (small w a h l);
     }
-      where
-        small : (w a : ℕ) → w ≤ c .top → a ≤ c .premium → tableOn c (returnsOf list) table (suc i) w a ≤ 4000000000
-        small w a h l =
-            let v = s .layers .valid in
-            let u = s .listing .valid in
-            let good = all-admitted c (returnsOf list) table v (s .none-bad) in
-            let g : InRange c (at w a) = record { account = h; guarantee = l } in
-            le-trans (table-value-le c (returnsOf list) v u (lookup (layoutOf c) table) good (suc i) (at w a) (omega arith) (omega arith) g)
-            (value-room c (returnsOf list) v u (suc i))
 
     -- the sums are those of the next date's values
     next-sums : (x y : ℕ) → y ≤ c .premium

@@ -8,13 +8,13 @@ use Rattle.decision.specs.Index.{first}
 use Rattle.decision.specs.Process.{tableValue}
 use Rattle.decision.specs.Layers.{lookup}
 use Rattle.slices.specs.Rows.{cells}
-use Rattle.rules.specs.Contract.{Terms, Returns, topMost, rateMost}
+use Rattle.rules.specs.Contract.{Terms, Returns, topMost, rateMost, entryMost}
 use Rattle.rules.specs.Date.{dynamic, freeAmount, admits, maturityValue}
 use Rattle.rules.specs.Product.{suppliedValue, suppliedLayer}
 use Rattle.rules.specs.FixedTerm.{layerSize, layoutOf, processOf, fixedTerm}
 use Rattle.rules.specs.Refusals.{Verdict}
 use Rattle.rules.specs.Operations.{answer, workAfter, tableSize, badEntry}
-use Rattle.expect.specs.Expected.{expected, Listing, Layers}
+use Rattle.expect.specs.Expected.{expected, Listing, Layers, Values}
 use Rattle.worth.specs.Worth.{worthOver}
 use Rattle.dates.specs.Back.{at}
 use Rattle.valuing.specs.declared.Answer as declared
@@ -27,6 +27,7 @@ pub record State (work : List ℕ) (base stride w a m : ℕ) : Type 0 where
   pub free : m ≤ a
   pub column : a < stride
   pub rows : base + (w + 1) * stride ≤ length work
+  pub small : (x y : ℕ) → x ≤ w → y ≤ a → cells work base stride x y ≤ entryMost
 
 -- what the amounts in t are worth over the discounted sums e
 abbrev pub followed : (ℕ → ℕ → ℕ) → (ℕ → ℕ → ℕ) → ℕ → ℕ → ℕ → ℕ → ℕ
@@ -41,16 +42,15 @@ pub record Following (work layer : List ℕ) (base stride n level rate : ℕ) : 
   pub room : base + n * stride ≤ length work
   pub entries : n * stride ≤ length layer
   pub admitted : (w a : ℕ) → w < n → a < stride → T (admits dynamic (freeAmount level a) w (cells layer 0 stride w a))
-  pub small : (w a : ℕ) → w < n → a < stride → cells work base stride w a ≤ 4000000000
+  pub small : (w a : ℕ) → w < n → a < stride → cells work base stride w a ≤ entryMost
 
 -- one date back, at its penalty rate
 pub record OneDate (c : Terms) (count rate : ℕ) (work layer list : List ℕ) : Type 0 where
   pub rate-is : rate ≤ rateMost
   pub listing : Listing list count
-  pub layers : Layers c work
+  pub first : Values c work
   pub layer-is : length layer ≡ layerSize c
   pub admitted : (w a : ℕ) → w ≤ c .top → a ≤ c .premium → T (admits dynamic (freeAmount (c .level) a) w (cells layer 0 (c .premium + 1) w a))
-  pub small : (w a : ℕ) → w ≤ c .top → a ≤ c .premium → cells work 0 (c .premium + 1) w a ≤ 4000000000
 
 pub record Back (c : Terms) (rs : Returns) (rate : ℕ) (work layer work' : List ℕ) : Type 0 where
   pub long : length work' ≡ length work

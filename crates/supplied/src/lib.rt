@@ -71,7 +71,7 @@ fn first_bad(table: &[u16], c: Contract) -> usize
 
 // What amount t is worth.
 fn worth(
-    work: &[u32],
+    work: &[u64],
     base: usize,
     stride: usize,
     w: usize,
@@ -91,7 +91,7 @@ fn worth(
 
 // The states of account w.
 fn follow_row(
-    work: &mut [u32],
+    work: &mut [u64],
     layer: &[u16],
     base: usize,
     stride: usize,
@@ -106,13 +106,13 @@ fn follow_row(
     for a in 0..stride {
         let i = row + a;
         let t = date::wide16(layer[i]);
-        work[i] = worth(&work[..], base, stride, w, a, level, rate, t) as u32;
+        work[i] = worth(&work[..], base, stride, w, a, level, rate, t) as u64;
     }
 }
 
 // The states of the accounts below n.
 fn follow_layer(
-    work: &mut [u32],
+    work: &mut [u64],
     layer: &[u16],
     base: usize,
     stride: usize,
@@ -129,7 +129,7 @@ fn follow_layer(
 }
 
 // The values of one date, at its penalty rate.
-fn follow_date(work: &mut [u32], layer: &[u16], list: &[u8], count: usize, c: Contract, rate: usize)
+fn follow_date(work: &mut [u64], layer: &[u16], list: &[u8], count: usize, c: Contract, rate: usize)
     requires { ⌜ OneDate (termsIn c) count rate (now work) (now layer) (now list) ⌝ }
     ensures { λ _. ⌜ Back (termsIn c) (returnsOf (now (list .entry))) rate (now (work .entry)) (now (layer .entry)) (now (work .exit)) ⌝ }
 {
@@ -140,7 +140,7 @@ fn follow_date(work: &mut [u32], layer: &[u16], list: &[u8], count: usize, c: Co
 }
 
 // Every decision date, from the last to the first, each by its own layer of the table.
-fn follow_dates(work: &mut [u32], table: &[u16], list: &[u8], count: usize, c: Contract)
+fn follow_dates(work: &mut [u64], table: &[u16], list: &[u8], count: usize, c: Contract)
     requires { ⌜ Starting (termsIn c) count (now work) (now table) (now list) ⌝ }
     ensures { λ _. ⌜ First (tableOn (termsIn c) (returnsOf (now (list .entry))) (now (table .entry)) 1) (termsIn c) (now (work .entry)) (now (work .exit)) ⌝ }
 {
@@ -156,7 +156,7 @@ fn follow_dates(work: &mut [u32], table: &[u16], list: &[u8], count: usize, c: C
 }
 
 // Values a table under terms and returns that were read.
-fn valued(c: Contract, list: &[u8], count: usize, work: &mut [u32], table: &[u16]) -> Answer
+fn valued(c: Contract, list: &[u8], count: usize, work: &mut [u64], table: &[u16]) -> Answer
     requires { ⌜ Ready (termsIn c) count (now list) ⌝ }
     ensures { λ r. ⌜ Answered (termsIn c) (returnsOf (now (list .entry))) (verdict (tableChecks (termsIn c) (now (work .entry)) (now (table .entry)))) (now (work .entry)) (now (table .entry)) r (now (work .exit)) ⌝ }
 {
@@ -179,7 +179,7 @@ fn valued(c: Contract, list: &[u8], count: usize, work: &mut [u32], table: &[u16
 }
 
 // Values a supplied table: answers number, place, value and margin.
-pub fn value(bytes: &[u8], list: &[u8], work: &mut [u32], table: &[u16]) -> Answer
+pub fn value(bytes: &[u8], list: &[u8], work: &mut [u64], table: &[u16]) -> Answer
     ensures { λ r. ⌜ r ≡ answerOf (suppliedAnswer (now (bytes .entry)) (now (list .entry)) (now (work .entry)) (now (table .entry))) ⌝ }
     ensures { λ _. ⌜ now (work .exit) ≡ suppliedWork (now (bytes .entry)) (now (list .entry)) (now (work .entry)) (now (table .entry)) ⌝ }
 {

@@ -3,7 +3,7 @@ use mathlib.Core.List.{List, _++_}
 use mathlib.Core.Logic.{inr}
 use mathlib.Core.Path.{_≡_, ap, sym, _∙_}
 use Prim.Native.Nat.{ℕ, _+_, _-_, _*_, _/_, _%_, _≤_, _<_}
-use native.Mathlib.Nat.{mod-lt, div-add-mod', div-lt-iff-lt-mul}
+use native.Mathlib.Nat.{le-trans, le-of-eq, mod-lt, div-add-mod', div-lt-iff-lt-mul}
 use native.Mathlib.Omega.{arith}
 use lib.ListN.{length, getD, drop, replicate}
 use Rattle.decision.specs.Index.{tabulate}
@@ -15,6 +15,7 @@ use Rattle.rules.specs.FixedTerm.{layerSize}
 use Rattle.rules.specs.Refusals.{recordChecks, listChecks}
 use Rattle.rules.specs.Operations.{valuingChecks, valuingVerdict}
 use Rattle.laws.specs.Accepted.{Valid, ValidReturns, then-earlier}
+use Rattle.laws.specs.Bounds.{valueMost}
 use Rattle.laws.specs.Valuing.{valuing-room}
 use Rattle.contract.specs.declared.Outcome.{Outcome}
 use Rattle.contract.specs.declared.Contract.{Contract}
@@ -65,9 +66,16 @@ first-mature c work room e w a h l =
     ap (λ (xs : List ℕ). cells xs 0 (c .premium + 1) w a) e
     ∙ layer-stored work 0 (c .premium + 1) (c .top + 1) maturityValue (omega arith) .cell w a (omega arith) (omega arith)
 
-pub settling : {c : Terms} {count : ℕ} {list work' : List ℕ} (work : List ℕ) → Valid c → Listing list count
-    → layerSize c + layerSize c ≤ length work → length work' ≡ length work → Settling c count work' list
-settling work valid listing room long = record { listing = listing; layers = record { valid = valid; room = omega arith } }
+pub settling : {f : ℕ → ℕ → ℕ} {c : Terms} {count : ℕ} {list work work' : List ℕ} → Valid c → Listing list count
+    → layerSize c + layerSize c ≤ length work → First f c work work' → ((w a : ℕ) → w ≤ c .top → a ≤ c .premium → f w a ≤ valueMost c)
+    → Settling c count work' list
+settling valid listing room v most = record {
+  listing = listing;
+  first = record {
+    layers = record { valid = valid; room = omega (arith, v .long) };
+    small = λ w a h l. le-trans (le-of-eq (v .values w a h l)) (most w a h l);
+  };
+}
 
 -- ---- what was read
 abbrev pub refused-by : Outcome → declared.Answer

@@ -2,7 +2,7 @@
 ghost use mathlib.Core.Path.{_≡_};
 ghost use mathlib.Core.Bool.{_||_};
 ghost use Prim.Native.Nat.{_*_, _≤_};
-ghost use Rattle.rules.specs.Contract.{topMost, returnsOf};
+ghost use Rattle.rules.specs.Contract.{topMost, entryMost, returnsOf};
 ghost use Rattle.rules.specs.Date.{margin};
 ghost use Rattle.rules.specs.Product.{Claim};
 ghost use Rattle.rules.specs.FixedTerm.{layerSize};
@@ -18,12 +18,12 @@ use contract::Outcome;
 pub struct Answer {
     pub number: u32,
     pub place: u64,
-    pub value: u32,
+    pub value: u64,
     pub margin: i64,
 }
 
-fn margin(value: u32, premium: usize) -> i64
-    requires { ⌜ premium ≤ topMost ⌝ }
+fn margin(value: u64, premium: usize) -> i64
+    requires { ⌜ (value ≤ entryMost) × (premium ≤ topMost) ⌝ }
     ensures { λ r. ⌜ r ≡ margin value premium ⌝ }
 {
     (value as i64) - ((10000 * premium) as i64)
@@ -41,7 +41,7 @@ pub fn refused(outcome: Outcome) -> Answer
 }
 
 // Refusal 11.
-pub fn too_short(c: Contract, work: &[u32], table: &[u16]) -> bool
+pub fn too_short(c: Contract, work: &[u64], table: &[u16]) -> bool
     requires { ⌜ Valid (termsIn c) ⌝ }
     ensures { λ r. ⌜ r ≡ (short (2 * layerSize (termsIn c)) (now (work .entry)) || short (tableSize (termsIn c)) (now (table .entry))) ⌝ }
 {
@@ -52,7 +52,7 @@ pub fn too_short(c: Contract, work: &[u32], table: &[u16]) -> bool
 }
 
 // The answer and the working slice, once the first layer holds the values of date 1.
-pub fn settle(work: &mut [u32], list: &[u8], count: usize, c: Contract) -> Answer
+pub fn settle(work: &mut [u64], list: &[u8], count: usize, c: Contract) -> Answer
     requires { ⌜ Settling (termsIn c) count (now work) (now list) ⌝ }
     ensures { λ r. ⌜ Settled (termsIn c) (returnsOf (now (list .entry))) (now (work .entry)) r (now (work .exit)) ⌝ }
 {
@@ -68,7 +68,7 @@ pub fn settle(work: &mut [u32], list: &[u8], count: usize, c: Contract) -> Answe
 }
 
 // What a valuation is given, checked in order: record, list, behaviour, the lengths of the slices.
-pub fn check(bytes: &[u8], list: &[u8], behaviour: usize, work: &[u32], table: &[u16]) -> Agreement
+pub fn check(bytes: &[u8], list: &[u8], behaviour: usize, work: &[u64], table: &[u16]) -> Agreement
     ensures { λ r. ⌜ r ≡ valuingAgreed (now (bytes .entry)) (now (list .entry)) behaviour (now (work .entry)) (now (table .entry)) ⌝ }
 {
     let agreement = contract::read(bytes, list);
@@ -96,7 +96,7 @@ pub fn valued(
     list: &[u8],
     count: usize,
     behaviour: usize,
-    work: &mut [u32],
+    work: &mut [u64],
     table: &mut [u16],
 ) -> Answer
     requires { ⌜ Lent behaviour (termsIn c) count (now list) (now work) (now table) ⌝ }
@@ -112,7 +112,7 @@ pub fn value(
     bytes: &[u8],
     list: &[u8],
     behaviour: usize,
-    work: &mut [u32],
+    work: &mut [u64],
     table: &mut [u16],
 ) -> Answer
     ensures { λ r. ⌜ r ≡ answerOf (valuingAnswer (now (bytes .entry)) (now (list .entry)) behaviour (now (work .entry)) (now (table .entry))) ⌝ }

@@ -28,7 +28,7 @@ pub struct Place {
 }
 
 // Refusal 11.
-fn too_short(c: Contract, table: &[u16], cash: &[u32]) -> bool
+fn too_short(c: Contract, table: &[u16], cash: &[u64]) -> bool
     requires { ⌜ Valid (termsIn c) ⌝ }
     ensures { λ r. ⌜ r ≡ (short (tableSize (termsIn c)) (now (table .entry)) || short (c .dates) (now (cash .entry))) ⌝ }
 {
@@ -159,7 +159,7 @@ fn cash_on(c: Contract, i: usize, place: Place, t: usize) -> usize
 }
 
 // Pays the cash of each date, and at maturity.
-fn pay(c: Contract, list: &[u8], count: usize, table: &[u16], path: &[u16], cash: &mut [u32])
+fn pay(c: Contract, list: &[u8], count: usize, table: &[u16], path: &[u16], cash: &mut [u64])
     requires { ⌜ Walking (termsIn c) count (now list) (now table) (now path) × (c .dates ≤ length (now cash)) × (c .dates - 1 ≤ first (badDate (termsIn c) (returnsOf (now list)) (now table) (now path)) (c .dates - 1)) ⌝ }
     ensures { λ _. ⌜ now (cash .exit) ≡ set (stored (now (cash .entry)) 0 (paid (termsIn c) (returnsOf (now (list .entry))) (now (table .entry)) (now (path .entry))) (c .dates - 1)) (c .dates - 1) (paidLast (termsIn c) (returnsOf (now (list .entry))) (now (table .entry)) (now (path .entry))) ⌝ }
 {
@@ -167,12 +167,12 @@ fn pay(c: Contract, list: &[u8], count: usize, table: &[u16], path: &[u16], cash
     let mut i: usize = 1;
     while i < c.dates {
         let t = amount_on(c, list, count, table, path, i, place);
-        cash[i - 1] = cash_on(c, i, place, t) as u32;
+        cash[i - 1] = cash_on(c, i, place, t) as u64;
         place = next_place(c, list, count, table, path, i, place, t);
         i += 1;
     }
     let last = c.dates - 1;
-    cash[last] = date::maturity_value(place.account, place.guarantee) as u32;
+    cash[last] = date::maturity_value(place.account, place.guarantee) as u64;
 }
 
 fn outcome(number: u32, place: usize) -> Outcome
@@ -191,7 +191,7 @@ fn walked(
     count: usize,
     table: &[u16],
     path: &[u16],
-    cash: &mut [u32],
+    cash: &mut [u64],
 ) -> Outcome
     requires { ⌜ Ready (termsIn c) count (now list) ⌝ }
     ensures { λ r. ⌜ Walked (termsIn c) (returnsOf (now (list .entry))) (verdict (pathChecks (termsIn c) (returnsOf (now (list .entry))) (now (table .entry)) (now (path .entry)) (now (cash .entry)))) (now (table .entry)) (now (path .entry)) (now (cash .entry)) r (now (cash .exit)) ⌝ }
@@ -215,7 +215,7 @@ fn walked(
 }
 
 // Walks a contract along a path, and fills N cash amounts.
-pub fn walk(bytes: &[u8], list: &[u8], table: &[u16], path: &[u16], cash: &mut [u32]) -> Outcome
+pub fn walk(bytes: &[u8], list: &[u8], table: &[u16], path: &[u16], cash: &mut [u64]) -> Outcome
     ensures { λ r. ⌜ r ≡ outcomeOf (walkVerdict (now (bytes .entry)) (now (list .entry)) (now (table .entry)) (now (path .entry)) (now (cash .entry))) ⌝ }
     ensures { λ _. ⌜ now (cash .exit) ≡ walkCashes (now (bytes .entry)) (now (list .entry)) (now (table .entry)) (now (path .entry)) (now (cash .entry)) ⌝ }
 {

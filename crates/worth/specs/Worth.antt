@@ -1,10 +1,11 @@
 -- The value and the recorded amount of a state, over the discounted sums e of balance and guarantee. Assumes nothing.
 use mathlib.Core.Path.{_≡_, ap}
-use Prim.Native.Nat.{ℕ, _+_, _-_, _≤_}
-use native.Mathlib.Nat.{le-trans, sub-le}
+use Prim.Native.Nat.{ℕ, _+_, _-_, _*_, _≤_}
+use native.Mathlib.Nat.{le-trans, sub-le, add-le-add}
 use Rattle.decision.specs.Choice.{largest, smallestBest, largest-eq, smallestBest-eq}
 use Rattle.rules.specs.Date.{Behaviour, freeAmount, largestAmount, admits, cash, balanceAfter, guaranteeAfter}
 use Rattle.laws.specs.Date.{guarantee-le}
+use Rattle.laws.specs.Bounds.{cash-le}
 
 -- "a choice is worth its cash plus" the discounted sum
 unfoldable pub worthOver : (ℕ → ℕ → ℕ) → ℕ → ℕ → ℕ → ℕ → ℕ → ℕ
@@ -26,6 +27,12 @@ bestAmount b e rate level w a =
 pub worth-same : (e e' : ℕ → ℕ → ℕ) (rate m w a t : ℕ) → ((x y : ℕ) → x ≤ w → y ≤ a → e x y ≡ e' x y) → worthOver e rate m w a t ≡ worthOver e' rate m w a t
 unfolding worthOver balanceAfter
 worth-same e e' rate m w a t same = ap (λ (z : ℕ). cash rate m t + z) (same _ _ (sub-le w t) (le-trans (guarantee-le m w a t) (sub-le a t)))
+
+-- .. and an amount is worth its cash and no more than the largest of them
+pub worth-le : (e : ℕ → ℕ → ℕ) (rate m w a t most : ℕ) → ((x y : ℕ) → x ≤ w → y ≤ a → e x y ≤ most)
+    → worthOver e rate m w a t ≤ 10000 * t + most
+unfolding worthOver balanceAfter
+worth-le e rate m w a t most h = add-le-add (cash-le rate m t) (h _ _ (sub-le w t) (le-trans (guarantee-le m w a t) (sub-le a t)))
 
 module _ (b : Behaviour) (e e' : ℕ → ℕ → ℕ) (rate level w a : ℕ) (same : (x y : ℕ) → x ≤ w → y ≤ a → e x y ≡ e' x y) where
   pub value-same : bestValue b e rate level w a ≡ bestValue b e' rate level w a

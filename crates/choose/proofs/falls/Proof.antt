@@ -17,29 +17,29 @@ abbrev μ-loop : tie.MeasureT-loop
 loop-holds : tie.Need-loop-holds Inv-loop μ-loop
 loop-holds c = (omega arith, omega arith, λ z k l. absurd (omega arith))
 
-add-pick : tie.Need-add-pick Inv-loop μ-loop
-add-pick c = let p = c .before .before .before .pre .1 (c .before .loop .i) (c .loop-test .taken) in omega arith
+add-pick-any : tie.Need-add-pick-any Inv-loop μ-loop
+add-pick-any c = let p = c .before .before .before .pre .1 (c .before .loop .i) (c .loop-test .taken) in omega arith
 
-add-pick-2 : tie.Need-add-pick-2 Inv-loop μ-loop
-add-pick-2 c = let p = c .before .before .before .pre .1 (c .before .loop .i) (c .loop-test .taken) in omega arith
+add-pick-any-2 : tie.Need-add-pick-any-2 Inv-loop μ-loop
+add-pick-any-2 c = let p = c .before .before .before .pre .1 (c .before .loop .i) (c .loop-test .taken) in omega arith
 
-mul-pick : tie.Need-mul-pick Inv-loop μ-loop
-mul-pick c = let p = c .before .before .before .pre .1 (c .before .loop .i) (c .loop-test .taken) in omega arith
+mul-pick-any : tie.Need-mul-pick-any Inv-loop μ-loop
+mul-pick-any c = let p = c .before .before .before .pre .1 (c .before .loop .i) (c .loop-test .taken) in omega arith
 
-shared-slice-read-pick : tie.Need-shared-slice-read-pick Inv-loop μ-loop
-shared-slice-read-pick c = let p = c .before .before .before .before .pre .1 (c .before .before .loop .i) (c .before .loop-test .taken) in omega arith
+shared-slice-read-pick-any : tie.Need-shared-slice-read-pick-any Inv-loop μ-loop
+shared-slice-read-pick-any c = let p = c .before .before .before .before .pre .1 (c .before .before .loop .i) (c .before .loop-test .taken) in omega arith
 
-add-pick-3 : tie.Need-add-pick-3 Inv-loop μ-loop
-add-pick-3 c = let p = c .before .before .before .before .pre .1 (c .before .before .loop .i) (c .before .loop-test .taken) in omega arith
+add-pick-any-3 : tie.Need-add-pick-any-3 Inv-loop μ-loop
+add-pick-any-3 c = let p = c .before .before .before .before .pre .1 (c .before .before .loop .i) (c .before .loop-test .taken) in omega arith
 
-mul-pick-2 : tie.Need-mul-pick-2 Inv-loop μ-loop
-mul-pick-2 c = let p = c .before .before .before .before .pre .1 (c .before .before .loop .i) (c .before .loop-test .taken) in omega arith
+mul-pick-any-2 : tie.Need-mul-pick-any-2 Inv-loop μ-loop
+mul-pick-any-2 c = let p = c .before .before .before .before .pre .1 (c .before .before .loop .i) (c .before .loop-test .taken) in omega arith
 
-shared-slice-read-pick-2 : tie.Need-shared-slice-read-pick-2 Inv-loop μ-loop
-shared-slice-read-pick-2 c = let p = c .before .before .before .before .before .pre .1 (c .before .before .before .loop .i) (c .before .before .loop-test .taken) in omega arith
+shared-slice-read-pick-any-2 : tie.Need-shared-slice-read-pick-any-2 Inv-loop μ-loop
+shared-slice-read-pick-any-2 c = let p = c .before .before .before .before .before .pre .1 (c .before .before .before .loop .i) (c .before .before .loop-test .taken) in omega arith
 
-pick-requires : tie.Need-pick-requires Inv-loop μ-loop
-pick-requires c κs = search needs
+pick-any-requires : tie.Need-pick-any-requires Inv-loop μ-loop
+pick-any-requires c κs = search needs
 
 add-r : tie.Need-add-r Inv-loop μ-loop
 add-r c =
@@ -49,7 +49,7 @@ add-r c =
     let pre = c .before .before .before .before .before .before .pre in
     let loop = c .before .before .before .before .loop in
     let i' = loop .i in
-    let p = falls-one (getD work₀ (at₀ + i' + 1) 0) (getD work₀ (at₀ + i') 0) (c .pick .result) (c .pick .ensures) in omega (arith, pre .0)
+    let p = falls-one (getD work₀ (at₀ + i' + 1) 0) (getD work₀ (at₀ + i') 0) (c .pick-any .result) (c .pick-any .ensures) in omega (arith, pre .0)
 
 add-i : tie.Need-add-i Inv-loop μ-loop
 add-i c = let p = c .before .before .before .before .before .before .pre .1 (c .before .before .before .before .loop .i) (c .before .before .before .loop-test .taken) in omega arith
@@ -64,10 +64,10 @@ loop-again c =
     let at₀ = args .at in
     let loop = c .before .before .before .before .loop in
     let i' = loop .i in
-    let p = falls-one (getD work₀ (at₀ + i' + 1) 0) (getD work₀ (at₀ + i') 0) (c .pick .result) (c .pick .ensures) in (
+    let p = falls-one (getD work₀ (at₀ + i' + 1) 0) (getD work₀ (at₀ + i') 0) (c .pick-any .result) (c .pick-any .ensures) in (
       omega arith,
       omega arith,
-      falls-next (λ k. getD work₀ (at₀ + k) 0) (λ k. getD work₀ (at₀ + k + 1) 0) i' (loop .r) (c .pick .result) (c .pick .ensures) (loop .inv .2),
+      falls-next (λ k. getD work₀ (at₀ + k) 0) (λ k. getD work₀ (at₀ + k + 1) 0) i' (loop .r) (c .pick-any .result) (c .pick-any .ensures) (loop .inv .2),
     )
 
 returns : tie.Need-returns Inv-loop μ-loop
@@ -80,14 +80,14 @@ falls-spec =
     Inv-loop
     μ-loop
     loop-holds
-    add-pick
-    add-pick-2
-    mul-pick
-    shared-slice-read-pick
-    add-pick-3
-    mul-pick-2
-    shared-slice-read-pick-2
-    pick-requires
+    add-pick-any
+    add-pick-any-2
+    mul-pick-any
+    shared-slice-read-pick-any
+    add-pick-any-3
+    mul-pick-any-2
+    shared-slice-read-pick-any-2
+    pick-any-requires
     add-r
     add-i
     loop-less

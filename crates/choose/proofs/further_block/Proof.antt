@@ -5,6 +5,7 @@ use lib.ListN.{length}
 use mathlib.Core.Path.{ap, _∙_, subst}
 use native.Mathlib.Nat.{le-trans}
 use native.Mathlib.Omega.{arith}
+use Rattle.choose.proofs.Entries.{block-held}
 use Rattle.choose.proofs.Blocks.{leads-as}
 use Rattle.choose.proofs.Further.{further-room, run-free, run-to, run-fits, run-under, run-above, run-some, run-place, few-before, few-all, rest-free, behind, further-small, further-run}
 use Rattle.choose.proofs.Tried.{below-same}
@@ -227,25 +228,6 @@ add-cash c =
     let fits = run-fits n₀ level₀ w₀ from₀ (less .result) (smaller .result) low end h in
     omega (arith, pre .0 .span .account, pre .0 .rate-is, pre .0 .span .short, pre .0 .span .columns, pre .0 .span .width)
 
-cast-cash : tie.Need-cast-cash
-cast-cash c =
-    let args = c .before .before .before .before .before .before .before .before .before .args in
-    let level₀ = args .level in
-    let from₀ = args .from in
-    let n₀ = args .n in
-    let w₀ = args .w in
-    let pre = c .before .before .before .before .before .before .before .before .before .pre in
-    let less = c .before .before .before .less in
-    let less2 = c .before .before .less2 in
-    let smaller = c .before .smaller in
-    let low = less .ensures in
-    let end = smaller .ensures ∙ ap (min n₀) (less2 .ensures) in
-    let h = c .if1 .taken in
-    let above = run-above n₀ level₀ w₀ from₀ (less .result) (smaller .result) low end h in
-    let some = run-some n₀ level₀ w₀ from₀ (less .result) (smaller .result) low end h in
-    let fits = run-fits n₀ level₀ w₀ from₀ (less .result) (smaller .result) low end h in
-    omega (arith, pre .0 .span .account, pre .0 .rate-is, pre .0 .span .short, pre .0 .span .columns, pre .0 .span .width)
-
 sub-offer-further : tie.Need-sub-offer-further
 sub-offer-further c =
     let args = c .before .before .before .before .before .before .before .before .before .before .before .args in
@@ -286,26 +268,6 @@ add-offer-further c =
     let fits = run-fits n₀ level₀ w₀ from₀ (less .result) (smaller .result) low end h in
     omega (arith, pre .0 .span .account, pre .0 .rate-is, pre .0 .span .short, pre .0 .span .columns, pre .0 .span .width)
 
-cast-offer-further : tie.Need-cast-offer-further
-cast-offer-further c =
-    let args = c .before .before .before .before .before .before .before .before .before .before .before .args in
-    let level₀ = args .level in
-    let from₀ = args .from in
-    let n₀ = args .n in
-    let w₀ = args .w in
-    let pre = c .before .before .before .before .before .before .before .before .before .before .before .pre in
-    let less = c .before .before .before .before .before .less in
-    let less2 = c .before .before .before .before .less2 in
-    let smaller = c .before .before .before .smaller in
-    let if1 = c .before .before .if1 in
-    let low = less .ensures in
-    let end = smaller .ensures ∙ ap (min n₀) (less2 .ensures) in
-    let h = if1 .taken in
-    let above = run-above n₀ level₀ w₀ from₀ (less .result) (smaller .result) low end h in
-    let some = run-some n₀ level₀ w₀ from₀ (less .result) (smaller .result) low end h in
-    let fits = run-fits n₀ level₀ w₀ from₀ (less .result) (smaller .result) low end h in
-    omega (arith, pre .0 .span .account, pre .0 .rate-is, pre .0 .span .short, pre .0 .span .columns, pre .0 .span .width)
-
 offer-further-requires : tie.Need-offer-further-requires
 offer-further-requires c κs =
     let args = c .before .before .before .before .before .before .before .before .before .before .before .args in
@@ -315,6 +277,7 @@ offer-further-requires c κs =
     let n₀ = args .n in
     let w₀ = args .w in
     let pre = c .before .before .before .before .before .before .before .before .before .before .before .pre in
+    let further-few = c .before .before .before .before .before .before .further-few in
     let less = c .before .before .before .before .before .less in
     let less2 = c .before .before .before .before .less2 in
     let smaller = c .before .before .before .smaller in
@@ -332,6 +295,7 @@ offer-further-requires c κs =
       le-trans r (pre .1),
       further-small (pre .0) (pre .2) (pre .1) level₀ (less .result) (smaller .result - less .result) _ some fits (λ i l. run-free level₀ from₀ (less .result) i above) (run-under n₀ level₀ w₀ from₀ (less .result) (smaller .result) low end) (λ i l. run-place w₀ stride₀ from₀ level₀ (less .result) i above),
       omega (arith, pre .0 .level-is),
+      λ i l. block-held (pre .0) _ (further-few .ensures) (less .result + i) (omega arith),
     )
 
 returns : tie.Need-returns
@@ -392,10 +356,8 @@ further-block-spec =
     mul-cash
     sub-cash
     add-cash
-    cast-cash
     sub-offer-further
     add-offer-further
-    cast-offer-further
     offer-further-requires
     returns
     returns-2)

@@ -3,6 +3,7 @@ use Prim.Native.Nat.{ℕ, _+_, _-_, _≤_, min}
 use borrow.Author.Needs.{needs}
 use mathlib.Core.Path.{_≡_, ap, sym, _∙_, subst}
 use native.Mathlib.Omega.{arith}
+use Rattle.choose.proofs.Entries.{block-held}
 use Rattle.choose.proofs.Blocks.{leads-as}
 use Rattle.choose.proofs.Further.{further-room, few-in, few-free, few-place, further-small, further-run}
 use Rattle.choose.proofs.Tried.{below-free}
@@ -131,36 +132,8 @@ add-cash c =
     let s = few-in n₀ (args .level) (args .w) from₀ (smaller2 .result) (c .before .loop .j) few (c .loop-test .taken) in
     omega (arith, pre .0 .span .account, pre .0 .rate-is, pre .0 .span .short)
 
-cast-cash : tie.Need-cast-cash Inv-loop μ-loop
-cast-cash c =
-    let args = c .before .before .before .before .before .before .before .args in
-    let from₀ = args .from in
-    let n₀ = args .n in
-    let pre = c .before .before .before .before .before .before .before .pre in
-    let smaller = c .before .before .before .before .smaller in
-    let less = c .before .before .before .less in
-    let smaller2 = c .before .before .smaller2 in
-    let few = smaller2 .ensures ∙ ap (min n₀) (less .ensures ∙ ap (λ (z : ℕ). z - from₀) (smaller .ensures)) in
-    let s = few-in n₀ (args .level) (args .w) from₀ (smaller2 .result) (c .before .loop .j) few (c .loop-test .taken) in
-    omega (arith, pre .0 .span .account, pre .0 .rate-is, pre .0 .span .short)
-
 add-offer-further : tie.Need-add-offer-further Inv-loop μ-loop
 add-offer-further c =
-    let args = c .before .before .before .before .before .before .before .before .before .args in
-    let from₀ = args .from in
-    let n₀ = args .n in
-    let pre = c .before .before .before .before .before .before .before .before .before .pre in
-    let smaller = c .before .before .before .before .before .before .smaller in
-    let less = c .before .before .before .before .before .less in
-    let smaller2 = c .before .before .before .before .smaller2 in
-    let loop = c .before .before .before .loop in
-    let loop-test = c .before .before .loop-test in
-    let few = smaller2 .ensures ∙ ap (min n₀) (less .ensures ∙ ap (λ (z : ℕ). z - from₀) (smaller .ensures)) in
-    let s = few-in n₀ (args .level) (args .w) from₀ (smaller2 .result) (loop .j) few (loop-test .taken) in
-    omega (arith, pre .0 .span .account, pre .0 .rate-is, pre .0 .span .short)
-
-cast-offer-further : tie.Need-cast-offer-further Inv-loop μ-loop
-cast-offer-further c =
     let args = c .before .before .before .before .before .before .before .before .before .args in
     let from₀ = args .from in
     let n₀ = args .n in
@@ -198,6 +171,7 @@ offer-further-requires c κs =
       omega (arith, pre .1),
       further-small (pre .0) (pre .2) (pre .1) (from₀ + j') j' 1 _ (s .1) (omega arith) (λ i l. (let z : from₀ + (j' + i) ≡ from₀ + j' = omega arith in ap (freeAmount level₀) z ∙ few-free level₀ (from₀ + j') (s .2))) (λ i l. omega arith) (λ i l. few-place w₀ stride₀ from₀ j' i l),
       omega (arith, pre .0 .span .account),
+      λ i l. block-held (pre .0) j' (loop .inv .1) (j' + i) (omega arith),
     )
 
 add-j : tie.Need-add-j Inv-loop μ-loop
@@ -271,9 +245,7 @@ further-few-spec =
     mul-cash
     sub-cash
     add-cash
-    cast-cash
     add-offer-further
-    cast-offer-further
     offer-further-requires
     add-j
     loop-less

@@ -26,8 +26,8 @@ mul-value c = omega (arith, c .before .before .pre)
 element-copy-out-value : tie.Need-element-copy-out-value Inv-loop μ-loop
 element-copy-out-value c = omega (arith, c .before .before .pre)
 
-pick-requires : tie.Need-pick-requires Inv-loop μ-loop
-pick-requires c κs = search needs
+pick-any-requires : tie.Need-pick-any-requires Inv-loop μ-loop
+pick-any-requires c κs = search needs
 
 add-i : tie.Need-add-i Inv-loop μ-loop
 add-i c = omega (arith, c .before .before .before .before .pre)
@@ -40,7 +40,7 @@ loop-again c =
     let args = c .before .before .before .before .args in
     let loop = c .before .before .before .loop in (
       omega arith,
-      least-next (λ k. getD (args .values .now) (args .low + k) 0) (loop .i) (loop .r) (c .pick .result) (c .pick .ensures) (loop .inv .1),
+      least-next (λ k. getD (args .values .now) (args .low + k) 0) (loop .i) (loop .r) (c .pick-any .result) (c .pick-any .ensures) (loop .inv .1),
     )
 
 returns : tie.Need-returns Inv-loop μ-loop
@@ -56,7 +56,7 @@ least-spec =
     add-value
     mul-value
     element-copy-out-value
-    pick-requires
+    pick-any-requires
     add-i
     loop-less
     loop-again

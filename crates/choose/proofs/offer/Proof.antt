@@ -1,10 +1,9 @@
 -- `choose::offer` meets its contract. Assumes nothing.
 use Prim.Native.Nat.{_+_, _-_, _≤_}
-use borrow.Author.Needs.{needs}
 use lib.ListN.{getD}
 use mathlib.Core.Path.{_≡_, sym}
 use native.Mathlib.Omega.{arith}
-use Rattle.choose.proofs.Blocks.{offered-none, offered-next}
+use Rattle.choose.proofs.Blocks.{held, offered-none, offered-next}
 use Rattle.slices.specs.Offered.{Offered}
 use Rattle.choose.proofs.offer.Statement.{statement}
 use Rattle.choose.proofs.offer.Tie as tie
@@ -40,7 +39,11 @@ add-other-2 : tie.Need-add-other-2 Inv-loop μ-loop
 add-other-2 c = let s = c .before .before .before .before .before .pre .2 (c .before .before .before .loop .i) (c .before .before .loop-test .taken) in omega arith
 
 pick-requires : tie.Need-pick-requires Inv-loop μ-loop
-pick-requires c κs = search needs
+pick-requires c κs =
+    let pre = c .before .before .before .before .before .pre in
+    let loop = c .before .before .before .loop in
+    let taken = c .before .before .loop-test .taken in
+    (rw (held (loop .inv .1)) (pre .3 (loop .i) taken), pre .2 (loop .i) taken)
 
 add-values : tie.Need-add-values Inv-loop μ-loop
 add-values c = omega (arith, c .before .before .before .before .before .before .pre .0, c .before .before .before .before .before .before .pre .1)
@@ -61,7 +64,11 @@ element-copy-out-pick : tie.Need-element-copy-out-pick Inv-loop μ-loop
 element-copy-out-pick c = omega (arith, c .before .before .before .before .before .before .pre .0, c .before .before .before .before .before .before .pre .1)
 
 pick-requires-2 : tie.Need-pick-requires-2 Inv-loop μ-loop
-pick-requires-2 c κs = search needs
+pick-requires-2 c κs =
+    let pre = c .before .before .before .before .before .before .before .pre in
+    let loop = c .before .before .before .before .before .loop in
+    let taken = c .before .before .before .before .loop-test .taken in
+    (rw (held (loop .inv .1)) (pre .3 (loop .i) taken), pre .2 (loop .i) taken)
 
 add-amounts : tie.Need-add-amounts Inv-loop μ-loop
 add-amounts c = omega (arith, c .before .before .before .before .before .before .before .before .pre .0, c .before .before .before .before .before .before .before .before .pre .1)

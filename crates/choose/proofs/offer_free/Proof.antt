@@ -4,7 +4,7 @@ use borrow.Author.Needs.{needs}
 use mathlib.Core.Path.{ap, ap₂, _∙_}
 use native.Mathlib.Omega.{arith}
 use Rattle.choose.proofs.Entries.{block-room}
-use Rattle.choose.proofs.Free.{free-room, free-small, free-one, reached}
+use Rattle.choose.proofs.Free.{free-held, free-room, free-small, free-one, reached}
 use Rattle.choose.proofs.offer_free.Statement.{statement}
 use Rattle.choose.proofs.offer_free.Tie as tie
 
@@ -72,18 +72,8 @@ mul-offer c =
     let pre = c .before .before .before .before .before .before .before .pre in
     omega (arith, pre .2, pre .0 .columns, pre .0 .width, pre .0 .short)
 
-cast-offer : tie.Need-cast-offer
-cast-offer c =
-    let pre = c .before .before .before .before .before .before .before .pre in
-    omega (arith, pre .2, pre .0 .columns, pre .0 .width, pre .0 .short)
-
 add-offer-2 : tie.Need-add-offer-2
 add-offer-2 c =
-    let pre = c .before .before .before .before .before .before .before .pre in
-    omega (arith, pre .2, pre .0 .columns, pre .0 .width, pre .0 .short)
-
-cast-offer-2 : tie.Need-cast-offer-2
-cast-offer-2 c =
     let pre = c .before .before .before .before .before .before .before .pre in
     omega (arith, pre .2, pre .0 .columns, pre .0 .width, pre .0 .short)
 
@@ -102,6 +92,7 @@ offer-requires c κs =
       omega (arith, pre .0 .short),
       free-room (pre .0) (t₀ + 1) (smaller .result) (end₀ - smaller .result) _ at (omega arith),
       free-small (pre .0) (t₀ + 1) (smaller .result) (end₀ - smaller .result) _ at (omega (arith, pre .2)) (omega arith) (λ l. reached (pre .0) (t₀ + 1) (smaller .result) end₀ 0 f l),
+      λ i l. free-held (pre .0) (pre .1) (λ j. omega arith) (smaller .result + i) (omega (arith, pre .3)),
     )
 
 returns : tie.Need-returns
@@ -135,8 +126,6 @@ offer-free-spec =
     sub-offer
     add-offer
     mul-offer
-    cast-offer
     add-offer-2
-    cast-offer-2
     offer-requires
     returns)

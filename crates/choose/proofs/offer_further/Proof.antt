@@ -1,10 +1,9 @@
 -- `choose::offer_further` meets its contract. Assumes nothing.
 use Prim.Native.Nat.{_+_, _-_, _≤_}
-use borrow.Author.Needs.{needs}
 use lib.ListN.{getD}
 use mathlib.Core.Path.{_≡_, sym}
 use native.Mathlib.Omega.{arith}
-use Rattle.choose.proofs.Blocks.{offered-none, offered-next}
+use Rattle.choose.proofs.Blocks.{held, offered-none, offered-next}
 use Rattle.slices.specs.Offered.{Offered}
 use Rattle.choose.proofs.offer_further.Statement.{statement}
 use Rattle.choose.proofs.offer_further.Tie as tie
@@ -75,7 +74,11 @@ add-amount-2 c =
     let f = c .shared-slice-known4 .given (args .at + loop .i) .fits in omega (arith, pre .4)
 
 pick-requires : tie.Need-pick-requires Inv-loop μ-loop
-pick-requires c κs = search needs
+pick-requires c κs =
+    let pre = c .before .before .before .before .before .before .before .pre in
+    let loop = c .before .before .before .before .loop in
+    let taken = c .before .before .before .loop-test .taken in
+    (rw (held (loop .inv .1)) (pre .5 (loop .i) taken), pre .3 (loop .i) taken)
 
 add-values : tie.Need-add-values Inv-loop μ-loop
 add-values c =
@@ -108,7 +111,11 @@ element-copy-out-pick c =
     omega (arith, pre .0, pre .1, pre .2, pre .4)
 
 pick-requires-2 : tie.Need-pick-requires-2 Inv-loop μ-loop
-pick-requires-2 c κs = search needs
+pick-requires-2 c κs =
+    let pre = c .before .before .before .before .before .before .before .before .before .pre in
+    let loop = c .before .before .before .before .before .before .loop in
+    let taken = c .before .before .before .before .before .loop-test .taken in
+    (rw (held (loop .inv .1)) (pre .5 (loop .i) taken), pre .3 (loop .i) taken)
 
 add-amounts : tie.Need-add-amounts Inv-loop μ-loop
 add-amounts c =

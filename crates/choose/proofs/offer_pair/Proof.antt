@@ -5,7 +5,7 @@ use mathlib.Core.Path.{ap, ap₂, _∙_}
 use native.Mathlib.Nat.{le-trans, le-of-eq, min-le-left}
 use native.Mathlib.Omega.{arith}
 use Rattle.choose.proofs.Entries.{block-room}
-use Rattle.choose.proofs.Free.{free-room, free-small, free-two, reached, rest-fits, pair-cash}
+use Rattle.choose.proofs.Free.{free-held, upto-free, free-room, free-small, free-two, reached, rest-fits, pair-cash}
 use Rattle.choose.proofs.offer_pair.Statement.{statement}
 use Rattle.choose.proofs.offer_pair.Tie as tie
 
@@ -122,11 +122,6 @@ mul-cash c =
     let pre = c .before .before .before .before .before .before .before .before .before .before .pre in
     omega (arith, pre .2, pre .0 .columns, pre .0 .width, pre .0 .short)
 
-cast-cash : tie.Need-cast-cash
-cast-cash c =
-    let pre = c .before .before .before .before .before .before .before .before .before .before .pre in
-    omega (arith, pre .2, pre .0 .columns, pre .0 .width, pre .0 .short)
-
 sub-offer-two : tie.Need-sub-offer-two
 sub-offer-two c = let g = c .before .before .before .before .before .before .before .before .before .smaller .ensures in omega arith
 
@@ -140,11 +135,6 @@ add-offer-two-2 c =
     let pre = c .before .before .before .before .before .before .before .before .before .before .before .before .pre in
     omega (arith, pre .2, pre .0 .columns, pre .0 .width, pre .0 .short)
 
-cast-offer-two : tie.Need-cast-offer-two
-cast-offer-two c =
-    let pre = c .before .before .before .before .before .before .before .before .before .before .before .before .pre in
-    omega (arith, pre .2, pre .0 .columns, pre .0 .width, pre .0 .short)
-
 offer-two-requires : tie.Need-offer-two-requires
 offer-two-requires c κs =
     let args = c .before .before .before .before .before .before .before .before .before .before .before .before .args in
@@ -155,11 +145,12 @@ offer-two-requires c κs =
     let pre = c .before .before .before .before .before .before .before .before .before .before .before .before .pre in
     let less = c .before .before .before .before .before .before .before .before .before .before .less in
     let smaller = c .before .before .before .before .before .before .before .before .before .smaller in
+    let offer-free = c .before .before .before .before .before .before .offer-free in
     let less2 = c .before .before .before .before .before .less2 in
     let less3 = c .before .before .before .before .less3 in
     let less4 = c .before .before .before .less4 in
     let less5 = c .before .before .less5 in
-    let f = smaller .ensures ∙ ap (min n₀) (less .ensures) in let fits = rest-fits (pre .0) (smaller .result) _ (smaller .ensures) in let at = ap₂ (λ (x y : ℕ). base₀ + (x * stride₀ + y)) (less2 .ensures) (less3 .ensures) in let next = ap₂ (λ (x y : ℕ). base₀ + (x * stride₀ + y)) (less4 .ensures) (less5 .ensures) in let more : (i : ℕ) → i < n₀ - smaller .result → t₀ + 2 ≤ args .from + smaller .result = λ i l. reached (pre .0) (t₀ + 2) (smaller .result) n₀ i f l in let one = free-small (pre .0) (t₀ + 1) (smaller .result) (n₀ - smaller .result) _ at (omega (arith, pre .2)) fits (λ l. let m = more 0 l in omega arith) in let two = free-small (pre .0) (t₀ + 2) (smaller .result) (n₀ - smaller .result) _ next (omega (arith, pre .2)) fits (more 0) in (le-trans fits (pre .0 .short), free-room (pre .0) (t₀ + 1) (smaller .result) (n₀ - smaller .result) _ at fits, free-room (pre .0) (t₀ + 2) (smaller .result) (n₀ - smaller .result) _ next fits, one, λ i l. pair-cash t₀ _ (two i l), omega (arith, pre .2))
+    let f = smaller .ensures ∙ ap (min n₀) (less .ensures) in let fits = rest-fits (pre .0) (smaller .result) _ (smaller .ensures) in let at = ap₂ (λ (x y : ℕ). base₀ + (x * stride₀ + y)) (less2 .ensures) (less3 .ensures) in let next = ap₂ (λ (x y : ℕ). base₀ + (x * stride₀ + y)) (less4 .ensures) (less5 .ensures) in let more : (i : ℕ) → i < n₀ - smaller .result → t₀ + 2 ≤ args .from + smaller .result = λ i l. reached (pre .0) (t₀ + 2) (smaller .result) n₀ i f l in let one = free-small (pre .0) (t₀ + 1) (smaller .result) (n₀ - smaller .result) _ at (omega (arith, pre .2)) fits (λ l. let m = more 0 l in omega arith) in let two = free-small (pre .0) (t₀ + 2) (smaller .result) (n₀ - smaller .result) _ next (omega (arith, pre .2)) fits (more 0) in (le-trans fits (pre .0 .short), free-room (pre .0) (t₀ + 1) (smaller .result) (n₀ - smaller .result) _ at fits, free-room (pre .0) (t₀ + 2) (smaller .result) (n₀ - smaller .result) _ next fits, one, λ i l. pair-cash t₀ _ (two i l), omega (arith, pre .2), λ i l. free-held (pre .0) (offer-free .ensures) (upto-free (args .from) t₀ (smaller .result)) (smaller .result + i) (omega arith))
 
 returns : tie.Need-returns
 returns c =
@@ -205,10 +196,8 @@ offer-pair-spec =
     add-two-2
     add-cash
     mul-cash
-    cast-cash
     sub-offer-two
     add-offer-two
     add-offer-two-2
-    cast-offer-two
     offer-two-requires
     returns)

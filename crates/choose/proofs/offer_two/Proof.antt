@@ -1,12 +1,11 @@
 -- `choose::offer_two` meets its contract. Assumes nothing.
 use Prim.Native.Nat.{ℕ, _+_, _-_, _≤_}
-use borrow.Author.Needs.{needs}
 use lib.Dec.{ltb}
 use lib.ListN.{getD}
 use mathlib.Core.Bool.{cond}
 use mathlib.Core.Path.{_≡_, sym, ap, ap₂, _∙_}
 use native.Mathlib.Omega.{arith}
-use Rattle.choose.proofs.Blocks.{offered-none, offered-next}
+use Rattle.choose.proofs.Blocks.{held, offered-none, offered-next, picked-below}
 use Rattle.slices.specs.Offered.{Offered}
 use Rattle.choose.proofs.offer_two.Statement.{statement}
 use Rattle.choose.proofs.offer_two.Tie as tie
@@ -66,7 +65,11 @@ add-two-2 c =
     let s = pre .4 (loop .i) (loop-test .taken) in omega (arith, pre .2)
 
 pick-requires : tie.Need-pick-requires Inv-loop μ-loop
-pick-requires c κs = search needs
+pick-requires c κs =
+    let pre = c .before .before .before .before .before .before .pre in
+    let loop = c .before .before .before .before .loop in
+    let taken = c .before .before .before .loop-test .taken in
+    (pre .3 (loop .i) taken, pre .4 (loop .i) taken)
 
 add-pick : tie.Need-add-pick Inv-loop μ-loop
 add-pick c =
@@ -74,10 +77,18 @@ add-pick c =
     omega (arith, pre .0, pre .1, pre .2, pre .5)
 
 pick-requires-2 : tie.Need-pick-requires-2 Inv-loop μ-loop
-pick-requires-2 c κs = search needs
+pick-requires-2 c κs =
+    let pre = c .before .before .before .before .before .before .before .pre in
+    let loop = c .before .before .before .before .before .loop in
+    let taken = c .before .before .before .before .loop-test .taken in
+    (pre .3 (loop .i) taken, pre .4 (loop .i) taken)
 
 pick-requires-3 : tie.Need-pick-requires-3 Inv-loop μ-loop
-pick-requires-3 c κs = search needs
+pick-requires-3 c κs =
+    let pre = c .before .before .before .before .before .before .before .before .pre in
+    let loop = c .before .before .before .before .before .before .loop in
+    let taken = c .before .before .before .before .before .loop-test .taken in
+    (rw (held (loop .inv .1)) (pre .6 (loop .i) taken), picked-below _ _ (c .before .pick .ensures) (pre .3 (loop .i) taken) (pre .4 (loop .i) taken))
 
 add-values : tie.Need-add-values Inv-loop μ-loop
 add-values c =
@@ -110,7 +121,11 @@ element-copy-out-pick c =
     omega (arith, pre .0, pre .1, pre .2, pre .5)
 
 pick-requires-4 : tie.Need-pick-requires-4 Inv-loop μ-loop
-pick-requires-4 c κs = search needs
+pick-requires-4 c κs =
+    let pre = c .before .before .before .before .before .before .before .before .before .before .pre in
+    let loop = c .before .before .before .before .before .before .before .before .loop in
+    let taken = c .before .before .before .before .before .before .before .loop-test .taken in
+    (rw (held (loop .inv .1)) (pre .6 (loop .i) taken), picked-below _ _ (c .before .before .before .pick .ensures) (pre .3 (loop .i) taken) (pre .4 (loop .i) taken))
 
 add-amounts : tie.Need-add-amounts Inv-loop μ-loop
 add-amounts c =

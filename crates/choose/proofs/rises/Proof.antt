@@ -51,9 +51,6 @@ falls-requires c κs =
     let e = less .ensures in
     (omega (arith, pre .1), λ i l. omega (arith, pre .2))
 
-cast-r : tie.Need-cast-r Inv-loop μ-loop
-cast-r c = let f = c .falls .ensures .0 in let e = c .before .before .before .less .ensures in omega (arith, c .before .before .before .before .before .pre .0, c .before .before .before .before .before .pre .1)
-
 add-r : tie.Need-add-r Inv-loop μ-loop
 add-r c = let f = c .falls .ensures .0 in let e = c .before .before .before .less .ensures in omega (arith, c .before .before .before .before .before .pre .0, c .before .before .before .before .before .pre .1)
 
@@ -95,7 +92,6 @@ rises-spec =
     mul-falls
     add-falls
     falls-requires
-    cast-r
     add-r
     add-x
     loop-less

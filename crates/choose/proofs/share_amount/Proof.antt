@@ -59,9 +59,6 @@ add-cash c =
 cash-requires : tie.Need-cash-requires
 cash-requires c κs = (c .before .before .pre .0 .rate-is, omega (arith, c .before .before .pre .0 .span .account))
 
-cast-cash : tie.Need-cast-cash
-cast-cash c = omega (arith, c .cash .ensures .1)
-
 add-last : tie.Need-add-last
 add-last c =
     let args = c .before .before .before .before .args in
@@ -193,14 +190,6 @@ add-offer-share-2 c =
     let ends = run-is (args .n) (args .low) (smaller .result) (smaller .ensures) (pre .5) in
     omega (arith, pre .0 .span .account, pre .0 .span .short, pre .0 .span .columns, pre .0 .span .width)
 
-cast-offer-share : tie.Need-cast-offer-share
-cast-offer-share c =
-    let args = c .before .before .before .before .before .before .args in
-    let pre = c .before .before .before .before .before .before .pre in
-    let smaller = c .before .before .before .before .smaller in
-    let ends = run-is (args .n) (args .low) (smaller .result) (smaller .ensures) (pre .5) in
-    omega (arith, pre .0 .span .account, pre .0 .span .short, pre .0 .span .columns, pre .0 .span .width)
-
 offer-share-requires : tie.Need-offer-share-requires
 offer-share-requires c κs =
     let args = c .before .before .before .before .before .before .args in
@@ -245,7 +234,6 @@ share-amount-spec =
     mul-step
     add-cash
     cash-requires
-    cast-cash
     add-last
     add-last-2
     sub-last
@@ -257,6 +245,5 @@ share-amount-spec =
     returns
     add-offer-share
     add-offer-share-2
-    cast-offer-share
     offer-share-requires
     returns-2)

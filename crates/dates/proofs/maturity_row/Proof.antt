@@ -24,9 +24,6 @@ loop-holds c = (omega arith, refl)
 maturity-value-requires : tie.Need-maturity-value-requires Inv-loop μ-loop
 maturity-value-requires c κs = omega arith
 
-cast-work : tie.Need-cast-work Inv-loop μ-loop
-cast-work c = omega arith
-
 add-work : tie.Need-add-work Inv-loop μ-loop
 add-work c = let lw : length (c .before .before .loop .work) ≡ length (c .before .before .before .before .args .work .now) = ap length (c .before .before .loop .inv .1) ∙ length-stored _ _ _ _ in omega arith
 
@@ -63,7 +60,6 @@ maturity-row-spec =
     mul-row
     loop-holds
     maturity-value-requires
-    cast-work
     add-work
     mul-work
     slice-write-work

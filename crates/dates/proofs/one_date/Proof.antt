@@ -14,7 +14,7 @@ add-n c = search needs
 
 mul-size : tie.Need-mul-size
 unfolding layerSize
-mul-size c = omega (arith, c .before .before .before .before .before .pre .layers .room)
+mul-size c = omega (arith, c .before .before .before .before .before .pre .first .layers .room)
 
 expect-layer-requires : tie.Need-expect-layer-requires
 expect-layer-requires c κs = search needs

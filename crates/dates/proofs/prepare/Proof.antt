@@ -9,9 +9,6 @@ use Rattle.dates.proofs.prepare.Tie as tie
 sub-further-layer : tie.Need-sub-further-layer
 sub-further-layer c = search needs
 
-cast-further-layer : tie.Need-cast-further-layer
-cast-further-layer c = search needs
-
 further-layer-requires : tie.Need-further-layer-requires
 further-layer-requires c κs = (c .before .before .before .before .before .pre .0, omega arith)
 
@@ -36,7 +33,6 @@ prepare-spec =
     tie.close
     (tie.spec
     sub-further-layer
-    cast-further-layer
     further-layer-requires
     same-length
     same-length-2

@@ -7,28 +7,33 @@ use Rattle.expect.proofs.add_all.Statement.{statement}
 use Rattle.expect.proofs.add_all.Tie as tie
 
 abbrev Inv-loop : tie.InvT-loop
-Inv-loop sums₀ work starts weights count from n k₀ sums k = (k ≤ count) × Summed work starts weights sums from n k
+Inv-loop sums₀ work starts weights average from n k₀ sums k = (k ≤ average .count) × Summed work starts weights sums from n k
 
 abbrev μ-loop : tie.MeasureT-loop
-μ-loop sums₀ work starts weights count from n k₀ sums k = count - k
+μ-loop sums₀ work starts weights average from n k₀ sums k = average .count - k
 
 loop-holds : tie.Need-loop-holds Inv-loop μ-loop
 loop-holds c = (omega arith, c .before .pre .1)
 
 add-next-requires : tie.Need-add-next-requires Inv-loop μ-loop
-add-next-requires c κs = (c .before .before .before .before .pre .0, c .before .before .loop .inv .1, c .before .loop-test .taken)
+add-next-requires c κs =
+    let pre = c .before .before .before .before .before .pre in
+    let loop = c .before .before .before .loop in
+    let if1 = c .before .if1 in
+    (pre .0, loop .inv .1, if1 .taken)
 
 loop-less : tie.Need-loop-less Inv-loop μ-loop
-loop-less c = let e = c .add-next .ensures .1 in let f = c .add-next .ensures .2 in omega arith
+loop-less c = omega (arith, c .add-next .ensures .1, c .add-next .ensures .2)
 
 loop-again : tie.Need-loop-again Inv-loop μ-loop
 loop-again c = (c .add-next .ensures .2, c .add-next .ensures .0)
 
 returns : tie.Need-returns Inv-loop μ-loop
 returns c =
-    let args = c .before .before .before .args in
-    let loop = c .before .loop in
-    let e : loop .k ≡ args .count = omega arith in
+    let args = c .before .before .before .before .args in
+    let loop = c .before .before .loop in
+    let if1 = c .if1 in
+    let e : loop .k ≡ args .average .count = omega (arith, if1 .left) in
     subst (Summed (args .work .now) (args .starts .now) (args .weights .now) (loop .sums) (args .from) (args .n)) e (loop .inv .1)
 
 pub add-all-spec : {M : Type 1} → statement M

@@ -7,7 +7,7 @@ use native.Mathlib.Omega.{arith}
 use Rattle.decision.specs.Index.{sum, sum-next}
 use Rattle.expect.specs.Expected.{term}
 use Rattle.slices.specs.Stored.{stored, stored-push}
-use Rattle.expect.proofs.Laws.{run-read, sum-small, sum-read, summed}
+use Rattle.expect.proofs.Laws.{sum-small, sum-read, summed}
 use Rattle.expect.proofs.add_one.Statement.{statement}
 use Rattle.expect.proofs.add_one.Tie as tie
 
@@ -22,7 +22,7 @@ unfolding stored
 loop-holds c = (omega arith, refl)
 
 add-product : tie.Need-add-product Inv-loop μ-loop
-add-product c = let b = run-read (c .before .before .before .pre .0) (c .before .before .before .args .k) (c .before .loop .j) (omega arith) (c .loop-test .taken) in omega arith
+add-product c = let b = c .before .before .before .pre .0 .reached (c .before .before .before .args .k) (c .before .loop .j) (omega arith) (c .loop-test .taken) in omega (arith, b .within)
 
 product-requires : tie.Need-product-requires Inv-loop μ-loop
 product-requires c κs =
@@ -30,7 +30,7 @@ product-requires c κs =
     let pre = c .before .before .before .pre in
     let r = pre .0 in
     let k = args .k in
-    (omega (arith, r .few), r .light k (omega arith), run-read r k (c .before .loop .j) (omega arith) (c .loop-test .taken))
+    (omega (arith, r .few), r .reached k (c .before .loop .j) (omega arith) (c .loop-test .taken))
 
 mul-sums : tie.Need-mul-sums Inv-loop μ-loop
 mul-sums c = omega (arith, c .before .before .before .before .pre .0 .short)
@@ -44,14 +44,13 @@ add-sums c =
     let from₀ = args .from in
     let k₀ = args .k in
     let pre = c .before .before .before .before .before .pre in
-    let shared-slice-known = c .before .before .before .before .shared-slice-known in
     let loop = c .before .before .before .loop in
     let loop-test = c .before .before .loop-test in
     let j = loop .j in
     let read : getD (loop .sums) j 0 ≡ sum (term (args .work .now) (args .starts .now) (args .weights .now) (from₀ + j)) k₀ =
     ap (λ (xs : List ℕ). getD xs j 0) (loop .inv .1)
     ∙ sum-read (pre .1) _ j (loop-test .taken) in
-    let s = sum-small (pre .0) (λ i. shared-slice-known .given i .fits) (from₀ + j) k₀ (omega arith) in
+    let s = sum-small (pre .0) j k₀ (loop-test .taken) (omega arith) in
     omega (arith, pre .0 .few, c .before .product .ensures .1)
 
 element-write-sums : tie.Need-element-write-sums Inv-loop μ-loop

@@ -9,33 +9,40 @@ use Rattle.expect.specs.Expected.{expected}
 use Rattle.rules.specs.Contract.{returnsOf}
 use Rattle.rules.specs.FixedTerm.{layerSize}
 use Rattle.slices.specs.Rows.{cells, flat}
-use Rattle.slices.specs.Stored.{stored, stored-first, length-stored}
 use Rattle.slices.specs.Stored.{stored, stored-first, stored-none, length-stored}
-use Rattle.expect.proofs.Laws.{expect-step}
+use Rattle.expect.proofs.Laws.{within-kept, expect-step}
 use Rattle.expect.proofs.expect_layer.Statement.{statement}
 use Rattle.expect.proofs.expect_layer.Tie as tie
 
 abbrev Inv-loop : tie.InvT-loop
-Inv-loop work₀ list count c stride size weights end balance₀ work balance = (balance ≤ end) × (work ≡ stored work₀ size (flat stride (expected (termsIn c) (returnsOf list) (cells work₀ 0 stride))) (balance * stride))
+Inv-loop work₀ list count c stride size weights average end balance₀ work balance = (balance ≤ end) × (work ≡ stored work₀ size (flat stride (expected (termsIn c) (returnsOf list) (cells work₀ 0 stride))) (balance * stride))
 
 abbrev μ-loop : tie.MeasureT-loop
-μ-loop work₀ list count c stride size weights end balance₀ work balance = end - balance
+μ-loop work₀ list count c stride size weights average end balance₀ work balance = end - balance
 
 add-stride : tie.Need-add-stride Inv-loop μ-loop
-add-stride c = omega (arith, c .before .before .before .pre .1 .valid .premium, c .before .before .before .pre .1 .valid .top)
+add-stride c =
+    let pre = c .before .before .before .pre in
+    omega (arith, pre .1 .layers .valid .premium, pre .1 .layers .valid .top)
 
 add-size : tie.Need-add-size Inv-loop μ-loop
-add-size c = omega (arith, c .before .before .before .before .pre .1 .valid .top)
+add-size c = omega (arith, c .before .before .before .before .pre .1 .layers .valid .top)
 
 mul-size : tie.Need-mul-size Inv-loop μ-loop
 unfolding layerSize
-mul-size c = omega (arith, c .before .before .before .before .pre .1 .room)
+mul-size c = omega (arith, c .before .before .before .before .pre .1 .layers .room)
 
 fill-weights-requires : tie.Need-fill-weights-requires Inv-loop μ-loop
 fill-weights-requires c κs = c .before .before .before .before .before .pre .0
 
+most-requires : tie.Need-most-requires Inv-loop μ-loop
+unfolding layerSize
+most-requires c κs = (c .before .before .before .before .before .before .before .pre .1, refl)
+
 add-end : tie.Need-add-end Inv-loop μ-loop
-add-end c = omega (arith, c .before .before .before .before .before .before .before .pre .1 .valid .top)
+add-end c =
+    let pre = c .before .before .before .before .before .before .before .before .before .pre in
+    omega (arith, pre .1 .layers .valid .top)
 
 loop-holds : tie.Need-loop-holds Inv-loop μ-loop
 loop-holds c = (omega arith, stored-none _ _ _ _)
@@ -43,35 +50,43 @@ loop-holds c = (omega arith, stored-none _ _ _ _)
 expect-balance-requires : tie.Need-expect-balance-requires Inv-loop μ-loop
 unfolding layerSize
 expect-balance-requires c κs =
-    let args = c .before .before .before .before .before .before .before .before .before .before .before .args in
-    let pre = c .before .before .before .before .before .before .before .before .before .before .before .pre in
-    let fill-weights = c .before .before .before .before .before .fill-weights in
+    let pre = c .before .before .before .before .before .before .before .before .before .before .before .before .before .pre in
+    let args = c .before .before .before .before .before .before .before .before .before .before .before .before .before .args in
+    let fill-weights = c .before .before .before .before .before .before .before .fill-weights in
+    let most = c .before .before .before .before .before .most in
     let loop = c .before .before .before .loop in
-    record {
-      listing = pre .0;
-      layers = record { valid = pre .1 .valid; room = let e : length (loop .work) ≡ length (args .work .now) = ap length (loop .inv .1) ∙ length-stored _ _ _ _ in omega (arith, pre .1 .room) };
-      weights-are = λ k l. ap (λ (xs : List ℕ). getD xs k 0) (fill-weights .ensures) ∙ stored-first _ _ _ k (pre .0 .few) l;
-      balance-is = omega arith;
-      stride-is = refl;
-      size-is = refl;
-    }
+    let e : length (loop .work) ≡ length (args .work .now) = ap length (loop .inv .1) ∙ length-stored _ _ _ _ in (
+      record {
+        listing = pre .0;
+        layers = record { valid = pre .1 .layers .valid; room = omega (arith, pre .1 .layers .room) };
+        most-is = most .ensures .0;
+        small = within-kept (termsIn (args .c)) (args .work .now) (loop .work) _ _ (most .ensures .1) (loop .inv .1);
+        weights-are = λ k l. ap (λ (xs : List ℕ). getD xs k 0) (fill-weights .ensures) ∙ stored-first _ _ _ k (pre .0 .few) l;
+        balance-is = omega arith;
+        stride-is = refl;
+        size-is = refl;
+      },
+      refl,
+    )
 
 add-balance : tie.Need-add-balance Inv-loop μ-loop
-add-balance c = omega (arith, c .before .before .before .before .before .before .before .before .before .before .before .before .before .before .pre .1 .valid .top)
+add-balance c =
+    let pre = c .before .before .before .before .before .before .before .before .before .before .before .before .before .before .before .before .pre in
+    omega (arith, pre .1 .layers .valid .top)
 
 loop-less : tie.Need-loop-less Inv-loop μ-loop
 loop-less c = omega arith
 
 loop-again : tie.Need-loop-again Inv-loop μ-loop
 loop-again c =
-    let args = c .before .before .before .before .before .before .before .before .before .before .before .before .before .before .args in
+    let args = c .before .before .before .before .before .before .before .before .before .before .before .before .before .before .before .before .args in
+    let loop = c .before .before .before .before .before .before .loop in
+    let expect-balance = c .before .before .expect-balance in
     let list₀ = args .list .now in
     let c₀ = args .c in
-    let loop = c .before .before .before .before .before .before .loop in
     let balance' = loop .balance in
-    let expect-balance = c .before .before .expect-balance in
-    let step = expect-step (termsIn c₀) (returnsOf list₀) (args .work .now) (args .c .premium + 1) ((args .c .top + 1) * (args .c .premium + 1)) refl balance' in
-    let moved = ap (λ (xs : List ℕ). stored xs (((args .c .top + 1) * (args .c .premium + 1)) + balance' * (args .c .premium + 1)) (expected (termsIn c₀) (returnsOf list₀) (cells xs 0 (args .c .premium + 1)) balance') (args .c .premium + 1)) (loop .inv .1) in
+    let step = expect-step (termsIn c₀) (returnsOf list₀) (args .work .now) (c₀ .premium + 1) ((c₀ .top + 1) * (c₀ .premium + 1)) refl balance' in
+    let moved = ap (λ (xs : List ℕ). stored xs (((c₀ .top + 1) * (c₀ .premium + 1)) + balance' * (c₀ .premium + 1)) (expected (termsIn c₀) (returnsOf list₀) (cells xs 0 (c₀ .premium + 1)) balance') (c₀ .premium + 1)) (loop .inv .1) in
     (omega arith, expect-balance .ensures ∙ moved ∙ step)
 
 same-length : tie.Need-same-length Inv-loop μ-loop
@@ -80,11 +95,13 @@ same-length c = ap length (c .before .loop .inv .1) ∙ length-stored _ _ _ _
 returns : tie.Need-returns Inv-loop μ-loop
 unfolding layerSize
 returns c =
-    let args = c .before .before .before .before .before .before .before .before .before .args in
+    let args = c .before .before .before .before .before .before .before .before .before .before .before .args in
+    let loop = c .before .loop in
     let work₀ = args .work .now in
-    let e : c .before .loop .balance ≡ args .c .top + 1 = omega arith in
-    c .before .loop .inv .1
-    ∙ ap (λ (b : ℕ). stored work₀ ((args .c .top + 1) * (args .c .premium + 1)) (flat (args .c .premium + 1) (expected (termsIn (args .c)) (returnsOf (args .list .now)) (cells work₀ 0 (args .c .premium + 1)))) (b * (args .c .premium + 1))) e
+    let c₀ = args .c in
+    let e : loop .balance ≡ c₀ .top + 1 = omega arith in
+    loop .inv .1
+    ∙ ap (λ (b : ℕ). stored work₀ ((c₀ .top + 1) * (c₀ .premium + 1)) (flat (c₀ .premium + 1) (expected (termsIn c₀) (returnsOf (args .list .now)) (cells work₀ 0 (c₀ .premium + 1)))) (b * (c₀ .premium + 1))) e
 
 pub expect-layer-spec : {M : Type 1} → statement M
 expect-layer-spec =
@@ -96,6 +113,7 @@ expect-layer-spec =
     add-size
     mul-size
     fill-weights-requires
+    most-requires
     add-end
     loop-holds
     expect-balance-requires

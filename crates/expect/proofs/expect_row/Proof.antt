@@ -14,10 +14,10 @@ use Rattle.expect.proofs.expect_row.Statement.{statement}
 use Rattle.expect.proofs.expect_row.Tie as tie
 
 abbrev Inv-loop : tie.InvT-loop
-Inv-loop work₀ starts weights count discount to stride from₀ work from = (from ≤ stride) × (work ≡ stored work₀ to (λ x. discounted discount (sum (term work₀ starts weights x) count)) from)
+Inv-loop work₀ starts weights average to stride from₀ work from = (from ≤ stride) × (work ≡ stored work₀ to (λ x. discounted (average .discount) (sum (term work₀ starts weights x) (average .count))) from)
 
 abbrev μ-loop : tie.MeasureT-loop
-μ-loop work₀ starts weights count discount to stride from₀ work from = stride - from
+μ-loop work₀ starts weights average to stride from₀ work from = stride - from
 
 loop-holds : tie.Need-loop-holds Inv-loop μ-loop
 unfolding stored
@@ -34,8 +34,7 @@ expect-run-requires c κs =
     let pre = c .before .before .before .before .before .pre in
     let loop = c .before .before .before .loop in
     let smaller = c .before .smaller in
-    let long = ap length (loop .inv .1) ∙ length-stored _ _ _ _ in
-    (row-part pre (loop .work) (loop .from + smaller .result) long (let e = smaller .ensures in omega arith), let e = smaller .ensures in omega arith)
+    (row-part pre (loop .work) _ _ (loop .from + smaller .result) (loop .inv .1) (let e = smaller .ensures in omega arith), let e = smaller .ensures in omega arith)
 
 add-from : tie.Need-add-from Inv-loop μ-loop
 add-from c = let e = c .before .before .before .before .smaller .ensures in omega (arith, c .before .before .before .before .before .before .before .before .pre .room)
@@ -54,11 +53,11 @@ loop-again c =
     let from = loop .from in
     let n = smaller .result in
     let e = smaller .ensures in
-    let moved = ap (λ (xs : List ℕ). stored xs (y .to + from) (λ j. discounted (y .discount) (sum (term xs (y .starts .now) (y .weights .now) (from + j)) (y .count))) n) (loop .inv .1) in (
+    let moved = ap (λ (xs : List ℕ). stored xs (y .to + from) (λ j. discounted (y .average .discount) (sum (term xs (y .starts .now) (y .weights .now) (from + j)) (y .average .count))) n) (loop .inv .1) in (
       omega arith,
       expect-run .ensures
           ∙ moved
-          ∙ stored-join (y .work .now) (y .to) _ _ from n (λ j l. ap (discounted (y .discount)) (row-sum pre _ from (from + j) (omega arith))),
+          ∙ stored-join (y .work .now) (y .to) _ _ from n (λ j l. ap (discounted (y .average .discount)) (row-sum pre _ from (from + j) (omega arith))),
     )
 
 same-length : tie.Need-same-length Inv-loop μ-loop

@@ -24,12 +24,11 @@ store-sums-requires : tie.Need-store-sums-requires
 store-sums-requires c κs =
     let args = c .before .before .before .before .before .before .args in
     let pre = c .before .before .before .before .before .before .pre in
-    let slice-known = c .before .before .before .before .before .slice-known in
     let add-all = c .before .before .add-all in (
       pre .0 .discount-is,
       pre .1,
       omega (arith, pre .0 .room),
-      λ j l. rw (add-all .ensures .each j l) (row-sum-le (pre .0) (λ i. slice-known .given i .fits) (args .from + j)),
+      λ j l. rw (add-all .ensures .each j l) (row-sum-le (pre .0) (args .from + j) (omega arith)),
     )
 
 same-length : tie.Need-same-length
@@ -40,7 +39,7 @@ returns c =
     let args = c .before .before .before .before .before .before .before .before .before .args in
     let add-all = c .before .before .before .before .before .add-all in
     let store-sums = c .before .before .store-sums in
-    store-sums .ensures ∙ stored-eq _ _ _ _ (args .n) (λ j l. ap (discounted (args .discount)) (add-all .ensures .each j l))
+    store-sums .ensures ∙ stored-eq _ _ _ _ (args .n) (λ j l. ap (discounted (args .average .discount)) (add-all .ensures .each j l))
 
 pub expect-run-spec : {M : Type 1} → statement M
 expect-run-spec =

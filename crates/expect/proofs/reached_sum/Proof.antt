@@ -3,12 +3,12 @@ use Prim.Native.Nat.{ℕ, _+_, _*_, _-_, _≤_}
 use mathlib.Core.Path.{_≡_, refl, sym, ap₂, _∙_}
 use native.Mathlib.Omega.{arith}
 use Rattle.decision.specs.Index.{sum, sum-next}
-use Rattle.expect.specs.Expected.{term}
+use Rattle.expect.specs.Expected.{term, productMost}
 use Rattle.expect.proofs.reached_sum.Statement.{statement}
 use Rattle.expect.proofs.reached_sum.Tie as tie
 
 abbrev Inv-loop : tie.InvT-loop
-Inv-loop work starts weights count a s₀ k₀ s k = (k ≤ count) × (s ≡ sum (term work starts weights a) k) × (s ≤ 42949672960000 * k)
+Inv-loop work starts weights count a s₀ k₀ s k = (k ≤ count) × (s ≡ sum (term work starts weights a) k) × (s ≤ productMost * k)
 
 abbrev μ-loop : tie.MeasureT-loop
 μ-loop work starts weights count a s₀ k₀ s k = count - k
@@ -18,7 +18,7 @@ unfolding sum
 loop-holds c = (omega arith, refl, omega arith)
 
 product-requires : tie.Need-product-requires Inv-loop μ-loop
-product-requires c κs = let k = c .before .loop .k in (omega arith, c .before .before .before .pre .1 k (c .loop-test .taken), c .before .before .before .pre .2 k (c .loop-test .taken))
+product-requires c κs = (omega arith, c .before .before .before .pre .1 (c .before .loop .k) (c .loop-test .taken))
 
 add-s : tie.Need-add-s Inv-loop μ-loop
 add-s c = omega (arith, c .product .ensures .1)

@@ -4,18 +4,20 @@ use borrow.Author.Needs.{needs}
 use lib.ListN.{getD}
 use mathlib.Core.List.{List}
 use mathlib.Core.Path.{_≡_, ap, _∙_}
+use native.Mathlib.Nat.{le-trans}
 use native.Mathlib.Omega.{arith}
 use Rattle.contract.specs.Reading.{termsIn}
 use Rattle.decision.specs.Index.{sum}
-use Rattle.expect.specs.Expected.{term, Row, Balance}
-use Rattle.rules.specs.Contract.{returnsOf}
+use Rattle.expect.specs.Expected.{term, Row, Balance, expected-le}
+use Rattle.laws.specs.Bounds.{valueMost, value-most}
+use Rattle.rules.specs.Contract.{returnsOf, entryMost}
 use Rattle.rules.specs.Date.{nextAccount, discounted}
 use Rattle.slices.specs.Stored.{stored-first}
-use Rattle.expect.proofs.Laws.{start-balance, balance-row, balance-cells, row-read, row-small}
+use Rattle.expect.proofs.Laws.{start-balance, balance-row, balance-cells, row-reached, reached-up}
 use Rattle.expect.proofs.start_value.Statement.{statement}
 use Rattle.expect.proofs.start_value.Tie as tie
 
-balance : (c : tie.After-weights2) → Balance (termsIn (c .before .before .before .before .before .before .before .before .before .args .c)) (c .before .before .before .before .before .before .before .before .before .args .work .now) (c .before .before .before .before .before .before .before .before .before .args .list .now) (c .before .before .before .before .fill-weights .last .0) (c .before .before .before .before .before .before .before .before .before .args .count) (c .before .before .before .before .before .before .before .before .before .args .c .premium) (c .before .before .before .before .before .before .before .before .before .args .c .premium + 1) ((c .before .before .before .before .before .before .before .before .before .args .c .top + 1) * (c .before .before .before .before .before .before .before .before .before .args .c .premium + 1))
+balance : (c : tie.After-weights2) → Balance (termsIn (c .before .before .before .before .before .before .before .before .before .args .c)) (c .before .before .before .before .before .before .before .before .before .args .work .now) (c .before .before .before .before .before .before .before .before .before .args .list .now) (c .before .before .before .before .fill-weights .last .0) (c .before .before .before .before .before .before .before .before .before .args .count) (valueMost (termsIn (c .before .before .before .before .before .before .before .before .before .args .c))) (c .before .before .before .before .before .before .before .before .before .args .c .premium) (c .before .before .before .before .before .before .before .before .before .args .c .premium + 1) ((c .before .before .before .before .before .before .before .before .before .args .c .top + 1) * (c .before .before .before .before .before .before .before .before .before .args .c .premium + 1))
 balance c =
     let pre = c .before .before .before .before .before .before .before .before .before .pre in
     let fill-weights = c .before .before .before .before .fill-weights in
@@ -25,7 +27,7 @@ starts-are : (c : tie.After-weights2) (k : ℕ) → k < c .before .before .befor
     → getD (c .before .before .fill-starts .last .0) k 0 ≡ nextAccount (c .before .before .before .before .before .before .before .before .before .args .c .fee) (c .before .before .before .before .before .before .before .before .before .args .c .top) (c .before .before .before .before .before .before .before .before .before .args .c .premium) (returnsOf (c .before .before .before .before .before .before .before .before .before .args .list .now) .factor k) * (c .before .before .before .before .before .before .before .before .before .args .c .premium + 1)
 starts-are c k l = ap (λ (xs : List ℕ). getD xs k 0) (c .before .before .fill-starts .ensures) ∙ stored-first _ _ _ k (c .before .before .before .before .before .before .before .before .before .pre .0 .few) l
 
-row : (c : tie.After-weights2) → Row (c .before .before .before .before .before .before .before .before .before .args .work .now) (c .before .before .fill-starts .last .0) (c .before .before .before .before .fill-weights .last .0) (c .before .before .before .before .before .before .before .before .before .args .count) (c .before .before .before .before .before .before .before .before .before .args .c .discount) ((c .before .before .before .before .before .before .before .before .before .args .c .top + 1) * (c .before .before .before .before .before .before .before .before .before .args .c .premium + 1) + c .before .before .before .before .before .before .before .before .before .args .c .premium * (c .before .before .before .before .before .before .before .before .before .args .c .premium + 1)) (c .before .before .before .before .before .before .before .before .before .args .c .premium + 1)
+row : (c : tie.After-weights2) → Row (c .before .before .before .before .before .before .before .before .before .args .work .now) (c .before .before .fill-starts .last .0) (c .before .before .before .before .fill-weights .last .0) (c .before .before .before .before .before .before .before .before .before .args .count) (c .before .before .before .before .before .before .before .before .before .args .c .discount) (valueMost (termsIn (c .before .before .before .before .before .before .before .before .before .args .c))) ((c .before .before .before .before .before .before .before .before .before .args .c .top + 1) * (c .before .before .before .before .before .before .before .before .before .args .c .premium + 1) + c .before .before .before .before .before .before .before .before .before .args .c .premium * (c .before .before .before .before .before .before .before .before .before .args .c .premium + 1)) (c .before .before .before .before .before .before .before .before .before .args .c .premium + 1)
 row c = balance-row (balance c) _ (starts-are c)
 
 value-is : (c : tie.After-discounted)
@@ -42,22 +44,21 @@ fill-starts-requires : tie.Need-fill-starts-requires
 fill-starts-requires c κs = search needs
 
 reached-sum-requires : tie.Need-reached-sum-requires
-reached-sum-requires c κs = let r = row c in (r .few, r .light, λ k m. row-read r k (c .before .before .before .before .before .before .before .before .before .args .c .premium) m (omega arith))
+reached-sum-requires c κs = let r = row c in (r .few, λ k m. reached-up entryMost (row-reached r k (c .before .before .before .before .before .before .before .before .before .args .c .premium) m (omega arith)) (r .most-is))
 
 discounted-requires : tie.Need-discounted-requires
 discounted-requires c κs = search needs
 
-cast-result : tie.Need-cast-result
-cast-result c =
-    let args = c .before .before .before .before .before .before .before .before .before .before .before .args in
-    let shared-slice-known = c .before .before .before .before .before .before .before .before .before .before .shared-slice-known in
-    rw (value-is c) (let s = row-small (row (c .before .before)) (λ j. shared-slice-known .given j .fits) (args .c .premium) in omega arith)
-
 returns : tie.Need-returns
 returns c =
     let args = c .before .before .before .before .before .before .before .before .before .before .before .args in
+    let pre = c .before .before .before .before .before .before .before .before .before .before .before .pre in
     let fill-starts = c .before .before .before .before .fill-starts in
-    value-is c ∙ balance-cells (balance (c .before .before)) (fill-starts .last .0) (starts-are (c .before .before)) (args .c .premium)
+    let is = value-is c ∙ balance-cells (balance (c .before .before)) (fill-starts .last .0) (starts-are (c .before .before)) (args .c .premium) in
+    let valid = pre .1 .layers .valid in
+    let most = expected-le (termsIn (args .c)) (returnsOf (args .list .now)) _ (args .c .premium) (args .c .premium) entryMost valid (pre .0 .valid)
+    (λ w h. le-trans (pre .1 .small w (args .c .premium) h (omega arith)) (value-most valid)) in
+    (is, rw is most)
 
 pub start-value-spec : {M : Type 1} → statement M
 start-value-spec =
@@ -68,5 +69,4 @@ start-value-spec =
     fill-starts-requires
     reached-sum-requires
     discounted-requires
-    cast-result
     returns)

@@ -3,7 +3,6 @@ use Prim.Native.Nat.{_+_, _-_, _≤_}
 use lib.ListN.{length, set, getD}
 use mathlib.Core.Path.{_≡_, refl, sym, ap, _∙_}
 use native.Mathlib.Omega.{arith}
-use Rattle.laws.specs.Bounds.{discounted-average}
 use Rattle.rules.specs.Date.{discounted}
 use Rattle.slices.specs.Stored.{stored, length-stored, stored-next}
 use Rattle.expect.proofs.store_sums.Statement.{statement}
@@ -27,17 +26,6 @@ element-copy-out-discounted c = omega arith
 
 discounted-requires : tie.Need-discounted-requires Inv-loop μ-loop
 discounted-requires c κs = (c .before .before .before .before .pre .0, let s = c .before .before .before .before .pre .3 (c .before .before .loop .j) (c .before .loop-test .taken) in omega arith)
-
-cast-work : tie.Need-cast-work Inv-loop μ-loop
-cast-work c =
-    let args = c .before .before .before .before .before .args in
-    let pre = c .before .before .before .before .before .pre in
-    let loop = c .before .before .before .loop in
-    let j' = loop .j in
-    let loop-test = c .before .before .loop-test in
-    let s = discounted-average (args .discount) (getD (args .sums .now) j' 0) 4294967295 (pre .0) (pre .3 j' (loop-test .taken)) in
-    let e = c .discounted .ensures in
-    omega arith
 
 add-work : tie.Need-add-work Inv-loop μ-loop
 add-work c = omega (arith, c .before .before .before .before .before .pre .2)
@@ -80,7 +68,6 @@ store-sums-spec =
     mul-discounted
     element-copy-out-discounted
     discounted-requires
-    cast-work
     add-work
     mul-work
     slice-write-work

@@ -1,6 +1,5 @@
 -- `plain::raise` meets its contract. Assumes nothing.
 use Prim.Native.Nat.{ℕ, _+_, _-_, _≤_}
-use borrow.Author.Needs.{needs}
 use lib.Dec.{ltb}
 use lib.ListN.{length, getD, set}
 use mathlib.Core.Bool.{cond}
@@ -24,36 +23,41 @@ unfolding stored
 loop-holds c = (omega arith, refl)
 
 add-held : tie.Need-add-held Inv-loop μ-loop
-add-held c = omega (arith, c .before .before .before .pre)
+add-held c = omega (arith, c .before .before .before .pre .0)
 
 mul-held : tie.Need-mul-held Inv-loop μ-loop
-mul-held c = omega (arith, c .before .before .before .pre)
+mul-held c = omega (arith, c .before .before .before .pre .0)
 
 slice-read-held : tie.Need-slice-read-held Inv-loop μ-loop
 slice-read-held c =
     let args = c .before .before .before .before .args in
     let pre = c .before .before .before .before .pre in
     let loop = c .before .before .loop in
-    let e : length (loop .work) ≡ length (args .work .now) = ap length (loop .inv .1) ∙ length-stored _ _ _ _ in omega (arith, pre)
+    let e : length (loop .work) ≡ length (args .work .now) = ap length (loop .inv .1) ∙ length-stored _ _ _ _ in omega (arith, pre .0)
 
 pick-requires : tie.Need-pick-requires Inv-loop μ-loop
-pick-requires c κs = search needs
+pick-requires c κs =
+    let args = c .before .before .before .before .args in
+    let pre = c .before .before .before .before .pre in
+    let loop = c .before .before .loop in
+    let held = ap (λ (xs : List ℕ). getD xs (args .to + loop .i) 0) (loop .inv .1) ∙ stored-out _ _ _ _ (args .to + loop .i) (inr (le-refl _)) in
+    (rw held (pre .2 (loop .i) (c .before .loop-test .taken)), pre .1)
 
 add-work : tie.Need-add-work Inv-loop μ-loop
-add-work c = omega (arith, c .before .before .before .before .before .pre)
+add-work c = omega (arith, c .before .before .before .before .before .pre .0)
 
 mul-work : tie.Need-mul-work Inv-loop μ-loop
-mul-work c = omega (arith, c .before .before .before .before .before .pre)
+mul-work c = omega (arith, c .before .before .before .before .before .pre .0)
 
 slice-write-work : tie.Need-slice-write-work Inv-loop μ-loop
 slice-write-work c =
     let args = c .before .before .before .before .before .args in
     let pre = c .before .before .before .before .before .pre in
     let loop = c .before .before .before .loop in
-    let e : length (loop .work) ≡ length (args .work .now) = ap length (loop .inv .1) ∙ length-stored _ _ _ _ in omega (arith, pre)
+    let e : length (loop .work) ≡ length (args .work .now) = ap length (loop .inv .1) ∙ length-stored _ _ _ _ in omega (arith, pre .0)
 
 add-i : tie.Need-add-i Inv-loop μ-loop
-add-i c = omega (arith, c .before .before .before .before .before .pre)
+add-i c = omega (arith, c .before .before .before .before .before .pre .0)
 
 loop-less : tie.Need-loop-less Inv-loop μ-loop
 loop-less c = omega arith

@@ -29,9 +29,6 @@ loop-holds c = (omega arith, refl, refl)
 mul-work : tie.Need-mul-work Inv-loop μ-loop
 mul-work c = omega (arith, c .before .before .before .before .pre .level-is, c .before .before .before .before .pre .width)
 
-cast-work : tie.Need-cast-work Inv-loop μ-loop
-cast-work c = omega (arith, c .before .before .before .before .pre .level-is, c .before .before .before .before .pre .width)
-
 less-requires : tie.Need-less-requires Inv-loop μ-loop
 less-requires c κs = search needs
 
@@ -194,7 +191,6 @@ static-few-spec =
     mul-row
     loop-holds
     mul-work
-    cast-work
     less-requires
     mul-work-2
     add-work

@@ -42,11 +42,6 @@ mul-copy c =
     let pre = c .before .before .before .before .before .before .before .before .before .before .before .pre in
     omega (arith, pre .level-is, pre .width)
 
-cast-copy : tie.Need-cast-copy
-cast-copy c =
-    let pre = c .before .before .before .before .before .before .before .before .before .before .before .pre in
-    omega (arith, pre .level-is, pre .width)
-
 copy-requires : tie.Need-copy-requires
 copy-requires c κs =
     let args = c .before .before .before .before .before .before .before .before .before .before .before .args in
@@ -117,7 +112,6 @@ static-row-spec =
     add-at
     sub-copy
     mul-copy
-    cast-copy
     copy-requires
     sub-fill
     cast-fill

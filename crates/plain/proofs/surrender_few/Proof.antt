@@ -1,11 +1,11 @@
 -- `plain::surrender_few` meets its contract. Assumes nothing.
-use Prim.Native.Nat.{ℕ, _+_, _-_, _*_, _≤_, _<_}
+use Prim.Native.Nat.{ℕ, _+_, _-_, _*_, _^_, _≤_, _<_}
 use borrow.Author.Needs.{needs}
 use lib.ListN.{getD}
 use mathlib.Core.Logic.{inr}
 use mathlib.Core.Path.{_≡_, ap, sym, _∙_, subst}
 use native.Mathlib.Omega.{arith}
-use Rattle.plain.proofs.Settled.{row-room, row-long, table-long, base-is, base-read, base-small, few-in, few-one, mixed-none, mixed-run, surrender-worth}
+use Rattle.plain.proofs.Settled.{row-room, row-long, table-long, base-is, base-read, base-settled, settled-small, few-in, few-one, mixed-none, mixed-run, surrender-worth}
 use Rattle.plain.specs.Row.{Settled, mixedBelow}
 use Rattle.rules.specs.Date.{freeAmount}
 use Rattle.slices.specs.Rows.{cells}
@@ -27,9 +27,6 @@ loop-holds c = (omega arith, mixed-none (c .before .before .before .pre .2))
 cash-requires : tie.Need-cash-requires Inv-loop μ-loop
 cash-requires c κs = (c .before .before .before .before .before .pre .1, c .before .before .before .before .before .pre .0 .account)
 
-cast-other : tie.Need-cast-other Inv-loop μ-loop
-cast-other c = let k = c .cash .ensures .1 in omega arith
-
 mul-other : tie.Need-mul-other Inv-loop μ-loop
 mul-other c =
     let pre = c .before .before .before .before .before .before .pre in
@@ -44,19 +41,8 @@ slice-read-other c =
 
 add-other : tie.Need-add-other Inv-loop μ-loop
 add-other c =
-    let args = c .before .before .before .before .before .before .before .args in
-    let work₀ = args .work .now in
-    let stride₀ = args .stride in
-    let base₀ = args .base in
     let pre = c .before .before .before .before .before .before .before .pre in
-    let loop = c .before .before .before .loop in
-    let base : getD (loop .work) base₀ 0 ≡ cells work₀ base₀ stride₀ 0 0 =
-    loop .inv .1 .work-out base₀ (inr (let r = row-room (pre .0) 0 stride₀ (omega arith) in omega arith))
-    ∙ ap (λ (z : ℕ). getD work₀ z 0) (sym (base-is (pre .0))) in
-    let b = base-small (pre .0) in
-    let k = c .before .cash .ensures .1 in
-    let z = ap (λ (z : ℕ). getD work₀ z 0) (base-is (pre .0)) in
-    omega arith
+    omega (arith, base-settled (pre .0) (c .before .before .before .loop .inv .1), c .before .cash .ensures .1)
 
 mul-offer-same : tie.Need-mul-offer-same Inv-loop μ-loop
 mul-offer-same c =
@@ -96,7 +82,12 @@ offer-same-requires c κs =
     let s = few-in (args .level) (args .w) (smaller .result) a' (smaller .ensures) (loop-test .taken) in
     let r = row-long (pre .0) a' 1 (omega (arith, pre .0 .level-is)) in
     let t = table-long (pre .0) a' 1 (omega (arith, pre .0 .level-is)) in
-    (omega (arith, loop .inv .1 .work-long), omega (arith, loop .inv .1 .table-long))
+    let cash = c .before .before .before .cash in (
+      omega (arith, loop .inv .1 .work-long),
+      omega (arith, loop .inv .1 .table-long),
+      omega (arith, base-settled (pre .0) (loop .inv .1), cash .ensures .1),
+      λ i l. subst (λ (z : ℕ). getD (loop .work) z 0 < 2 ^ 63) (omega arith) (settled-small (pre .0) (loop .inv .1) (a' + i) (omega (arith, pre .0 .level-is))),
+    )
 
 add-a : tie.Need-add-a Inv-loop μ-loop
 add-a c =
@@ -150,7 +141,6 @@ surrender-few-spec =
     smaller-requires
     loop-holds
     cash-requires
-    cast-other
     mul-other
     slice-read-other
     add-other

@@ -1,10 +1,10 @@
 -- `plain::surrender_row` meets its contract. Assumes nothing.
-use Prim.Native.Nat.{ℕ, _+_, _-_, _*_, _<_, min}
+use Prim.Native.Nat.{ℕ, _+_, _-_, _*_, _^_, _<_, min}
 use lib.ListN.{length, getD}
 use mathlib.Core.Logic.{inr}
 use mathlib.Core.Path.{_≡_, ap, sym, _∙_, subst}
 use native.Mathlib.Omega.{arith}
-use Rattle.plain.proofs.Settled.{row-room, row-long, table-long, base-is, base-read, base-small, level-free, none-above, mixed-rest, mixed-run, surrender-worth}
+use Rattle.plain.proofs.Settled.{row-room, row-long, table-long, base-is, base-read, base-settled, settled-small, level-free, none-above, mixed-rest, mixed-run, surrender-worth}
 use Rattle.plain.specs.Row.{Settled, mixedBelow}
 use Rattle.slices.specs.Rows.{cells}
 use Rattle.slices.specs.Stored.{length-stored}
@@ -16,9 +16,6 @@ surrender-few-requires c κs = c .before .before .before .before .pre
 
 cash-requires : tie.Need-cash-requires
 cash-requires c κs = (c .before .before .before .before .before .before .before .before .before .before .pre .1, c .before .before .before .before .before .before .before .before .before .before .pre .0 .account)
-
-cast-other : tie.Need-cast-other
-cast-other c = let k = c .cash .ensures .1 in omega arith
 
 mul-other : tie.Need-mul-other
 mul-other c =
@@ -34,19 +31,9 @@ slice-read-other c =
 
 add-other : tie.Need-add-other
 add-other c =
-    let args = c .before .before .before .before .before .before .before .before .before .before .before .before .args in
-    let work₀ = args .work .now in
-    let stride₀ = args .stride in
-    let base₀ = args .base in
     let pre = c .before .before .before .before .before .before .before .before .before .before .before .before .pre in
     let surrender-few = c .before .before .before .before .before .before .before .surrender-few in
-    let base : getD (surrender-few .last .0) base₀ 0 ≡ cells work₀ base₀ stride₀ 0 0 =
-    surrender-few .ensures .work-out base₀ (inr (let r = row-room (pre .0) 0 stride₀ (omega arith) in omega arith))
-    ∙ ap (λ (z : ℕ). getD work₀ z 0) (sym (base-is (pre .0))) in
-    let b = base-small (pre .0) in
-    let k = c .before .cash .ensures .1 in
-    let z = ap (λ (z : ℕ). getD work₀ z 0) (base-is (pre .0)) in
-    omega arith
+    omega (arith, base-settled (pre .0) (surrender-few .ensures), c .before .cash .ensures .1)
 
 mul-offer-same : tie.Need-mul-offer-same
 mul-offer-same c =
@@ -75,7 +62,12 @@ offer-same-requires c κs =
     let surrender-few = c .before .before .before .before .before .before .before .before .before .surrender-few in
     let r = row-long (pre .0) level₀ (stride₀ - level₀) (omega (arith, pre .0 .level-is)) in
     let t = table-long (pre .0) level₀ (stride₀ - level₀) (omega (arith, pre .0 .level-is)) in
-    (omega (arith, surrender-few .ensures .work-long), omega (arith, surrender-few .ensures .table-long))
+    let cash = c .before .before .before .cash in (
+      omega (arith, surrender-few .ensures .work-long),
+      omega (arith, surrender-few .ensures .table-long),
+      omega (arith, base-settled (pre .0) (surrender-few .ensures), cash .ensures .1),
+      λ i l. subst (λ (z : ℕ). getD (surrender-few .last .0) z 0 < 2 ^ 63) (omega arith) (settled-small (pre .0) (surrender-few .ensures) (level₀ + i) (omega arith)),
+    )
 
 same-length : tie.Need-same-length
 same-length c =
@@ -129,7 +121,6 @@ surrender-row-spec =
     (tie.spec
     surrender-few-requires
     cash-requires
-    cast-other
     mul-other
     slice-read-other
     add-other

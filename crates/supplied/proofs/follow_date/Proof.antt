@@ -18,7 +18,7 @@ expect-layer-requires c κs = search needs
 
 mul-follow-layer : tie.Need-mul-follow-layer
 unfolding layerSize
-mul-follow-layer c = let s = size-most (c .before .before .before .before .before .before .before .before .before .before .pre .layers .valid) in omega arith
+mul-follow-layer c = let s = size-most (c .before .before .before .before .before .before .before .before .before .before .pre .first .layers .valid) in omega arith
 
 follow-layer-requires : tie.Need-follow-layer-requires
 follow-layer-requires c κs =

@@ -11,7 +11,7 @@ use Rattle.rules.specs.Date.{freeAmount}
 use Rattle.slices.specs.Rows.{cells, rows-step}
 use Rattle.slices.specs.Stored.{stored, stored-next, length-stored}
 use Rattle.supplied.specs.Followed.{State, followed}
-use Rattle.supplied.proofs.Laws.{row-room, row-entry, amount-within, sums-kept, state-on, value-small}
+use Rattle.supplied.proofs.Laws.{row-room, row-entry, amount-within, sums-kept, state-on}
 use Rattle.supplied.proofs.follow_row.Statement.{statement}
 use Rattle.supplied.proofs.follow_row.Tie as tie
 
@@ -95,14 +95,6 @@ value-is c =
     let kept = ap (λ (xs : List ℕ). cells xs (args .base) stride₀) (loop .inv .1) ∙ sums-kept w₀ pre _ a' (loop .inv .0) in
     c .worth .ensures ∙ ap₂ (λ (e : ℕ → ℕ → ℕ) (t : ℕ). worthOver e (args .rate) (freeAmount (args .level) a') w₀ a' t) kept amount
 
-cast-work : tie.Need-cast-work Inv-loop μ-loop
-cast-work c =
-    let args = c .before .before .before .before .before .before .before .before .args in
-    let pre = c .before .before .before .before .before .before .before .before .pre in
-    let loop = c .before .before .before .before .before .loop in
-    let loop-test = c .before .before .before .before .loop-test in
-    let s = value-small (args .w) pre (loop .a) (loop-test .taken) in rw (value-is c) (omega arith)
-
 mul-work : tie.Need-mul-work Inv-loop μ-loop
 mul-work c =
     let args = c .before .before .before .before .before .before .before .before .args in
@@ -167,7 +159,6 @@ follow-row-spec =
     shared-slice-read-wide16
     wide16-requires
     worth-requires
-    cast-work
     mul-work
     slice-write-work
     add-a

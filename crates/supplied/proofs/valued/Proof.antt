@@ -1,20 +1,20 @@
 -- `supplied::valued` meets its contract. Assumes nothing.
-use Prim.Native.Nat.{_+_, _-_, _*_}
-use Prim.Native.Nat.{ℕ}
+use Prim.Native.Nat.{ℕ, _+_, _-_, _*_, _≤_}
 use borrow.Author.Needs.{needs}
 use borrow.Author.Tests.{lt-ltb, le-ltb}
 use lib.Dec.{ltb}
 use mathlib.Core.Path.{ap, sym, _∙_}
 use native.Mathlib.Omega.{arith}
 use Rattle.contract.specs.Reading.{termsIn}
+use Rattle.decision.specs.Index.{first}
 use Rattle.laws.specs.Supplied.{slices-refused, entry-refused, table-accepted}
 use Rattle.laws.specs.Valuing.{lent-room}
 use Rattle.rules.specs.FixedTerm.{layerSize}
-use Rattle.rules.specs.Operations.{tableSize}
+use Rattle.rules.specs.Operations.{tableSize, badEntry}
 use Rattle.valuing.specs.Answered.{refusal}
 use Rattle.laws.specs.FixedTerm.{size-most, table-most}
 use Rattle.valuing.specs.First.{first-from, settling}
-use Rattle.supplied.proofs.Laws.{answered-refused, answered-accepted, starting}
+use Rattle.supplied.proofs.Laws.{answered-refused, answered-accepted, starting, table-on-most}
 use Rattle.supplied.proofs.valued.Statement.{statement}
 use Rattle.supplied.proofs.valued.Tie as tie
 
@@ -112,10 +112,16 @@ settle-requires c κs =
     let pre = c .before .before .before .before .before .before .before .before .before .before .before .before .before .before .before .before .before .before .before .before .before .before .pre in
     let too-short = c .before .before .before .before .before .before .before .before .before .before .before .before .before .before .before .before .before .too-short in
     let if1 = c .before .before .before .before .before .before .before .before .before .before .before .before .before .before .before .before .if1 in
+    let first-bad = c .before .before .before .before .before .before .before .before .before .before .before .before .before .before .before .first-bad in
+    let if2 = c .before .before .before .before .before .before .before .before .before .before .before .if2 in
     let fill-maturity = c .before .before .before .before .before .before .before .fill-maturity in
     let follow-dates = c .before .before .before .follow-dates in
     let d = first-from _ (fill-maturity .ensures) (follow-dates .ensures) in
-    settling work₀ (pre .valid) (pre .listing) (lent-room (termsIn (args .c)) 0 work₀ (args .table .now) (sym (too-short .ensures) ∙ if1 .left) .0) (d .long)
+    let r = lent-room (termsIn (args .c)) 0 work₀ (args .table .now) (sym (too-short .ensures) ∙ if1 .left) in
+    let c₀ = termsIn (args .c) in
+    let none : tableSize c₀ ≤ first (badEntry c₀ (args .table .now)) (tableSize c₀) = rw (sym (first-bad .ensures)) (if2 .left) in
+    settling (pre .valid) (pre .listing) (r .0) d
+    (λ w a. table-on-most _ (args .table .now) (pre .valid) (pre .listing .valid) none 1 w a (omega arith) (pre .valid .dates-least))
 
 same-length-3 : tie.Need-same-length-3
 same-length-3 c = search needs

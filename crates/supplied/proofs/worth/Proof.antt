@@ -22,13 +22,15 @@ guarantee-after-requires c κs = search needs
 balance-after-requires : tie.Need-balance-after-requires
 balance-after-requires c κs = search needs
 
-at-within : (c : tie.After-balance-after) → c .before .before .before .before .args .base + (c .balance-after .result * c .before .before .before .before .args .stride + c .before .guarantee-after .result) < length (c .before .before .before .before .args .work .now)
+left : (c : tie.After-balance-after) → (c .balance-after .result ≤ c .before .before .before .before .args .w) × (c .before .guarantee-after .result ≤ c .before .before .before .before .args .a)
 unfolding balanceAfter
-at-within c =
-    let g = guarantee-le (c .before .before .free-amount .result) (c .before .before .before .before .args .w) (c .before .before .before .before .args .a) (c .before .before .before .before .args .t) in
-    let y : c .before .guarantee-after .result ≤ c .before .before .before .before .args .a = le-trans (le-of-eq (c .before .guarantee-after .ensures)) (le-trans g (sub-le _ _)) in
-    let x : c .balance-after .result ≤ c .before .before .before .before .args .w = le-trans (le-of-eq (c .balance-after .ensures)) (sub-le _ _) in
-    place (c .before .before .before .before .pre .0) _ _ x y
+left c =
+    let args = c .before .before .before .before .args in
+    let g = guarantee-le (c .before .before .free-amount .result) (args .w) (args .a) (args .t) in
+    (le-trans (le-of-eq (c .balance-after .ensures)) (sub-le _ _), le-trans (le-of-eq (c .before .guarantee-after .ensures)) (le-trans g (sub-le _ _)))
+
+at-within : (c : tie.After-balance-after) → c .before .before .before .before .args .base + (c .balance-after .result * c .before .before .before .before .args .stride + c .before .guarantee-after .result) < length (c .before .before .before .before .args .work .now)
+at-within c = place (c .before .before .before .before .pre .0) _ _ (left c .0) (left c .1)
 
 mul-at : tie.Need-mul-at
 mul-at c = let p = at-within c in omega arith
@@ -52,7 +54,10 @@ wide-requires : tie.Need-wide-requires
 wide-requires c κs = search needs
 
 add-result : tie.Need-add-result
-add-result c = search needs
+add-result c =
+    let l = left (c .before .before .before) in
+    let s = c .before .before .before .before .before .before .before .pre .0 .small _ _ (l .0) (l .1) in
+    omega (arith, c .wide .ensures, c .before .before .cash .ensures .1)
 
 returns : tie.Need-returns
 unfolding worthOver
@@ -63,7 +68,7 @@ returns c =
     let guarantee-after = c .before .before .before .before .guarantee-after in
     let balance-after = c .before .before .before .balance-after in
     let cash-of = c .before .before .cash in
-    ap₂ (λ (x y : ℕ). x + y) (cash-of .ensures .0 ∙ ap (λ (m : ℕ). cash (args .rate) m t₀) (free-amount .ensures)) (c .wide .ensures .0 ∙ ap₂ (λ (x y : ℕ). cells (args .work .now) (args .base) (args .stride) x y) (balance-after .ensures) (guarantee-after .ensures ∙ ap (λ (m : ℕ). guaranteeAfter m (args .w) (args .a) t₀) (free-amount .ensures)))
+    ap₂ (λ (x y : ℕ). x + y) (cash-of .ensures .0 ∙ ap (λ (m : ℕ). cash (args .rate) m t₀) (free-amount .ensures)) (c .wide .ensures ∙ ap₂ (λ (x y : ℕ). cells (args .work .now) (args .base) (args .stride) x y) (balance-after .ensures) (guarantee-after .ensures ∙ ap (λ (m : ℕ). guaranteeAfter m (args .w) (args .a) t₀) (free-amount .ensures)))
 
 pub worth-spec : {M : Type 1} → statement M
 worth-spec =

@@ -3,7 +3,8 @@ use borrow.Author.Needs.{needs}
 use native.Mathlib.Omega.{arith}
 use Rattle.rules.specs.FixedTerm.{layerSize}
 use Rattle.valuing.specs.First.{settling}
-use Rattle.valuing.proofs.Laws.{answered, starting, from-start}
+use Rattle.dates.specs.Back.{values-most}
+use Rattle.valuing.proofs.Laws.{answered, starting, first, from-start}
 use Rattle.valuing.proofs.valued.Statement.{statement}
 use Rattle.valuing.proofs.valued.Tie as tie
 
@@ -30,7 +31,8 @@ settle-requires : tie.Need-settle-requires
 unfolding layerSize
 settle-requires c κs =
     let pre = c .before .before .before .before .before .before .before .before .before .before .before .before .before .before .before .before .before .pre in
-    settling (c .before .before .before .before .before .before .before .before .before .before .before .before .before .before .before .before .before .args .work .now) (pre .ready .valid) (pre .ready .listing) (pre .room) (from-start _ (c .before .before .before .before .before .before .before .before .before .before .fill-maturity .ensures) (c .before .before .before .before .before .all-dates .ensures) .long)
+    let v = from-start _ (c .before .before .before .before .before .before .before .before .before .before .fill-maturity .ensures) (c .before .before .before .before .before .all-dates .ensures) in
+    settling (pre .ready .valid) (pre .ready .listing) (pre .room) (first v) (values-most _ _ _ (pre .ready .valid) (pre .ready .listing .valid) 1)
 
 same-length : tie.Need-same-length
 same-length c = search needs

@@ -40,9 +40,6 @@ cash-on-requires c κs =
     let inside = c .before .if1 .taken in
     (v, inside, le-trans (le-of-eq (c .amount-on .ensures)) (amount-small (loop .inv .2) (loop .inv .0) v (pre .2) inside))
 
-cast-cash : tie.Need-cast-cash Inv-loop μ-loop
-cast-cash c = omega (arith, c .cash-on .ensures .1)
-
 sub-cash : tie.Need-sub-cash Inv-loop μ-loop
 sub-cash c = omega (arith, c .before .before .before .before .loop .inv .0)
 
@@ -112,9 +109,6 @@ maturity-value-requires c κs =
     let loop = c .before .before .before .loop in
     let v = pre .0 .valid in (le-trans (loop .inv .2 .account) (v .top), le-trans (loop .inv .2 .guarantee) (le-trans (v .premium) (v .top)))
 
-cast-cash-2 : tie.Need-cast-cash-2 Inv-loop μ-loop
-cast-cash-2 c = omega (arith, c .maturity-value .ensures .1)
-
 mul-cash-2 : tie.Need-mul-cash-2 Inv-loop μ-loop
 mul-cash-2 c =
     let args = c .before .before .before .before .before .before .before .before .before .before .args in
@@ -159,7 +153,6 @@ pay-spec =
     loop-holds
     amount-on-requires
     cash-on-requires
-    cast-cash
     sub-cash
     mul-cash
     slice-write-cash
@@ -169,7 +162,6 @@ pay-spec =
     loop-again
     sub-last
     maturity-value-requires
-    cast-cash-2
     mul-cash-2
     slice-write-cash-2
     same-length

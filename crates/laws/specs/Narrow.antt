@@ -1,0 +1,214 @@
+-- Values, layers and cash of an accepted contract are below 2 ^ 32, as narrow slices hold them. Assumes nothing.
+use mathlib.Core.List.{List, [], _∷_, _++_, append-nil}
+use mathlib.Core.Path.{_≡_, sym, subst}
+use Prim.Native.Nat.{ℕ, zero, suc, _+_, _-_, _*_, _^_, _≤_, _<_}
+use native.Mathlib.Nat.{le-refl, le-trans, mul-le-mul, sub-le, mod-lt, div-lt-iff-lt-mul}
+use native.Mathlib.Omega.{arith}
+use lib.Dec.{T, eqb, eqb→eq, nltb→le}
+use lib.ListN.{getD, length}
+use Rattle.decision.specs.Index.{tabulate, first, all-fail}
+use Rattle.decision.specs.Process.{Table, tableValue, startTableValue, Decides}
+use Rattle.decision.specs.Layers.{lookup, layer}
+use Rattle.rules.specs.Contract.{Terms, Returns, termsOf, returnsOf}
+use Rattle.rules.specs.Date.{Behaviour, dynamic}
+use Rattle.rules.specs.Product.{stateValue, contractValue, valueLayer, suppliedValue, suppliedLayer, walkState, walkAmount, walkCash}
+use Rattle.rules.specs.FixedTerm.{State, Held, InRange, freeIn, admissibleIn, rateIn, cashIn, afterIn, reachBy, startOf, processOf, layerSize, layoutOf, fixedTerm}
+use Rattle.rules.specs.Refusals.{checkEach, accepted, recordChecks, listChecks}
+use Rattle.rules.specs.Operations.{productOf, answer, behaviourOf, tableSize, valuingVerdict, valuingAnswer, badEntry, tableChecks, suppliedChecks, suppliedVerdict, suppliedAnswer, badDate, pathChecks, walkChecks, walkVerdict}
+use Rattle.laws.specs.Accepted.{Valid, ValidReturns, AllPass, all-pass, pass-right, not-not, then-earlier, both-terms, both-returns, success-reports}
+use Rattle.laws.specs.Date.{guarantee-le, account-le}
+use Rattle.laws.specs.FixedTerm.{closed}
+use Rattle.laws.specs.Bounds.{cash-le, amount-le, ends, averages, state-value-le, table-value-le, contract-value-le}
+use Rattle.laws.specs.ThirdDemand.{valuing-terms, valuing-returns, valuing-reports}
+use Rattle.laws.specs.Supplied.{all-admitted}
+use Rattle.laws.specs.Walk.{walk-first, walk-next}
+
+module _ (c : Terms) (rs : Returns) (v : Valid c) (u : ValidReturns rs) where
+  -- the largest is 1,640,000,000
+  pub value-narrow : (i : ℕ) → 10000 * c .top + (c .dates - i) * (10000 * c .top) < 2 ^ 32
+  value-narrow i =
+      let t : 10000 * c .top ≤ 40000000 = omega (arith, v .top) in
+      let n : c .dates - i ≤ 40 = omega (arith, v .dates) in
+      let p = mul-le-mul n t in
+      omega arith
+
+  pub state-value-narrow : (b : Behaviour) (i : ℕ) (s : State) → InRange c s
+      → stateValue (fixedTerm c rs) b i s < 2 ^ 32
+  state-value-narrow b i s g = let l = state-value-le c rs v u b i s g in let m = value-narrow i in omega arith
+
+  pub contract-value-narrow : (b : Behaviour) → contractValue (fixedTerm c rs) b < 2 ^ 32
+  contract-value-narrow b = let l = contract-value-le c rs v u b in let m = value-narrow 1 in omega arith
+
+  -- the same of a table whose entries are admissible
+  module _ (d : Table State)
+      (admits : (i : ℕ) (s : State) → Decides (processOf c rs) (InRange c) i s → T (admissibleIn c dynamic s (d i s)))
+    where
+      pub table-value-narrow : (i : ℕ) (s : State) → 1 ≤ i → i ≤ c .dates → InRange c s
+          → tableValue (processOf c rs) d i s < 2 ^ 32
+      table-value-narrow i s l m g =
+          let x = table-value-le c rs v u d admits i s l m g in
+          let y = value-narrow i in
+          omega arith
+
+      pub table-start-narrow : startTableValue (processOf c rs) d < 2 ^ 32
+      unfolding startTableValue processOf
+      table-start-narrow =
+          let reached : ℕ → ℕ = λ k. tableValue (processOf c rs) d 1 (reachBy c rs (startOf c) k) in
+          let x = averages c rs v u 0 (startOf c) reached _ (λ k l.
+          table-value-le c rs v u d admits 1 _ (le-refl 1) (v .dates-least) (closed c rs dynamic .starts k l)) in
+          let y = value-narrow 1 in
+          omega arith
+
+  -- cash, and the payment at maturity
+  pub cash-narrow : (b : Behaviour) (i : ℕ) (s : State) (t : ℕ) → InRange c s → T (admissibleIn c b s t)
+      → cashIn c i s t < 2 ^ 32
+  unfolding cashIn
+  cash-narrow b i s t g p =
+      let l = cash-le (rateIn c i) (freeIn c s) t in
+      let m = amount-le c rs v u b s t g p in
+      omega (arith, v .top)
+
+  pub maturity-narrow : (s : State) → InRange c s → processOf c rs .final s < 2 ^ 32
+  maturity-narrow s g = omega (arith, ends c rs v u s g, v .top)
+
+-- ---- the states of a layer, and those that a return leads to, are in range
+pub placed-in-range : (c : Terms) (e : ℕ) → e < layerSize c → InRange c (layoutOf c .stateAt e)
+unfolding layoutOf layerSize
+placed-in-range c e l =
+    let p : 0 < c .premium + 1 = omega arith in
+    let w = div-lt-iff-lt-mul {k = c .premium + 1} {x = e} {y = c .top + 1} p .1 l in
+    let a = mod-lt e p in
+    record { account = omega arith; guarantee = omega arith }
+
+pub reached-in-range : (c : Terms) (rs : Returns) (h : Held) (k : ℕ) → h .guarantee ≤ c .premium
+    → InRange c (reachBy c rs h k)
+unfolding reachBy
+reached-in-range c rs h k l = record { account = account-le _ _ _ _; guarantee = l }
+
+-- ---- lists
+abbrev pub AllNarrow : List ℕ → Type 0
+AllNarrow xs = (e : ℕ) → getD xs e 0 < 2 ^ 32
+
+pub tabulate-narrow : (n : ℕ) (f : ℕ → ℕ) (rest : List ℕ) → ((k : ℕ) → k < n → f k < 2 ^ 32) → AllNarrow rest
+    → AllNarrow (tabulate n f ++ rest)
+unfolding tabulate
+tabulate-narrow zero f rest h r e = r e
+tabulate-narrow (suc n) f rest h r zero = h 0 (omega arith)
+tabulate-narrow (suc n) f rest h r (suc e) =
+    tabulate-narrow n (λ k. f (suc k)) rest (λ k l. h (suc k) (omega arith)) r e
+
+pub layer-narrow : (c : Terms) (f : State → ℕ) → ((s : State) → InRange c s → f s < 2 ^ 32)
+    → AllNarrow (layer (layoutOf c) f)
+unfolding layer layoutOf
+layer-narrow c f h =
+    let at : ℕ → ℕ = λ e. f (layoutOf c .stateAt e) in
+    subst AllNarrow (append-nil (tabulate (layerSize c) at))
+    (tabulate-narrow (layerSize c) at [] (λ e l. h _ (placed-in-range c e l)) (λ e. omega arith))
+
+-- ---- a walk
+module _ (c : Terms) (rs : Returns) (table path : List ℕ) where
+  abbrev stateOn : ℕ → State
+  stateOn i = walkState (fixedTerm c rs) table path i
+
+  abbrev amountOn : ℕ → ℕ
+  amountOn i = walkAmount (fixedTerm c rs) table path i
+
+  -- the states met are in range, whatever the table holds
+  pub walk-in-range : (n : ℕ) → n < length path → InRange c (stateOn (suc n))
+  unfolding fixedTerm processOf startOf afterIn
+  walk-in-range zero l =
+      subst (InRange c) (sym (walk-first (fixedTerm c rs) table path l))
+      (reached-in-range c rs (startOf c) _ (le-refl (c .premium)))
+  walk-in-range (suc n) l =
+      let s = stateOn (suc n) in
+      let t = amountOn (suc n) in
+      let falls = le-trans (guarantee-le (freeIn c s) (s .account) (s .guarantee) t) (sub-le (s .guarantee) t) in
+      let range = walk-in-range n (omega arith) in
+      subst (InRange c) (sym (walk-next (fixedTerm c rs) table path (suc n) (omega arith) l))
+      (reached-in-range c rs (afterIn c (suc n) s t) _ (le-trans falls (range .guarantee)))
+
+  -- where no date is bad, the amounts met are admissible
+  module _ (none : c .dates - 1 ≤ first (badDate c rs table path) (c .dates - 1)) where
+    pub walk-admits : (j : ℕ) → j < c .dates - 1 → T (admissibleIn c dynamic (stateOn (suc j)) (amountOn (suc j)))
+    unfolding badDate
+    walk-admits j l =
+        let good = all-fail (badDate c rs table path) (c .dates - 1) none j l in
+        not-not (admissibleIn c dynamic (stateOn (suc j)) (amountOn (suc j))) (rw good tt)
+
+    pub walk-narrow : Valid c → ValidReturns rs → length path ≡ c .dates
+        → AllNarrow (walkCash (fixedTerm c rs) table path)
+    unfolding walkCash fixedTerm processOf
+    walk-narrow v u long = tabulate-narrow (c .dates - 1) _ _ pays ends
+      where
+        pays : (j : ℕ) → j < c .dates - 1 → cashIn c (suc j) (stateOn (suc j)) (amountOn (suc j)) < 2 ^ 32
+        pays j l = cash-narrow c rs v u dynamic (suc j) _ _ (walk-in-range j (omega arith)) (walk-admits j l)
+
+        last : InRange c (stateOn (c .dates))
+        last =
+            let up : suc (c .dates - 1) ≡ c .dates = omega (arith, v .dates-least) in
+            subst (λ (n : ℕ). InRange c (stateOn n)) up (walk-in-range (c .dates - 1) (omega arith))
+
+        ends : AllNarrow (processOf c rs .final (stateOn (c .dates)) ∷ [])
+        ends zero = maturity-narrow c rs v u _ last
+        ends (suc e) = omega arith
+
+-- ---- what the calls answer, on any input that they accept
+-- "For every contract valid today each stored number is the same number as before."
+pub record Narrow (value : ℕ) (layer : List ℕ) : Type 0 where
+  pub value-fits : value < 2 ^ 32
+  pub layer-fits : (e : ℕ) → getD layer e 0 < 2 ^ 32
+
+-- valuing: the value reported and the layer left
+pub narrow-valuing : (bytes list : List ℕ) (behaviour : ℕ) (work table : List ℕ)
+    → valuingVerdict bytes list behaviour work table ≡ accepted
+    → Narrow
+    (valuingAnswer bytes list behaviour work table .value)
+    (valueLayer (productOf bytes list) (behaviourOf behaviour))
+unfolding productOf valueLayer fixedTerm
+narrow-valuing bytes list behaviour work table a =
+    let c = termsOf bytes in
+    let rs = returnsOf list in
+    let v = valuing-terms bytes list behaviour work table a in
+    let u = valuing-returns bytes list behaviour work table a in
+    let b = behaviourOf behaviour in record {
+      value-fits = rw (valuing-reports bytes list behaviour work table a) (contract-value-narrow c rs v u b);
+      layer-fits = layer-narrow c (stateValue (fixedTerm c rs) b 1) (state-value-narrow c rs v u b 1);
+    }
+
+-- a supplied table: the same
+pub supplied-narrow : (c : Terms) (rs : Returns) (table : List ℕ) → Valid c → ValidReturns rs
+    → tableSize c ≤ first (badEntry c table) (tableSize c)
+    → Narrow (suppliedValue (fixedTerm c rs) table) (suppliedLayer (fixedTerm c rs) table)
+unfolding suppliedValue suppliedLayer fixedTerm processOf
+supplied-narrow c rs table v u none =
+    let d = lookup (layoutOf c) table in
+    let admits = all-admitted c rs table v none in record {
+      value-fits = table-start-narrow c rs v u d admits;
+      layer-fits =
+          layer-narrow c (tableValue (processOf c rs) d 1)
+          (λ s g. table-value-narrow c rs v u d admits 1 s (le-refl 1) (v .dates-least) g);
+    }
+
+pub narrow-supplied : (bytes list work table : List ℕ) → suppliedVerdict bytes list work table ≡ accepted
+    → Narrow (suppliedAnswer bytes list work table .value) (suppliedLayer (productOf bytes list) table)
+unfolding suppliedVerdict suppliedChecks suppliedAnswer answer tableChecks checkEach AllPass productOf
+narrow-supplied bytes list work table a =
+    let v = both-terms bytes list (then-earlier _ _ a) in
+    let u = both-returns bytes list (then-earlier _ _ a) in
+    let checks = pass-right (recordChecks bytes ++ listChecks list) _ (all-pass _ a) in
+    let x = supplied-narrow (termsOf bytes) (returnsOf list) table v u (nltb→le _ _ (checks .1 .0)) in record {
+      value-fits = rw (success-reports (suppliedValue (productOf bytes list) table) 0 a) (x .value-fits);
+      layer-fits = x .layer-fits;
+    }
+
+-- a walk: every cash, the last the payment at maturity
+pub narrow-walk : (bytes list table path cashes : List ℕ) → walkVerdict bytes list table path cashes ≡ accepted
+    → (e : ℕ) → getD (walkCash (productOf bytes list) table path) e 0 < 2 ^ 32
+unfolding walkVerdict walkChecks pathChecks checkEach AllPass productOf
+narrow-walk bytes list table path cashes a =
+    let c = termsOf bytes in
+    let v = both-terms bytes list (then-earlier _ _ a) in
+    let u = both-returns bytes list (then-earlier _ _ a) in
+    let checks = pass-right (recordChecks bytes ++ listChecks list) _ (all-pass _ a) in
+    let long = eqb→eq (length path) (c .dates) (not-not (eqb (length path) (c .dates)) (checks .1 .0)) in
+    walk-narrow c (returnsOf list) table path (nltb→le _ _ (checks .1 .1 .1 .0)) v u long
