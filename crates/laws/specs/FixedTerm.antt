@@ -1,16 +1,16 @@
 -- The fixed-term contract is sound: it owes the third demand nothing more. Assumes nothing.
 use Prim.Native.Nat.{ℕ, _+_, _-_, _*_, _≤_, _<_}
-use native.Mathlib.Nat.{le-refl, le-trans, min-le-left, mul-le-mul, mul-le-mul-left, mul-pos}
+use native.Mathlib.Nat.{le-refl, le-trans, mod-lt, div-lt-iff-lt-mul, mul-le-mul, mul-le-mul-left, mul-pos}
 use native.Mathlib.Omega.{arith}
 use Rattle.decision.specs.Index.{sum-le}
 use Rattle.decision.specs.Process.{Monotone, Open, Closed}
 use Rattle.decision.specs.Layers.{Placed, low-digit, high-digit, two-digits}
 use Rattle.rules.specs.Contract.{Terms, Returns}
-use Rattle.rules.specs.Date.{Behaviour, largestAmount, nextAccount, discounted}
-use Rattle.rules.specs.FixedTerm.{InRange, freeIn, admissibleIn, limitIn, afterIn, reachBy, expectOver, startOf, processOf, layerSize, layoutOf, fixedTerm}
+use Rattle.rules.specs.Date.{Behaviour, largestAmount, discounted}
+use Rattle.rules.specs.FixedTerm.{State, Held, InRange, freeIn, admissibleIn, limitIn, afterIn, reachBy, expectOver, startOf, processOf, layerSize, layoutOf, fixedTerm}
 use Rattle.rules.specs.Operations.{tableSize}
 use Rattle.laws.specs.Accepted.{Valid}
-use Rattle.laws.specs.Date.{static-mixed, mixed-dynamic, admits-free, admits-within, guarantee-le}
+use Rattle.laws.specs.Date.{static-mixed, mixed-dynamic, admits-free, admits-within, guarantee-le, account-le}
 use Rattle.laws.specs.Demand.{Sound}
 
 discounted-le : (d x y : ℕ) → x ≤ y → discounted d x ≤ discounted d y
@@ -30,16 +30,31 @@ opened c rs b = record {
   within = λ s t p. admits-within b (freeIn c s) (s .account) t p;
 }
 
+-- the states that a return leads to are in range
+pub reached-in-range : (c : Terms) (rs : Returns) (h : Held) (k : ℕ) → h .guarantee ≤ c .premium → InRange c (reachBy c rs h k)
+unfolding reachBy
+reached-in-range c rs h k l = record { account = account-le _ _ _ _; guarantee = l }
+
+pub after-falls : (c : Terms) (i : ℕ) (s : State) (t : ℕ) → s .guarantee ≤ c .premium → afterIn c i s t .guarantee ≤ c .premium
+unfolding afterIn
+after-falls c i s t g = le-trans (guarantee-le (freeIn c s) (s .account) (s .guarantee) t) (omega arith)
+
 -- whatever is withdrawn, the next state has an entry
 pub closed : (c : Terms) (rs : Returns) (b : Behaviour) → Closed (processOf c rs) (admissibleIn c b) (InRange c)
-unfolding processOf reachBy afterIn startOf nextAccount
+unfolding processOf afterIn startOf
 closed c rs b = record {
-  starts = λ k l. record { account = min-le-left _ _; guarantee = le-refl _ };
-  stays = λ i s t k g p l. record {
-    account = min-le-left _ _;
-    guarantee = le-trans (guarantee-le (freeIn c s) (s .account) (s .guarantee) t) (omega (arith, g .guarantee));
-  };
+  starts = λ k l. reached-in-range c rs (startOf c) k (le-refl _);
+  stays = λ i s t k g p l. reached-in-range c rs (afterIn c i s t) k (after-falls c i s t (g .guarantee));
 }
+
+-- the states of a layer are in range
+pub placed-in-range : (c : Terms) (e : ℕ) → e < layerSize c → InRange c (layoutOf c .stateAt e)
+unfolding layoutOf layerSize
+placed-in-range c e l =
+    let p : 0 < c .premium + 1 = omega arith in
+    let w = div-lt-iff-lt-mul {k = c .premium + 1} {x = e} {y = c .top + 1} p .1 l in
+    let a = mod-lt e p in
+    record { account = omega arith; guarantee = omega arith }
 
 pub size-some : (c : Terms) → 0 < layerSize c
 unfolding layerSize

@@ -1,27 +1,26 @@
 -- Values, layers and cash of an accepted contract are below 2 ^ 32, as narrow slices hold them. Assumes nothing.
 use mathlib.Core.List.{List, [], _∷_, _++_, append-nil}
-use mathlib.Core.Path.{_≡_, sym, subst}
+use mathlib.Core.Path.{_≡_, subst}
 use Prim.Native.Nat.{ℕ, zero, suc, _+_, _-_, _*_, _^_, _≤_, _<_}
-use native.Mathlib.Nat.{le-refl, le-trans, mul-le-mul, sub-le, mod-lt, div-lt-iff-lt-mul}
+use native.Mathlib.Nat.{le-refl, mul-le-mul}
 use native.Mathlib.Omega.{arith}
 use lib.Dec.{T, eqb, eqb→eq, nltb→le}
 use lib.ListN.{getD, length}
-use Rattle.decision.specs.Index.{tabulate, first, all-fail}
+use Rattle.decision.specs.Index.{tabulate, first}
 use Rattle.decision.specs.Process.{Table, tableValue, startTableValue, Decides}
 use Rattle.decision.specs.Layers.{lookup, layer}
 use Rattle.rules.specs.Contract.{Terms, Returns, termsOf, returnsOf}
 use Rattle.rules.specs.Date.{Behaviour, dynamic}
 use Rattle.rules.specs.Product.{stateValue, contractValue, valueLayer, suppliedValue, suppliedLayer, walkState, walkAmount, walkCash}
-use Rattle.rules.specs.FixedTerm.{State, Held, InRange, freeIn, admissibleIn, rateIn, cashIn, afterIn, reachBy, startOf, processOf, layerSize, layoutOf, fixedTerm}
+use Rattle.rules.specs.FixedTerm.{State, InRange, freeIn, admissibleIn, rateIn, cashIn, reachBy, startOf, processOf, layerSize, layoutOf, fixedTerm}
 use Rattle.rules.specs.Refusals.{checkEach, accepted, recordChecks, listChecks}
 use Rattle.rules.specs.Operations.{productOf, answer, behaviourOf, tableSize, valuingVerdict, valuingAnswer, badEntry, tableChecks, suppliedChecks, suppliedVerdict, suppliedAnswer, badDate, pathChecks, walkChecks, walkVerdict}
 use Rattle.laws.specs.Accepted.{Valid, ValidReturns, AllPass, all-pass, pass-right, not-not, then-earlier, both-terms, both-returns, success-reports}
-use Rattle.laws.specs.Date.{guarantee-le, account-le}
-use Rattle.laws.specs.FixedTerm.{closed}
+use Rattle.laws.specs.FixedTerm.{closed, placed-in-range}
 use Rattle.laws.specs.Bounds.{cash-le, amount-le, ends, averages, state-value-le, table-value-le, contract-value-le}
 use Rattle.laws.specs.ThirdDemand.{valuing-terms, valuing-returns, valuing-reports}
 use Rattle.laws.specs.Supplied.{all-admitted}
-use Rattle.laws.specs.Walk.{walk-first, walk-next}
+use Rattle.laws.specs.Walk.{walk-in-range, walk-admits}
 
 module _ (c : Terms) (rs : Returns) (v : Valid c) (u : ValidReturns rs) where
   -- the largest is 1,640,000,000
@@ -71,20 +70,6 @@ module _ (c : Terms) (rs : Returns) (v : Valid c) (u : ValidReturns rs) where
   pub maturity-narrow : (s : State) → InRange c s → processOf c rs .final s < 2 ^ 32
   maturity-narrow s g = omega (arith, ends c rs v u s g, v .top)
 
--- ---- the states of a layer, and those that a return leads to, are in range
-pub placed-in-range : (c : Terms) (e : ℕ) → e < layerSize c → InRange c (layoutOf c .stateAt e)
-unfolding layoutOf layerSize
-placed-in-range c e l =
-    let p : 0 < c .premium + 1 = omega arith in
-    let w = div-lt-iff-lt-mul {k = c .premium + 1} {x = e} {y = c .top + 1} p .1 l in
-    let a = mod-lt e p in
-    record { account = omega arith; guarantee = omega arith }
-
-pub reached-in-range : (c : Terms) (rs : Returns) (h : Held) (k : ℕ) → h .guarantee ≤ c .premium
-    → InRange c (reachBy c rs h k)
-unfolding reachBy
-reached-in-range c rs h k l = record { account = account-le _ _ _ _; guarantee = l }
-
 -- ---- lists
 abbrev pub AllNarrow : List ℕ → Type 0
 AllNarrow xs = (e : ℕ) → getD xs e 0 < 2 ^ 32
@@ -105,52 +90,24 @@ layer-narrow c f h =
     subst AllNarrow (append-nil (tabulate (layerSize c) at))
     (tabulate-narrow (layerSize c) at [] (λ e l. h _ (placed-in-range c e l)) (λ e. omega arith))
 
--- ---- a walk
-module _ (c : Terms) (rs : Returns) (table path : List ℕ) where
-  abbrev stateOn : ℕ → State
-  stateOn i = walkState (fixedTerm c rs) table path i
+-- ---- a walk in which no date is bad
+module _ (c : Terms) (rs : Returns) (table path : List ℕ) (none : c .dates - 1 ≤ first (badDate c rs table path) (c .dates - 1)) where
+  pub walk-narrow : Valid c → ValidReturns rs → length path ≡ c .dates
+      → AllNarrow (walkCash (fixedTerm c rs) table path)
+  unfolding walkCash fixedTerm processOf
+  walk-narrow v u long = tabulate-narrow (c .dates - 1) _ _ pays ends
+    where
+      pays : (j : ℕ) → j < c .dates - 1 → cashIn c (suc j) (walkState (fixedTerm c rs) table path (suc j)) (walkAmount (fixedTerm c rs) table path (suc j)) < 2 ^ 32
+      pays j l = cash-narrow c rs v u dynamic (suc j) _ _ (walk-in-range c rs table path j (omega arith)) (walk-admits c rs table path none j l)
 
-  abbrev amountOn : ℕ → ℕ
-  amountOn i = walkAmount (fixedTerm c rs) table path i
+      last : InRange c (walkState (fixedTerm c rs) table path (c .dates))
+      last =
+          let up : suc (c .dates - 1) ≡ c .dates = omega (arith, v .dates-least) in
+          subst (λ (n : ℕ). InRange c (walkState (fixedTerm c rs) table path n)) up (walk-in-range c rs table path (c .dates - 1) (omega arith))
 
-  -- the states met are in range, whatever the table holds
-  pub walk-in-range : (n : ℕ) → n < length path → InRange c (stateOn (suc n))
-  unfolding fixedTerm processOf startOf afterIn
-  walk-in-range zero l =
-      subst (InRange c) (sym (walk-first (fixedTerm c rs) table path l))
-      (reached-in-range c rs (startOf c) _ (le-refl (c .premium)))
-  walk-in-range (suc n) l =
-      let s = stateOn (suc n) in
-      let t = amountOn (suc n) in
-      let falls = le-trans (guarantee-le (freeIn c s) (s .account) (s .guarantee) t) (sub-le (s .guarantee) t) in
-      let range = walk-in-range n (omega arith) in
-      subst (InRange c) (sym (walk-next (fixedTerm c rs) table path (suc n) (omega arith) l))
-      (reached-in-range c rs (afterIn c (suc n) s t) _ (le-trans falls (range .guarantee)))
-
-  -- where no date is bad, the amounts met are admissible
-  module _ (none : c .dates - 1 ≤ first (badDate c rs table path) (c .dates - 1)) where
-    pub walk-admits : (j : ℕ) → j < c .dates - 1 → T (admissibleIn c dynamic (stateOn (suc j)) (amountOn (suc j)))
-    unfolding badDate
-    walk-admits j l =
-        let good = all-fail (badDate c rs table path) (c .dates - 1) none j l in
-        not-not (admissibleIn c dynamic (stateOn (suc j)) (amountOn (suc j))) (rw good tt)
-
-    pub walk-narrow : Valid c → ValidReturns rs → length path ≡ c .dates
-        → AllNarrow (walkCash (fixedTerm c rs) table path)
-    unfolding walkCash fixedTerm processOf
-    walk-narrow v u long = tabulate-narrow (c .dates - 1) _ _ pays ends
-      where
-        pays : (j : ℕ) → j < c .dates - 1 → cashIn c (suc j) (stateOn (suc j)) (amountOn (suc j)) < 2 ^ 32
-        pays j l = cash-narrow c rs v u dynamic (suc j) _ _ (walk-in-range j (omega arith)) (walk-admits j l)
-
-        last : InRange c (stateOn (c .dates))
-        last =
-            let up : suc (c .dates - 1) ≡ c .dates = omega (arith, v .dates-least) in
-            subst (λ (n : ℕ). InRange c (stateOn n)) up (walk-in-range (c .dates - 1) (omega arith))
-
-        ends : AllNarrow (processOf c rs .final (stateOn (c .dates)) ∷ [])
-        ends zero = maturity-narrow c rs v u _ last
-        ends (suc e) = omega arith
+      ends : AllNarrow (processOf c rs .final (walkState (fixedTerm c rs) table path (c .dates)) ∷ [])
+      ends zero = maturity-narrow c rs v u _ last
+      ends (suc e) = omega arith
 
 -- ---- what the calls answer, on any input that they accept
 -- "For every contract valid today each stored number is the same number as before."

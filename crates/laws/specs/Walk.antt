@@ -1,25 +1,26 @@
 -- A walk, date by date, and what it conserves. Assumes nothing.
 use mathlib.Core.List.{List, _++_}
 use mathlib.Core.Bool.{true, false, not, _||_}
-use mathlib.Core.Path.{_≡_, ap, _∙_}
+use mathlib.Core.Path.{_≡_, ap, sym, _∙_, subst}
 use Prim.Native.Nat.{ℕ, zero, suc, _+_, _-_, _≤_, _<_}
-use native.Mathlib.Nat.{zero-add, min-le-right}
+use native.Mathlib.Nat.{le-refl, zero-add, min-le-right}
 use native.Mathlib.Omega.{arith}
 use lib.Dec.{T, leb, ltb, eqb, eqb→eq, nltb→le}
 use lib.ListN.{getD, length, take}
 use lib.Seq.{take-suc, length-take-le}
-use Rattle.decision.specs.Index.{sum, first}
+use Rattle.decision.specs.Index.{sum, first, all-fail}
 use Rattle.decision.specs.Process.{met, startMet}
 use Rattle.decision.specs.Layers.{lookup}
 use Rattle.decision.specs.Optimal.{Steps, startMet-steps}
 use Rattle.rules.specs.Contract.{Terms, Returns, termsOf, returnsOf}
-use Rattle.rules.specs.Date.{freeAmount}
+use Rattle.rules.specs.Date.{dynamic, freeAmount}
 use Rattle.rules.specs.Product.{Product, walkState, walkAmount}
-use Rattle.rules.specs.FixedTerm.{State, freeIn, afterIn, reachBy, startOf, processOf, fixedTerm}
+use Rattle.rules.specs.FixedTerm.{State, InRange, freeIn, admissibleIn, afterIn, reachBy, startOf, processOf, fixedTerm}
 use Rattle.rules.specs.Refusals.{checkEach, accepted, refused, verdict, short, recordChecks, listChecks}
 use Rattle.rules.specs.Operations.{productOf, tableSize, badDate, pathChecks, walkChecks, walkVerdict}
 use Rattle.laws.specs.Accepted.{AllPass, all-pass, pass-right, nor-left, nor-right, not-not}
 use Rattle.laws.specs.Date.{guarantee-free}
+use Rattle.laws.specs.FixedTerm.{reached-in-range, after-falls}
 
 module _ {S H : Type 0} (X : Product S H) (table path : List ℕ) where
   -- the first return leads to date 1
@@ -35,6 +36,27 @@ module _ {S H : Type 0} (X : Product S H) (table path : List ℕ) where
   walk-next i l m =
       ap (startMet (X .process) (lookup (X .layout) table)) (take-suc path i 0 m)
       ∙ startMet-steps (X .process) (lookup (X .layout) table) i (getD path i 0) (take i path) l (rw (length-take-le i path (omega arith)) (omega arith))
+
+module _ (c : Terms) (rs : Returns) (table path : List ℕ) where
+  -- the states met are in range, whatever the table holds
+  pub walk-in-range : (n : ℕ) → n < length path → InRange c (walkState (fixedTerm c rs) table path (suc n))
+  unfolding fixedTerm processOf startOf
+  walk-in-range zero l =
+      subst (InRange c) (sym (walk-first (fixedTerm c rs) table path l)) (reached-in-range c rs (startOf c) _ (le-refl (c .premium)))
+  walk-in-range (suc n) l =
+      let s = walkState (fixedTerm c rs) table path (suc n) in
+      let t = walkAmount (fixedTerm c rs) table path (suc n) in
+      subst (InRange c) (sym (walk-next (fixedTerm c rs) table path (suc n) (omega arith) l))
+      (reached-in-range c rs (afterIn c (suc n) s t) _ (after-falls c (suc n) s t (walk-in-range n (omega arith) .guarantee)))
+
+  -- where no date is bad, the amounts met are admissible
+  pub walk-admits : c .dates - 1 ≤ first (badDate c rs table path) (c .dates - 1) → (j : ℕ) → j < c .dates - 1
+      → T (admissibleIn c dynamic (walkState (fixedTerm c rs) table path (suc j)) (walkAmount (fixedTerm c rs) table path (suc j)))
+  unfolding badDate
+  walk-admits none j l =
+      let s = walkState (fixedTerm c rs) table path (suc j) in
+      let t = walkAmount (fixedTerm c rs) table path (suc j) in
+      not-not (admissibleIn c dynamic s t) (rw (all-fail (badDate c rs table path) (c .dates - 1) none j l) tt)
 
 -- ---- the checks beyond the record and the list, one by one: the count before the numbers, the numbers before the amounts
 module _ (c : Terms) (rs : Returns) (table path cashes : List ℕ) where

@@ -3,7 +3,7 @@ use mathlib.Core.Bool.{Bool, false}
 use mathlib.Core.List.{List}
 use mathlib.Core.Path.{_≡_, ap, sym, _∙_, subst}
 use Prim.Native.Nat.{ℕ, _+_, _-_, _*_, _/_, _%_, _^_, _≤_, _<_}
-use native.Mathlib.Nat.{div-add-mod', div-lt-iff-lt-mul, mod-lt}
+use native.Mathlib.Nat.{div-add-mod', mod-lt}
 use native.Mathlib.Omega.{arith}
 use lib.Dec.{eqb}
 use lib.ListN.{getD, drop}
@@ -15,9 +15,9 @@ use Rattle.decision.specs.Bits.{bit, fromBits, bits-append}
 use Rattle.decision.specs.Layers.{low-digit, high-digit, two-digits}
 use Rattle.rules.specs.Contract.{Terms}
 use Rattle.rules.specs.Date.{freeAmount, surrenders}
-use Rattle.rules.specs.FixedTerm.{freeIn, layerSize, layoutOf}
+use Rattle.rules.specs.FixedTerm.{InRange, freeIn, layerSize, layoutOf}
 use Rattle.rules.specs.Map.{surrendered}
-use Rattle.laws.specs.FixedTerm.{size-some}
+use Rattle.laws.specs.FixedTerm.{size-some, placed-in-range}
 use Rattle.surrender.specs.declared.State.{State}
 use Rattle.surrender.specs.Mapped.{stateOf, draws, Open}
 
@@ -41,15 +41,16 @@ module _ (c : Terms) where
       sym (ap (λ (x : ℕ). e / layerSize c * layerSize c + x) (div-add-mod' (e % layerSize c) (c .premium + 1))
       ∙ div-add-mod' e (layerSize c))
 
+  in-range : (e : ℕ) → InRange c (layoutOf c .stateAt (e % layerSize c))
+  in-range e = placed-in-range c (e % layerSize c) (mod-lt e (size-some c))
+
   pub account-le : (e : ℕ) → stateOf c e .account ≤ c .top
-  unfolding layerSize
-  account-le e =
-      let p : 0 < c .premium + 1 = omega arith in
-      let h : e % layerSize c / (c .premium + 1) < c .top + 1 = div-lt-iff-lt-mul p .1 (mod-lt e (size-some c)) in
-      omega arith
+  unfolding layoutOf
+  account-le e = in-range e .account
 
   pub guarantee-le : (e : ℕ) → stateOf c e .guarantee ≤ c .premium
-  guarantee-le e = let p : 0 < c .premium + 1 = omega arith in let h = mod-lt (e % layerSize c) p in omega arith
+  unfolding layoutOf
+  guarantee-le e = in-range e .guarantee
 
   -- n entries behind a state: in its row, at the start of the next, or at the start of the next layer
   module _ (e n : ℕ) (at : State) (same : at ≡ stateOf c e) where
