@@ -79,6 +79,18 @@ pub struct Size {
     pub step: u16,
 }
 
+pub const fn size(top: u16, premium: u16, level: u16, dates: u16, returns: u16) -> Size {
+    Size {
+        top,
+        premium,
+        level,
+        dates,
+        returns,
+        penalty: 500,
+        step: 0,
+    }
+}
+
 impl Size {
     pub fn input(&self, behaviour: u64) -> Input {
         let terms = Terms {

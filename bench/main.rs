@@ -9,7 +9,7 @@ mod inputs;
 mod programs;
 mod tuned;
 
-use inputs::{Input, Size, DYNAMIC, MIXED, STATIC};
+use inputs::{size, Input, Size, DYNAMIC, MIXED, STATIC};
 use programs::{Outcome, Program, ENGINE, ENGINE_MAP, PLAIN, TUNED, TUNED_MAP};
 use std::process::ExitCode;
 use std::thread;
@@ -20,18 +20,6 @@ const MOST_PLAIN_STEPS: u64 = 25_000_000_000;
 /// A program is run until it has had this many seconds or runs.
 const SECONDS: f64 = 3.0;
 const MOST_RUNS: usize = 40;
-
-const fn size(top: u16, premium: u16, level: u16, dates: u16, returns: u16) -> Size {
-    Size {
-        top,
-        premium,
-        level,
-        dates,
-        returns,
-        penalty: 500,
-        step: 0,
-    }
-}
 
 /// The size of the second row of `TIMED` at other penalty rates.
 const fn at_penalty(penalty: u16) -> Size {

@@ -5,7 +5,7 @@
 #[allow(dead_code)]
 mod inputs;
 
-use inputs::{Input, Size, DYNAMIC, MIXED, STATIC};
+use inputs::{size, Input, Size, DYNAMIC, MIXED, STATIC};
 use std::process::ExitCode;
 use std::time::Instant;
 
@@ -13,66 +13,6 @@ const RUNS: usize = 40;
 
 /// In the second, values could pass 32 bits.
 const SIZES: [Size; 2] = [size(400, 200, 10, 20, 32), size(4_000, 40, 4, 40, 32)];
-
-const fn size(top: u16, premium: u16, level: u16, dates: u16, returns: u16) -> Size {
-    Size {
-        top,
-        premium,
-        level,
-        dates,
-        returns,
-        penalty: 500,
-        step: 0,
-    }
-}
-
-/// gmwb_value, the working slice and the value having entries of type T.
-type Call<T> = unsafe extern "C" fn(
-    record: *const u8,
-    record_len: usize,
-    list: *const u8,
-    list_len: usize,
-    behaviour: u64,
-    work: *mut T,
-    work_len: usize,
-    table: *mut u16,
-    table_len: usize,
-    place: *mut u64,
-    value: *mut T,
-    margin: *mut i64,
-) -> u32;
-
-extern "C" {
-    fn gmwb_value(
-        record: *const u8,
-        record_len: usize,
-        list: *const u8,
-        list_len: usize,
-        behaviour: u64,
-        work: *mut u64,
-        work_len: usize,
-        table: *mut u16,
-        table_len: usize,
-        place: *mut u64,
-        value: *mut u64,
-        margin: *mut i64,
-    ) -> u32;
-    /// gmwb_value of the 32-bit edition; see bench/run.
-    fn narrow_value(
-        record: *const u8,
-        record_len: usize,
-        list: *const u8,
-        list_len: usize,
-        behaviour: u64,
-        work: *mut u32,
-        work_len: usize,
-        table: *mut u16,
-        table_len: usize,
-        place: *mut u64,
-        value: *mut u32,
-        margin: *mut i64,
-    ) -> u32;
-}
 
 /// All that a call tells and leaves, in numbers of 64 bits.
 #[derive(Debug, PartialEq)]
@@ -85,50 +25,75 @@ struct Outcome {
     table: Vec<u16>,
 }
 
-/// One run on freshly filled slices; filling them is not timed.
-fn run<T: Copy + From<u32> + Into<u64>>(call: Call<T>, input: &Input) -> (Outcome, f64) {
-    let filling = T::from(0xA5A5_A5A5);
-    let mut work = vec![filling; input.work_len];
-    let mut table = vec![0xA5A5; input.table_len];
-    let (mut place, mut value, mut margin) = (0, filling, 0);
-    let start = Instant::now();
-    // SAFETY: the declarations are those of include/gmwb.h in the two editions; every pointer
-    // comes with the length of its slice, and the slices and numbers do not overlap.
-    let number = unsafe {
-        call(
-            input.record.as_ptr(),
-            input.record.len(),
-            input.list.as_ptr(),
-            input.list.len(),
-            input.behaviour,
-            work.as_mut_ptr(),
-            work.len(),
-            table.as_mut_ptr(),
-            table.len(),
-            &mut place,
-            &mut value,
-            &mut margin,
-        )
+/// A function for one run of an edition's gmwb_value, whose values have entries of the type named,
+/// on freshly filled slices; filling them is not timed.
+macro_rules! edition {
+    ($run:ident, $call:ident, $entry:ty) => {
+        fn $run(input: &Input) -> (Outcome, f64) {
+            extern "C" {
+                fn $call(
+                    record: *const u8,
+                    record_len: usize,
+                    list: *const u8,
+                    list_len: usize,
+                    behaviour: u64,
+                    work: *mut $entry,
+                    work_len: usize,
+                    table: *mut u16,
+                    table_len: usize,
+                    place: *mut u64,
+                    value: *mut $entry,
+                    margin: *mut i64,
+                ) -> u32;
+            }
+            let filling = 0xA5A5_A5A5;
+            let mut work: Vec<$entry> = vec![filling; input.work_len];
+            let mut table = vec![0xA5A5; input.table_len];
+            let (mut place, mut value, mut margin) = (0, filling, 0);
+            let start = Instant::now();
+            // SAFETY: the declaration is that of include/gmwb.h in the edition; every pointer comes
+            // with the length of its slice, and the slices and numbers do not overlap.
+            let number = unsafe {
+                $call(
+                    input.record.as_ptr(),
+                    input.record.len(),
+                    input.list.as_ptr(),
+                    input.list.len(),
+                    input.behaviour,
+                    work.as_mut_ptr(),
+                    work.len(),
+                    table.as_mut_ptr(),
+                    table.len(),
+                    &mut place,
+                    &mut value,
+                    &mut margin,
+                )
+            };
+            let seconds = start.elapsed().as_secs_f64();
+            let outcome = Outcome {
+                number,
+                place,
+                value: value.into(),
+                margin,
+                work: work.into_iter().map(u64::from).collect(),
+                table,
+            };
+            (outcome, seconds)
+        }
     };
-    let seconds = start.elapsed().as_secs_f64();
-    let outcome = Outcome {
-        number,
-        place,
-        value: value.into(),
-        margin,
-        work: work.into_iter().map(T::into).collect(),
-        table,
-    };
-    (outcome, seconds)
 }
+
+edition!(run_wide, gmwb_value, u64);
+// gmwb_value of the 32-bit edition; see bench/run.
+edition!(run_narrow, narrow_value, u32);
 
 /// Runs the two editions in turn. Gives the seconds of their best runs, and whether each run
 /// was accepted with equal outcomes.
 fn timed(input: &Input) -> ([f64; 2], bool) {
     let (mut best, mut right) = ([f64::MAX; 2], true);
     for _ in 0..RUNS {
-        let (wide, wide_seconds) = run(gmwb_value, input);
-        let (narrow, narrow_seconds) = run(narrow_value, input);
+        let (wide, wide_seconds) = run_wide(input);
+        let (narrow, narrow_seconds) = run_narrow(input);
         right &= wide.number == 0 && wide == narrow;
         best = [best[0].min(wide_seconds), best[1].min(narrow_seconds)];
     }

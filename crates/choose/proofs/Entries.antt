@@ -9,7 +9,8 @@ use lib.Dec.{ltb}
 use lib.ListN.{length, getD}
 use Rattle.decision.specs.Choice.{Leading, leading-as, leading-eq}
 use Rattle.slices.specs.Rows.{cells, rows-le, rows-step}
-use Rattle.rules.specs.Contract.{topMost, entryMost}
+use Rattle.rules.specs.Contract.{topMost}
+use Rattle.laws.specs.Bounds.{entryMost}
 use Rattle.rules.specs.Date.{freeAmount, cash}
 use Rattle.worth.specs.Worth.{worthOver, worth-le}
 use Rattle.choose.specs.State.{freeAt, worthAt, Span, Block, Leads, Furthered, triedBelow}

@@ -7,7 +7,8 @@ use lib.Dec.{ltb}
 use lib.ListN.{length, getD}
 use Rattle.decision.specs.Choice.{Leading}
 use Rattle.slices.specs.Rows.{cells}
-use Rattle.rules.specs.Contract.{topMost, rateMost, entryMost}
+use Rattle.rules.specs.Contract.{topMost, rateMost}
+use Rattle.laws.specs.Bounds.{entryMost}
 use Rattle.rules.specs.Date.{dynamic, freeAmount}
 use Rattle.further.specs.Further.{furtherValue, furtherAmount}
 use Rattle.worth.specs.Worth.{worthOver, bestValue, bestAmount}

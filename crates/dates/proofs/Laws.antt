@@ -11,10 +11,10 @@ use borrow.Rule.Slice.PartMut.{midOf, putMid, mid-len}
 use Rattle.slices.specs.Stored.{stored, length-stored, stored-out}
 use Rattle.slices.specs.Rows.{cells, flat, layer-stored, cells-kept, rows-le, rows-before}
 use Rattle.slices.specs.Parts.{put-long, put-in, put-above}
-use Rattle.rules.specs.Contract.{Terms, rateMost, returnsOf, entryMost}
+use Rattle.rules.specs.Contract.{Terms, rateMost, returnsOf}
 use Rattle.rules.specs.Product.{recordedAmount}
 use Rattle.rules.specs.FixedTerm.{rateIn, layerSize, fixedTerm}
-use Rattle.laws.specs.Bounds.{value-most}
+use Rattle.laws.specs.Bounds.{value-most, entryMost}
 use Rattle.rules.specs.Operations.{behaviourOf, tableSize}
 use Rattle.expect.specs.Expected.{expected, expected-le, expected-same}
 use Rattle.further.specs.Further.{Room, furtherValue, furtherAmount}

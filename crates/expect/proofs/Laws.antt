@@ -10,12 +10,12 @@ use lib.ListN.{getD, length, replicate, getD-replicate}
 use Rattle.decision.specs.Index.{sum, sum-le, sum-eq, sum-next, sum-times}
 use Rattle.slices.specs.Stored.{stored, length-stored, stored-out, stored-first, stored-join}
 use Rattle.slices.specs.Rows.{cells, flat, flat-at, within-rows, rows-le, rows-step}
-use Rattle.rules.specs.Contract.{Terms, Returns, returnsOf, weightTotal, weightMost, entryMost}
+use Rattle.rules.specs.Contract.{Terms, Returns, returnsOf, weightTotal, weightMost}
 use Rattle.rules.specs.Date.{nextAccount, discounted}
 use Rattle.rules.specs.FixedTerm.{layerSize}
-use Rattle.laws.specs.Bounds.{valueMost, value-most}
+use Rattle.laws.specs.Bounds.{valueMost, value-most, entryMost}
 use Rattle.laws.specs.Date.{account-le}
-use Rattle.expect.specs.Expected.{reachedSum, expected, term, productMost, Reached, Run, Summed, Row, Listing, Values, Within, Balance}
+use Rattle.expect.specs.Expected.{reachedSum, expected, term, productMost, Largest, Reached, Run, Summed, Row, Listing, Values, Within, Balance}
 
 -- ---- sums along the guarantees
 -- a product is small
@@ -42,14 +42,19 @@ twice-four f k x y p q r = let e : sum f (k + 4 + 4) ≡ sum f (k + 8) = ap (sum
 pub low-part : {x : ℕ} → x ≤ 4294967295 → x % 4294967296 ≡ x
 low-part h = mod-eq-of-lt (omega arith)
 
--- the largest of the numbers looked at
-pub larger-next : (xs : List ℕ) (i r x : ℕ) {r' : ℕ} → x ≡ getD xs i 0 → r' ≡ max r x → ((j : ℕ) → j < i → getD xs j 0 ≤ r)
-    → (j : ℕ) → j < i + 1 → getD xs j 0 ≤ r'
-larger-next xs i r x {r'} p q h j l = go (decLe i j)
+-- ---- the largest of some numbers
+pub largest-none : (xs : List ℕ) → Largest xs 0 0
+largest-none xs = record { above = λ i l. absurd (omega arith); least = λ m h. omega arith }
+
+pub largest-next : (xs : List ℕ) (n r x : ℕ) {r' : ℕ} → x ≡ getD xs n 0 → r' ≡ max r x → Largest xs n r → Largest xs (n + 1) r'
+largest-next xs n r x {r'} p q o = record {
+  above = λ i l. go i l (decLe n i);
+  least = λ m h. let a = o .least m (λ i l. h i (omega arith)) in let b = h n (omega arith) in omega arith;
+}
   where
-    go : Dec (i ≤ j) → getD xs j 0 ≤ r'
-    go (yes m) = let e : getD xs j 0 ≡ getD xs i 0 = ap (λ (z : ℕ). getD xs z 0) (omega arith) in omega arith
-    go (no m) = let b = h j (omega arith) in omega arith
+    go : (i : ℕ) → i < n + 1 → Dec (n ≤ i) → getD xs i 0 ≤ r'
+    go i l (yes m) = let e : getD xs i 0 ≡ getD xs n 0 = ap (λ (z : ℕ). getD xs z 0) (omega arith) in omega arith
+    go i l (no m) = let b = o .above i (omega arith) in omega arith
 
 module _ {work starts weights : List ℕ} {count most from n : ℕ} (r : Run work starts weights count most from n) where
   pub sum-small : (j k : ℕ) → j < n → k ≤ count → sum (term work starts weights (from + j)) k ≤ productMost * k
@@ -70,10 +75,11 @@ module _ {work starts weights : List ℕ} {count most from n : ℕ} (r : Run wor
     reached = λ i j g p. reached-up m (r .reached i j (omega arith) p) l;
   }
 
--- an entry that is not stored yet
-pub sum-read : {work starts weights sums : List ℕ} {from n k : ℕ} → Summed work starts weights sums from n k
-    → (f : ℕ → ℕ) (j : ℕ) → j < n → getD (stored sums 0 f j) j 0 ≡ sum (term work starts weights (from + j)) k
-sum-read {work} {starts} {weights} {sums} s f j l = stored-out sums 0 f j j (inr (le-of-eq (zero-add j))) ∙ s .each j l
+-- an entry that is not added to yet
+pub sum-read : {work starts weights sums sums' : List ℕ} {from n k j : ℕ} (f : ℕ → ℕ) → Summed work starts weights sums from n k
+    → sums' ≡ stored sums 0 f j → j < n → getD sums' j 0 ≡ sum (term work starts weights (from + j)) k
+sum-read {sums = sums} {j = j} f s e l =
+    ap (λ (xs : List ℕ). getD xs j 0) e ∙ stored-out sums 0 _ j j (inr (le-of-eq (zero-add j))) ∙ s .each j l
 
 pub summed : {work starts weights : List ℕ} (sums sums' : List ℕ) (from n k : ℕ)
     → sums' ≡ stored sums 0 (λ j. sum (term work starts weights (from + j)) k) n → n ≤ length sums → Summed work starts weights sums' from n k
@@ -135,7 +141,7 @@ unfolding sum
 summed-none from n h = record { long = h; each = λ j l. getD-replicate 256 j 0 0 (omega arith) }
 
 -- ---- the row of one balance
-module _ {c : Terms} {work list weights : List ℕ} {count most balance stride size : ℕ} (b : Balance c work list weights count most balance stride size) where
+module _ {c : Terms} {work list weights : List ℕ} {count discount most balance stride size : ℕ} (b : Balance c work list weights count discount most balance stride size) where
   -- a row of the first layer ends within it
   reached-within : (x : ℕ) → x ≤ c .top → x * stride + stride ≤ size
   reached-within x l = let m = rows-le stride (x + 1) (c .top + 1) (omega arith) in omega (arith, rows-step stride x, b .size-is)
@@ -160,10 +166,10 @@ module _ {c : Terms} {work list weights : List ℕ} {count most balance stride s
           let x = nextAccount (c .fee) (c .top) balance (returnsOf list .factor k) in
           zero-add _ ∙ ap (λ (y : ℕ). y + a) (ap (λ (z : ℕ). x * z) (sym (b .stride-is)) ∙ sym (starts-are k l))
 
-      pub balance-row : Row work starts weights count (c .discount) most (size + balance * stride) stride
+      pub balance-row : Row work starts weights count discount most (size + balance * stride) stride
       balance-row = record {
         few = b .listing .few;
-        discount-is = b .layers .valid .discount;
+        discount-is = le-trans (le-of-eq (b .discount-is)) (b .layers .valid .discount);
         most-is = b .most-is;
         total = sum-eq _ _ count (b .weights-are) ∙ ap (sum (returnsOf list .weight)) (b .listing .all) ∙ b .listing .valid .total;
         light = λ k l. rw (b .weights-are k l) (b .listing .valid .weight k (omega (arith, b .listing .all)));
@@ -176,20 +182,21 @@ module _ {c : Terms} {work list weights : List ℕ} {count most balance stride s
         room = balance-room;
       }
 
-      pub balance-cells : (a : ℕ) → discounted (c .discount) (sum (term work starts weights a) count) ≡ expected c (returnsOf list) (cells work 0 stride) balance a
+      pub balance-cells : (a : ℕ) → discounted discount (sum (term work starts weights a) count) ≡ expected c (returnsOf list) (cells work 0 stride) balance a
       unfolding expected reachedSum
       balance-cells a =
-          ap (discounted (c .discount))
+          ap₂ discounted (b .discount-is)
           (sum-eq _ _ count (λ k l. ap₂ (λ (x y : ℕ). x * getD work y 0) (b .weights-are k l) (ap (λ (x : ℕ). x + a) (starts-are k l) ∙ sym (zero-add _)))
           ∙ ap (sum _) (b .listing .all))
 
 -- ---- the balance of the start
 pub start-balance : {c : Terms} {work list weights : List ℕ} {count : ℕ} → Listing list count → Values c work
     → ((k : ℕ) → k < count → getD weights k 0 ≡ returnsOf list .weight k)
-    → Balance c work list weights count (valueMost c) (c .premium) (c .premium + 1) ((c .top + 1) * (c .premium + 1))
+    → Balance c work list weights count (c .discount) (valueMost c) (c .premium) (c .premium + 1) ((c .top + 1) * (c .premium + 1))
 start-balance h v w = record {
   listing = h;
   layers = v .layers;
+  discount-is = refl;
   most-is = value-most (v .layers .valid);
   small = v .small;
   weights-are = w;

@@ -6,12 +6,12 @@ use native.Mathlib.Nat.{le-trans, le-of-eq, mul-le-mul-left}
 use lib.ListN.{getD, length}
 use Rattle.decision.specs.Index.{sum, sum-le, sum-eq, sum-times}
 use Rattle.slices.specs.Rows.{cells}
-use Rattle.rules.specs.Contract.{Terms, Returns, returnsOf, discountMost, weightTotal, weightMost, returnsMost, entryMost}
+use Rattle.rules.specs.Contract.{Terms, Returns, returnsOf, discountMost, weightTotal, weightMost, returnsMost}
 use Rattle.rules.specs.Date.{nextAccount, discounted}
 use Rattle.rules.specs.FixedTerm.{layerSize}
 use Rattle.laws.specs.Accepted.{Valid, ValidReturns}
 use Rattle.laws.specs.Date.{account-le}
-use Rattle.laws.specs.Bounds.{discounted-average, valueMost}
+use Rattle.laws.specs.Bounds.{discounted-average, valueMost, entryMost}
 
 -- the sum of weight × value reached
 unfoldable pub reachedSum : Terms → Returns → (ℕ → ℕ → ℕ) → ℕ → ℕ → ℕ
@@ -27,7 +27,7 @@ term work starts weights a k = getD weights k 0 * getD work (getD starts k 0 + a
 
 -- what no such product passes
 abbrev pub productMost : ℕ
-productMost = 48000000000000
+productMost = weightMost * entryMost
 
 -- the value that return k reaches with guarantee a: in the slice, and at most `most`
 pub record Reached (work starts weights : List ℕ) (most a k : ℕ) : Type 0 where
@@ -70,6 +70,11 @@ pub record Layers (c : Terms) (work : List ℕ) : Type 0 where
   pub valid : Valid c
   pub room : layerSize c + layerSize c ≤ length work
 
+-- r is the largest of the first n numbers
+pub record Largest (xs : List ℕ) (n r : ℕ) : Type 0 where
+  pub above : (i : ℕ) → i < n → getD xs i 0 ≤ r
+  pub least : (m : ℕ) → ((i : ℕ) → i < n → getD xs i 0 ≤ m) → r ≤ m
+
 -- no value of the first layer is above `most`
 abbrev pub Within : Terms → List ℕ → ℕ → Type 0
 Within c work most = (w a : ℕ) → w ≤ c .top → a ≤ c .premium → cells work 0 (c .premium + 1) w a ≤ most
@@ -80,9 +85,10 @@ pub record Values (c : Terms) (work : List ℕ) : Type 0 where
   pub small : Within c work (valueMost c)
 
 -- a balance whose row is to be filled
-pub record Balance (c : Terms) (work list weights : List ℕ) (count most balance stride size : ℕ) : Type 0 where
+pub record Balance (c : Terms) (work list weights : List ℕ) (count discount most balance stride size : ℕ) : Type 0 where
   pub listing : Listing list count
   pub layers : Layers c work
+  pub discount-is : discount ≡ c .discount
   pub most-is : most ≤ entryMost
   pub small : Within c work most
   pub weights-are : (k : ℕ) → k < count → getD weights k 0 ≡ returnsOf list .weight k

@@ -5,12 +5,13 @@ ghost use lib.ListN.{length, getD};
 ghost use Rattle.decision.specs.Index.{sum};
 ghost use Rattle.slices.specs.Stored.{stored};
 ghost use Rattle.slices.specs.Rows.{cells, flat};
-ghost use Rattle.rules.specs.Contract.{topMost, weightTotal, returnsMost, discountMost, returnsOf, entryMost};
+ghost use Rattle.rules.specs.Contract.{topMost, weightTotal, returnsMost, discountMost, returnsOf};
+ghost use Rattle.laws.specs.Bounds.{valueMost, entryMost};
 ghost use Rattle.rules.specs.Date.{nextAccount, discounted};
 ghost use Rattle.rules.specs.FixedTerm.{layerSize};
 ghost use Rattle.laws.specs.Accepted.{Valid};
 ghost use Rattle.contract.specs.Reading.{termsIn};
-ghost use Rattle.expect.specs.Expected.{term, productMost, Reached, Run, Summed, Row, Listing, Values, Within, Balance, expected};
+ghost use Rattle.expect.specs.Expected.{term, productMost, Largest, Reached, Run, Summed, Row, Listing, Values, Within, Balance, expected};
 use contract::Contract;
 
 // How many returns are averaged, by what they are discounted, and what no value reached passes.
@@ -20,13 +21,20 @@ struct Average {
     most: usize,
 }
 
+// The value that return k reaches with guarantee a.
+fn reached(work: &[u64], starts: &[usize; 64], k: usize, a: usize) -> u64
+    requires { ⌜ (k < returnsMost) × (getD (now starts) k 0 + a < length (now work)) ⌝ }
+    ensures { λ r. ⌜ r ≡ getD (now (work .entry)) (getD (now (starts .entry)) k 0 + a) 0 ⌝ }
+{
+    work[starts[k] + a]
+}
+
 // What return k adds to the sum of guarantee a.
 fn product(work: &[u64], starts: &[usize; 64], weights: &[u32; 64], k: usize, a: usize) -> usize
     requires { ⌜ (k < returnsMost) × Reached (now work) (now starts) (now weights) entryMost a k ⌝ }
     ensures { λ r. ⌜ (r ≡ term (now (work .entry)) (now (starts .entry)) (now (weights .entry)) a k) × (r ≤ productMost) ⌝ }
 {
-    let at = starts[k] + a;
-    weights[k] as usize * date::wide(work[at])
+    weights[k] as usize * date::wide(reached(work, starts, k, a))
 }
 
 // The same where the value has 32 bits: a product of two such numbers can be widened.
@@ -34,8 +42,7 @@ fn low_product(work: &[u64], starts: &[usize; 64], weights: &[u32; 64], k: usize
     requires { ⌜ (k < returnsMost) × Reached (now work) (now starts) (now weights) 4294967295 a k ⌝ }
     ensures { λ r. ⌜ (r ≡ term (now (work .entry)) (now (starts .entry)) (now (weights .entry)) a k) × (r ≤ productMost) ⌝ }
 {
-    let at = starts[k] + a;
-    weights[k] as usize * date::wide(work[at] % 4294967296)
+    weights[k] as usize * date::wide(reached(work, starts, k, a) % 4294967296)
 }
 
 // .. and of four returns.
@@ -254,7 +261,7 @@ fn expect_balance(
     stride: usize,
     size: usize,
 )
-    requires { ⌜ Balance (termsIn c) (now work) (now list) (now weights) (average .count) (average .most) balance stride size × (average .discount ≡ c .discount) ⌝ }
+    requires { ⌜ Balance (termsIn c) (now work) (now list) (now weights) (average .count) (average .discount) (average .most) balance stride size ⌝ }
     ensures { λ _. ⌜ now (work .exit) ≡ stored (now (work .entry)) (size + balance * stride) (expected (termsIn c) (returnsOf (now (list .entry))) (cells (now (work .entry)) 0 stride) balance) stride ⌝ }
 {
     let mut starts = [0usize; 64];
@@ -269,10 +276,10 @@ fn expect_balance(
     );
 }
 
-// No entry of the first n is above it.
+// The largest of the first n entries, 0 where there are none.
 fn largest(work: &[u64], n: usize) -> usize
     requires { ⌜ n ≤ length (now work) ⌝ }
-    ensures { λ r. ⌜ ((i : ℕ) → i < n → getD (now (work .entry)) i 0 ≤ r) ⌝ }
+    ensures { λ r. ⌜ Largest (now (work .entry)) n r ⌝ }
 {
     let mut r: usize = 0;
     for i in 0..n {
@@ -281,12 +288,13 @@ fn largest(work: &[u64], n: usize) -> usize
     r
 }
 
-// No value of the first layer is above it. The values are looked at only where those of such a contract could pass 32 bits.
+// A number that no value of the first layer passes. The values are looked at only where those of such a contract could pass 32
+// bits.
 fn most(work: &[u64], size: usize, c: Contract) -> usize
     requires { ⌜ Values (termsIn c) (now work) × (size ≡ layerSize (termsIn c)) ⌝ }
-    ensures { λ r. ⌜ (r ≤ entryMost) × Within (termsIn c) (now (work .entry)) r ⌝ }
+    ensures { λ r. ⌜ (r ≤ valueMost (termsIn c)) × Within (termsIn c) (now (work .entry)) r ⌝ }
 {
-    let most = 30000 * (c.top * c.dates);
+    let most = Contract::FACTOR_MOST * (c.top * c.dates);
     if most < 4294967296 {
         return most;
     }

@@ -7,7 +7,7 @@ use native.Mathlib.Nat.{mul-le-mul, zero-mul}
 use native.Mathlib.Omega.{arith}
 use lib.ListN.{getD, length}
 use Rattle.slices.specs.Stored.{stored, stored-out, length-stored}
-use Rattle.rules.specs.Contract.{entryMost}
+use Rattle.laws.specs.Bounds.{entryMost}
 use Rattle.slices.specs.Rows.{cells, flat, cells-kept, layer-stored, row-next, rows-le, rows-step, rows-before}
 use Rattle.further.specs.Further.{furtherValue, furtherAmount, Room, Below, amount-small, value-small}
 

@@ -10,7 +10,7 @@ use lib.Dec.{T, ltb, ltb→lt, nltb→le}
 use lib.ListN.{getD, length}
 use Rattle.decision.specs.Choice.{Leading, leading-one, leading-join, leading-shift}
 use Rattle.slices.specs.Rows.{cells}
-use Rattle.rules.specs.Contract.{entryMost}
+use Rattle.laws.specs.Bounds.{entryMost}
 
 -- what s further is worth from balance b and guarantee a, where e gives the discounted sums
 abbrev pub further : (ℕ → ℕ → ℕ) → ℕ → ℕ → ℕ → ℕ → ℕ

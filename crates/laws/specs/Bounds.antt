@@ -8,7 +8,7 @@ use Rattle.decision.specs.Index.{sum-le, sum-times}
 use Rattle.decision.specs.Process.{Table, tableValue, Decides}
 use Rattle.decision.specs.Optimal.{recorded-best}
 use Rattle.decision.specs.Bounds.{value-bounded, start-bounded, table-bounded}
-use Rattle.rules.specs.Contract.{Terms, Returns, discountMost, weightTotal, entryMost}
+use Rattle.rules.specs.Contract.{Terms, Returns, topMost, datesMost, factorMost, discountMost, weightTotal}
 use Rattle.rules.specs.Date.{Behaviour, dynamic, cash, nextAccount, maturityValue, discounted}
 use Rattle.rules.specs.Product.{stateValue, recordedAmount, contractValue}
 use Rattle.rules.specs.FixedTerm.{State, Held, InRange, freeIn, admissibleIn, cashIn, reachBy, expectOver, processOf, fixedTerm}
@@ -26,12 +26,16 @@ pub cash-le : (rate m t : ℕ) → cash rate m t ≤ 10000 * t
 unfolding cash
 cash-le rate m t = sub-le _ _
 
--- what no value of a contract passes: in each period three times top, a factor's most
+-- what no value of a contract passes: for each period 10,000 × the most that a factor makes of top
 abbrev pub valueMost : Terms → ℕ
-valueMost c = 30000 * (c .top * c .dates)
+valueMost c = factorMost * (c .top * c .dates)
+
+-- .. of the largest contract: the bound on an entry of a working slice
+abbrev pub entryMost : ℕ
+entryMost = factorMost * (topMost * datesMost)
 
 pub value-most : {c : Terms} → Valid c → valueMost c ≤ entryMost
-value-most v = mul-le-mul-left 30000 (mul-le-mul (v .top) (v .dates))
+value-most v = mul-le-mul-left factorMost (mul-le-mul (v .top) (v .dates))
 
 module _ (c : Terms) (rs : Returns) (v : Valid c) (u : ValidReturns rs) where
   -- admissible amounts are at most top

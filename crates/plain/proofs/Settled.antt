@@ -8,7 +8,7 @@ use native.Mathlib.Decide.{decLe}
 use native.Mathlib.Omega.{arith}
 use lib.ListN.{length, getD}
 use borrow.Author.Tests.{lt-ltb, le-ltb}
-use Rattle.rules.specs.Contract.{entryMost}
+use Rattle.laws.specs.Bounds.{entryMost}
 use Rattle.rules.specs.Date.{Behaviour, static, mixed, freeAmount, largestAmount, cash}
 use Rattle.slices.specs.Stored.{stored, length-stored, stored-in, stored-out, stored-join, stored-eq, is-stored}
 use Rattle.slices.specs.Rows.{cells, cells-kept, rows-le, rows-step}

@@ -8,7 +8,8 @@ use lib.Dec.{ltb}
 use lib.ListN.{length, getD}
 use Rattle.decision.specs.Choice.{Best}
 use Rattle.slices.specs.Rows.{cells}
-use Rattle.rules.specs.Contract.{topMost, entryMost}
+use Rattle.rules.specs.Contract.{topMost}
+use Rattle.laws.specs.Bounds.{entryMost}
 use Rattle.rules.specs.Date.{Behaviour, static, mixed, freeAmount, largestAmount, admits}
 use Rattle.worth.specs.Worth.{worthOver}
 

@@ -92,9 +92,3 @@ returnsMost = 64
 
 abbrev pub weightTotal : ℕ
 weightTotal = 10000
-
--- ---- stored numbers
--- "Working slices and value fields become 64-bit": no entry passes 10,000 × 3 × 4,000 × 40. A factor lifts an account to three
--- times its size at most, and no period pays more than that.
-abbrev pub entryMost : ℕ
-entryMost = 4800000000

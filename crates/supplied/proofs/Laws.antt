@@ -15,7 +15,7 @@ use Rattle.decision.specs.Layers.{low-digit, lookup, layer}
 use Rattle.slices.specs.Parts.{part-at}
 use Rattle.slices.specs.Stored.{stored, length-stored, stored-out}
 use Rattle.slices.specs.Rows.{cells, flat, cells-kept, within-rows, rows-le, rows-step, row-next, layer-stored}
-use Rattle.rules.specs.Contract.{Terms, rateMost, termsOf, Returns, returnsOf, entryMost}
+use Rattle.rules.specs.Contract.{Terms, rateMost, termsOf, Returns, returnsOf}
 use Rattle.rules.specs.Date.{dynamic, freeAmount, admits, maturityValue, margin}
 use Rattle.rules.specs.Product.{suppliedValue, suppliedLayer}
 use Rattle.rules.specs.Refusals.{Verdict, accepted, refused, verdict, numberOf, placeOf, onSuccess, recordChecks, listChecks}
@@ -24,7 +24,7 @@ use Rattle.rules.specs.Operations.{productOf, answer, workAfter, tableSize, bad
 use Rattle.laws.specs.Supplied.{all-admitted}
 use Rattle.laws.specs.Date.{dynamic-is}
 use Rattle.laws.specs.Accepted.{Valid, ValidReturns, then-accepted, then-refused}
-use Rattle.laws.specs.Bounds.{table-value-most, valueMost, value-most}
+use Rattle.laws.specs.Bounds.{table-value-most, valueMost, value-most, entryMost}
 use Rattle.expect.specs.Expected.{expected, reachedSum, Listing, expected-le, expected-same}
 use Rattle.worth.specs.Worth.{worthOver, worth-same}
 use Rattle.dates.specs.Back.{at}

@@ -8,7 +8,8 @@ use Rattle.decision.specs.Index.{first}
 use Rattle.decision.specs.Process.{tableValue}
 use Rattle.decision.specs.Layers.{lookup}
 use Rattle.slices.specs.Rows.{cells}
-use Rattle.rules.specs.Contract.{Terms, Returns, topMost, rateMost, entryMost}
+use Rattle.rules.specs.Contract.{Terms, Returns, topMost, rateMost}
+use Rattle.laws.specs.Bounds.{entryMost}
 use Rattle.rules.specs.Date.{dynamic, freeAmount, admits, maturityValue}
 use Rattle.rules.specs.Product.{suppliedValue, suppliedLayer}
 use Rattle.rules.specs.FixedTerm.{layerSize, layoutOf, processOf, fixedTerm}

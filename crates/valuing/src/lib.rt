@@ -2,7 +2,8 @@
 ghost use mathlib.Core.Path.{_≡_};
 ghost use mathlib.Core.Bool.{_||_};
 ghost use Prim.Native.Nat.{_*_, _≤_};
-ghost use Rattle.rules.specs.Contract.{topMost, entryMost, returnsOf};
+ghost use Rattle.rules.specs.Contract.{topMost, returnsOf};
+ghost use Rattle.laws.specs.Bounds.{entryMost};
 ghost use Rattle.rules.specs.Date.{margin};
 ghost use Rattle.rules.specs.Product.{Claim};
 ghost use Rattle.rules.specs.FixedTerm.{layerSize};

@@ -1,8 +1,7 @@
 -- `expect::add_eight` meets its contract. Assumes nothing.
-use Prim.Native.Nat.{ℕ, _+_, _-_, _≤_}
-use lib.ListN.{set, getD}
-use mathlib.Core.List.{List}
-use mathlib.Core.Path.{_≡_, refl, sym, ap, _∙_}
+use Prim.Native.Nat.{_+_, _-_, _≤_}
+use lib.ListN.{set}
+use mathlib.Core.Path.{_≡_, refl, sym, _∙_}
 use native.Mathlib.Omega.{arith}
 use Rattle.decision.specs.Index.{sum}
 use Rattle.expect.specs.Expected.{term}
@@ -64,9 +63,7 @@ add-sums-2 c =
     let low-four = c .before .before .low-four in
     let low-four2 = c .before .low-four2 in
     let j = loop .j in
-    let read : getD (loop .sums) j 0 ≡ sum (term (args .work .now) (args .starts .now) (args .weights .now) (args .from + j)) (args .k) =
-    ap (λ (xs : List ℕ). getD xs j 0) (loop .inv .1)
-    ∙ sum-read (pre .1) _ j (loop-test .taken) in
+    let read = sum-read _ (pre .1) (loop .inv .1) (loop-test .taken) in
     let s = sum-small (pre .0) j (args .k) (loop-test .taken) (omega arith) in
     omega (arith, pre .0 .few, low-four .ensures .1, low-four2 .ensures .1)
 
@@ -89,9 +86,7 @@ loop-again c =
     let low-four2 = c .before .low-four2 in
     let j = loop .j in
     let f = term (args .work .now) (args .starts .now) (args .weights .now) (args .from + j) in
-    let read : getD (loop .sums) j 0 ≡ sum f (args .k) =
-    ap (λ (xs : List ℕ). getD xs j 0) (loop .inv .1)
-    ∙ sum-read (pre .1) _ j (loop-test .taken) in (
+    let read = sum-read _ (pre .1) (loop .inv .1) (loop-test .taken) in (
       omega arith,
       (λ i. set (loop .inv .1 i) j (twice-four f (args .k) _ _ read (low-four .ensures .0) (low-four2 .ensures .0) i))
           ∙ stored-push _ _ _,

@@ -2,7 +2,7 @@
 use Prim.Native.Nat.{_+_}
 use borrow.Author.Tests.{ltb-true}
 use native.Mathlib.Omega.{arith}
-use Rattle.rules.specs.Contract.{entryMost}
+use Rattle.laws.specs.Bounds.{entryMost}
 use Rattle.expect.proofs.Laws.{run-part}
 use Rattle.expect.proofs.add_next.Statement.{statement}
 use Rattle.expect.proofs.add_next.Tie as tie

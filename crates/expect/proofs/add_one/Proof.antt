@@ -1,8 +1,7 @@
 -- `expect::add_one` meets its contract. Assumes nothing.
 use Prim.Native.Nat.{ℕ, _+_, _-_, _≤_}
-use lib.ListN.{set, getD}
-use mathlib.Core.List.{List}
-use mathlib.Core.Path.{_≡_, refl, sym, ap, ap₂, _∙_}
+use lib.ListN.{set}
+use mathlib.Core.Path.{_≡_, refl, sym, ap₂, _∙_}
 use native.Mathlib.Omega.{arith}
 use Rattle.decision.specs.Index.{sum, sum-next}
 use Rattle.expect.specs.Expected.{term}
@@ -47,9 +46,7 @@ add-sums c =
     let loop = c .before .before .before .loop in
     let loop-test = c .before .before .loop-test in
     let j = loop .j in
-    let read : getD (loop .sums) j 0 ≡ sum (term (args .work .now) (args .starts .now) (args .weights .now) (from₀ + j)) k₀ =
-    ap (λ (xs : List ℕ). getD xs j 0) (loop .inv .1)
-    ∙ sum-read (pre .1) _ j (loop-test .taken) in
+    let read = sum-read _ (pre .1) (loop .inv .1) (loop-test .taken) in
     let s = sum-small (pre .0) j k₀ (loop-test .taken) (omega arith) in
     omega (arith, pre .0 .few, c .before .product .ensures .1)
 
@@ -74,9 +71,7 @@ loop-again c =
     let loop = c .before .before .before .loop in
     let loop-test = c .before .before .loop-test in
     let j = loop .j in
-    let read : getD (loop .sums) j 0 ≡ sum (term work₀ starts₀ weights₀ (from₀ + j)) k₀ =
-    ap (λ (xs : List ℕ). getD xs j 0) (loop .inv .1)
-    ∙ sum-read (pre .1) _ j (loop-test .taken) in (
+    let read = sum-read _ (pre .1) (loop .inv .1) (loop-test .taken) in (
       omega arith,
       (λ i. set (loop .inv .1 i) j ((ap₂ (λ (x y : ℕ). x + y) read (c .before .product .ensures .0) ∙ sym (sum-next (term work₀ starts₀ weights₀ (from₀ + j)) k₀)) i))
           ∙ stored-push _ _ _,

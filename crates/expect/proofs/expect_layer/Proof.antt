@@ -3,9 +3,11 @@ use Prim.Native.Nat.{ℕ, _+_, _*_, _-_, _≤_}
 use lib.ListN.{length, getD}
 use mathlib.Core.List.{List}
 use mathlib.Core.Path.{_≡_, refl, ap, _∙_}
+use native.Mathlib.Nat.{le-trans}
 use native.Mathlib.Omega.{arith}
 use Rattle.contract.specs.Reading.{termsIn}
 use Rattle.expect.specs.Expected.{expected}
+use Rattle.laws.specs.Bounds.{value-most}
 use Rattle.rules.specs.Contract.{returnsOf}
 use Rattle.rules.specs.FixedTerm.{layerSize}
 use Rattle.slices.specs.Rows.{cells, flat}
@@ -55,19 +57,18 @@ expect-balance-requires c κs =
     let fill-weights = c .before .before .before .before .before .before .before .fill-weights in
     let most = c .before .before .before .before .before .most in
     let loop = c .before .before .before .loop in
-    let e : length (loop .work) ≡ length (args .work .now) = ap length (loop .inv .1) ∙ length-stored _ _ _ _ in (
-      record {
-        listing = pre .0;
-        layers = record { valid = pre .1 .layers .valid; room = omega (arith, pre .1 .layers .room) };
-        most-is = most .ensures .0;
-        small = within-kept (termsIn (args .c)) (args .work .now) (loop .work) _ _ (most .ensures .1) (loop .inv .1);
-        weights-are = λ k l. ap (λ (xs : List ℕ). getD xs k 0) (fill-weights .ensures) ∙ stored-first _ _ _ k (pre .0 .few) l;
-        balance-is = omega arith;
-        stride-is = refl;
-        size-is = refl;
-      },
-      refl,
-    )
+    let e : length (loop .work) ≡ length (args .work .now) = ap length (loop .inv .1) ∙ length-stored _ _ _ _ in
+    record {
+      listing = pre .0;
+      layers = record { valid = pre .1 .layers .valid; room = omega (arith, pre .1 .layers .room) };
+      discount-is = refl;
+      most-is = le-trans (most .ensures .0) (value-most (pre .1 .layers .valid));
+      small = within-kept (termsIn (args .c)) (args .work .now) (loop .work) _ _ (most .ensures .1) (loop .inv .1);
+      weights-are = λ k l. ap (λ (xs : List ℕ). getD xs k 0) (fill-weights .ensures) ∙ stored-first _ _ _ k (pre .0 .few) l;
+      balance-is = omega arith;
+      stride-is = refl;
+      size-is = refl;
+    }
 
 add-balance : tie.Need-add-balance Inv-loop μ-loop
 add-balance c =

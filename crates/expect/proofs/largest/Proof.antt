@@ -1,20 +1,21 @@
 -- `expect::largest` meets its contract. Assumes nothing.
-use Prim.Native.Nat.{ℕ, _-_, _≤_, _<_}
+use Prim.Native.Nat.{_-_, _≤_}
 use borrow.Author.Needs.{needs}
-use lib.ListN.{getD}
+use mathlib.Core.Path.{_≡_, sym}
 use native.Mathlib.Omega.{arith}
-use Rattle.expect.proofs.Laws.{larger-next}
+use Rattle.expect.specs.Expected.{Largest}
+use Rattle.expect.proofs.Laws.{largest-none, largest-next}
 use Rattle.expect.proofs.largest.Statement.{statement}
 use Rattle.expect.proofs.largest.Tie as tie
 
 abbrev Inv-loop : tie.InvT-loop
-Inv-loop work n r₀ i₀ r i = (i ≤ n) × ((j : ℕ) → j < i → getD work j 0 ≤ r)
+Inv-loop work n r₀ i₀ r i = (i ≤ n) × Largest work i r
 
 abbrev μ-loop : tie.MeasureT-loop
 μ-loop work n r₀ i₀ r i = n - i
 
 loop-holds : tie.Need-loop-holds Inv-loop μ-loop
-loop-holds c = (omega arith, λ j l. absurd (omega arith))
+loop-holds c = (omega arith, largest-none _)
 
 mul-wide : tie.Need-mul-wide Inv-loop μ-loop
 mul-wide c = omega (arith, c .before .before .before .pre)
@@ -40,10 +41,13 @@ loop-again c =
     let loop = c .before .before .before .before .loop in
     let wide = c .before .wide in
     let larger = c .larger in
-    (omega arith, larger-next (args .work .now) _ _ _ (wide .ensures) (larger .ensures) (loop .inv .1))
+    (omega arith, largest-next (args .work .now) _ _ _ (wide .ensures) (larger .ensures) (loop .inv .1))
 
 returns : tie.Need-returns Inv-loop μ-loop
-returns c = λ j l. c .before .loop .inv .1 j (omega arith)
+returns c =
+    let args = c .before .before .before .args in
+    let loop = c .before .loop in
+    let e : loop .i ≡ args .n = omega arith in rw (sym e) (loop .inv .1)
 
 pub largest-spec : {M : Type 1} → statement M
 largest-spec =

@@ -1,23 +1,14 @@
 -- `expect::low_product` meets its contract. Assumes nothing.
-use Prim.Native.Nat.{ℕ, _*_}
+use Prim.Native.Nat.{ℕ, _*_, _%_}
 use borrow.Author.Needs.{needs}
+use lib.Dec.{lit≤}
 use lib.ListN.{getD}
 use mathlib.Core.Path.{ap, _∙_}
 use native.Mathlib.Nat.{le-trans}
-use lib.Dec.{lit≤}
 use native.Mathlib.Omega.{arith}
 use Rattle.expect.proofs.Laws.{product-small, low-part}
 use Rattle.expect.proofs.low_product.Statement.{statement}
 use Rattle.expect.proofs.low_product.Tie as tie
-
-mul-at : tie.Need-mul-at
-mul-at c = omega arith
-
-element-copy-out-at : tie.Need-element-copy-out-at
-element-copy-out-at c = omega arith
-
-add-at : tie.Need-add-at
-add-at c = omega (arith, c .before .before .pre .1 .within)
 
 mul-result : tie.Need-mul-result
 mul-result c = omega arith
@@ -28,40 +19,31 @@ element-copy-out-result c = omega arith
 cast-result : tie.Need-cast-result
 cast-result c = search needs
 
-mul-wide : tie.Need-mul-wide
-mul-wide c = omega (arith, c .before .before .before .pre .1 .within)
-
-shared-slice-read-wide : tie.Need-shared-slice-read-wide
-shared-slice-read-wide c = c .before .before .before .before .pre .1 .within
+reached-requires : tie.Need-reached-requires
+reached-requires c κs = (c .before .before .pre .0, c .before .before .pre .1 .within)
 
 wide-requires : tie.Need-wide-requires
 wide-requires c κs = search needs
 
 mul-result-2 : tie.Need-mul-result-2
 mul-result-2 c =
-    let pre = c .before .before .before .before .before .pre in
+    let pre = c .before .before .before .before .pre in
+    let reached = c .before .reached in
     let wide = c .wide in
-    rw (wide .ensures ∙ low-part (pre .1 .small)) (omega (arith, product-small (pre .1 .light) (le-trans (pre .1 .small) (lit≤ tt))))
+    let value = wide .ensures ∙ ap (λ (x : ℕ). x % 4294967296) (reached .ensures) ∙ low-part (pre .1 .small) in
+    rw value (omega (arith, product-small (pre .1 .light) (le-trans (pre .1 .small) (lit≤ tt))))
 
 returns : tie.Need-returns
 returns c =
-    let args = c .before .before .before .before .before .args in
-    let pre = c .before .before .before .before .before .pre in
+    let pre = c .before .before .before .before .pre in
+    let args = c .before .before .before .before .args in
+    let reached = c .before .reached in
     let wide = c .wide in
-    (ap (λ (x : ℕ). getD (args .weights .now) (args .k) 0 * x) (wide .ensures ∙ low-part (pre .1 .small)), rw (wide .ensures ∙ low-part (pre .1 .small)) (product-small (pre .1 .light) (le-trans (pre .1 .small) (lit≤ tt))))
+    let value = wide .ensures ∙ ap (λ (x : ℕ). x % 4294967296) (reached .ensures) ∙ low-part (pre .1 .small) in
+    let small = product-small (pre .1 .light) (le-trans (pre .1 .small) (lit≤ tt)) in
+    (ap (λ (x : ℕ). getD (args .weights .now) (args .k) 0 * x) value, rw value small)
 
 pub low-product-spec : {M : Type 1} → statement M
 low-product-spec =
     tie.close
-    (tie.spec
-    mul-at
-    element-copy-out-at
-    add-at
-    mul-result
-    element-copy-out-result
-    cast-result
-    mul-wide
-    shared-slice-read-wide
-    wide-requires
-    mul-result-2
-    returns)
+    (tie.spec mul-result element-copy-out-result cast-result reached-requires wide-requires mul-result-2 returns)

@@ -1,7 +1,7 @@
 -- `expect::most` meets its contract. Assumes nothing.
 use Prim.Native.Nat.{_+_, _*_}
 use borrow.Author.Needs.{needs}
-use native.Mathlib.Nat.{mul-le-mul}
+use native.Mathlib.Nat.{le-refl, mul-le-mul}
 use native.Mathlib.Omega.{arith}
 use Rattle.rules.specs.FixedTerm.{layerSize}
 use Rattle.laws.specs.Bounds.{value-most}
@@ -18,7 +18,7 @@ mul-most-2 : tie.Need-mul-most-2
 mul-most-2 c = omega (arith, value-most (c .before .before .pre .0 .layers .valid))
 
 returns : tie.Need-returns
-returns c = (value-most (c .before .before .before .pre .0 .layers .valid), c .before .before .before .pre .0 .small)
+returns c = (le-refl _, c .before .before .before .pre .0 .small)
 
 largest-requires : tie.Need-largest-requires
 largest-requires c κs =
@@ -36,11 +36,11 @@ returns-2 c =
     let largest = c .before .largest in
     let smaller = c .smaller in
     let e = smaller .ensures in (
-      omega (arith, value-most (pre .0 .layers .valid)),
+      omega arith,
       λ w a h l.
           let i = within-rows (args .c .premium + 1) (args .c .top + 1) w a (omega arith) (omega arith) in
           let p = pre .0 .small w a h l in
-          let q = largest .ensures (0 + (w * (args .c .premium + 1) + a)) (omega (arith, pre .1)) in
+          let q = largest .ensures .above (0 + (w * (args .c .premium + 1) + a)) (omega (arith, pre .1)) in
           omega arith,
     )
 

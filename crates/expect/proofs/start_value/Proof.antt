@@ -9,15 +9,15 @@ use native.Mathlib.Omega.{arith}
 use Rattle.contract.specs.Reading.{termsIn}
 use Rattle.decision.specs.Index.{sum}
 use Rattle.expect.specs.Expected.{term, Row, Balance, expected-le}
-use Rattle.laws.specs.Bounds.{valueMost, value-most}
-use Rattle.rules.specs.Contract.{returnsOf, entryMost}
+use Rattle.laws.specs.Bounds.{valueMost, value-most, entryMost}
+use Rattle.rules.specs.Contract.{returnsOf}
 use Rattle.rules.specs.Date.{nextAccount, discounted}
 use Rattle.slices.specs.Stored.{stored-first}
 use Rattle.expect.proofs.Laws.{start-balance, balance-row, balance-cells, row-reached, reached-up}
 use Rattle.expect.proofs.start_value.Statement.{statement}
 use Rattle.expect.proofs.start_value.Tie as tie
 
-balance : (c : tie.After-weights2) → Balance (termsIn (c .before .before .before .before .before .before .before .before .before .args .c)) (c .before .before .before .before .before .before .before .before .before .args .work .now) (c .before .before .before .before .before .before .before .before .before .args .list .now) (c .before .before .before .before .fill-weights .last .0) (c .before .before .before .before .before .before .before .before .before .args .count) (valueMost (termsIn (c .before .before .before .before .before .before .before .before .before .args .c))) (c .before .before .before .before .before .before .before .before .before .args .c .premium) (c .before .before .before .before .before .before .before .before .before .args .c .premium + 1) ((c .before .before .before .before .before .before .before .before .before .args .c .top + 1) * (c .before .before .before .before .before .before .before .before .before .args .c .premium + 1))
+balance : (c : tie.After-weights2) → Balance (termsIn (c .before .before .before .before .before .before .before .before .before .args .c)) (c .before .before .before .before .before .before .before .before .before .args .work .now) (c .before .before .before .before .before .before .before .before .before .args .list .now) (c .before .before .before .before .fill-weights .last .0) (c .before .before .before .before .before .before .before .before .before .args .count) (c .before .before .before .before .before .before .before .before .before .args .c .discount) (valueMost (termsIn (c .before .before .before .before .before .before .before .before .before .args .c))) (c .before .before .before .before .before .before .before .before .before .args .c .premium) (c .before .before .before .before .before .before .before .before .before .args .c .premium + 1) ((c .before .before .before .before .before .before .before .before .before .args .c .top + 1) * (c .before .before .before .before .before .before .before .before .before .args .c .premium + 1))
 balance c =
     let pre = c .before .before .before .before .before .before .before .before .before .pre in
     let fill-weights = c .before .before .before .before .fill-weights in
