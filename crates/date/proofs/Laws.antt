@@ -1,7 +1,7 @@
 -- Products below a bound, and a quotient in two parts. Assumes nothing.
 use mathlib.Core.Path.{_≡_, ap, sym, _∙_}
-use Prim.Native.Nat.{ℕ, _+_, _*_, _/_, _%_, _^_, _≤_, _<_}
-use native.Mathlib.Nat.{mul-le-mul, mul-add-div, div-add-mod, div-div-eq-div-mul, mod-eq-of-lt}
+use Prim.Native.Nat.{ℕ, _+_, _*_, _/_, _%_, _≤_}
+use native.Mathlib.Nat.{mul-le-mul, mul-add-div, div-add-mod, div-div-eq-div-mul}
 use native.Mathlib.Omega.{arith}
 use lib.Dec.{lit<}
 
@@ -14,11 +14,3 @@ two-parts d s =
     ap (λ (x : ℕ). x / 1000000) (sym (mul-add-div (lit< tt) (d * (s / 10000)) (d * (s % 10000))))
     ∙ ap (λ (x : ℕ). x / 10000 / 1000000) (let e = ap (λ (y : ℕ). d * y) (div-add-mod s 10000) in omega arith)
     ∙ div-div-eq-div-mul (d * s) 10000 1000000
-
--- ---- which of two numbers is larger, by what their difference wraps to
-module _ {x y d : ℕ} (wraps : (d + y) % 2 ^ 64 ≡ x) (small : (x < 2 ^ 63) × (y < 2 ^ 63)) where
-  pub no-sign : d < 2 ^ 63 → y ≤ x
-  no-sign h = let e : (d + y) % 2 ^ 64 ≡ d + y = mod-eq-of-lt (omega (arith, small .1)) in omega arith
-
-  pub sign : d < 2 ^ 64 → 2 ^ 63 ≤ d → x < y
-  sign h l = omega (arith, small .1)

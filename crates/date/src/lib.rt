@@ -1,10 +1,8 @@
 // One date on plain numbers: the leaves that every operation is made of.
-ghost use mathlib.Core.Bool.{cond};
 ghost use mathlib.Core.Path.{_≡_};
-ghost use Prim.Native.Nat.{ℕ, _-_, _^_, _≤_, _<_, max, min};
-ghost use lib.Dec.{ltb};
+ghost use Prim.Native.Nat.{ℕ, _-_, _≤_, _<_, max, min};
 ghost use Rattle.rules.specs.Contract.{topMost, datesMost, rateMost, discountMost, factorMost};
-ghost use Rattle.rules.specs.Date.{dynamic, freeAmount, largestAmount, surrenders, admits, rateOn, penalty, cash, guaranteeAfter, balanceAfter, nextAccount, maturityValue, discounted};
+ghost use Rattle.rules.specs.Date.{dynamic, freeAmount, largestAmount, admits, rateOn, penalty, cash, guaranteeAfter, balanceAfter, nextAccount, maturityValue, discounted};
 
 // An entry of a working slice, and one of a table, as a number.
 pub fn wide(x: u64) -> usize
@@ -117,24 +115,4 @@ pub fn discounted(discount: usize, sum: usize) -> usize
         return discount * sum / 10000000000;
     }
     (discount * (sum / 10000) + discount * (sum % 10000) / 10000) / 1000000
-}
-
-// What goes with the larger of two values; a tie keeps the one held. By the sign of the difference, for loops that are widened:
-// the plainest x86-64 compares no 64-bit numbers side by side.
-pub fn pick(held: u64, other: u64, old: u64, new: u64) -> u64
-    requires { ⌜ (held < 2 ^ 63) × (other < 2 ^ 63) ⌝ }
-    ensures { λ r. ⌜ r ≡ cond (ltb held other) new old ⌝ }
-{
-    if std::num::wrapping_sub_u64(held, other) < 9223372036854775808 {
-        old
-    } else {
-        new
-    }
-}
-
-// The same of any two numbers.
-pub fn pick_any(held: u64, other: u64, old: u64, new: u64) -> u64
-    ensures { λ r. ⌜ r ≡ cond (ltb held other) new old ⌝ }
-{
-    if held < other { new } else { old }
 }

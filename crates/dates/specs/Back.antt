@@ -26,12 +26,14 @@ valuesOn c rs b i w a = stateValue (fixedTerm c rs) b i (at w a)
 
 pub value-back : (c : Terms) (rs : Returns) (b : Behaviour) (i w a : ℕ) → i < c .dates
     → bestValue b (expected c rs (valuesOn c rs b (suc i))) (rateIn c i) (c .level) w a ≡ valuesOn c rs b i w a
-unfolding stateValue fixedTerm processOf admissibleIn limitIn freeIn cashIn afterIn reachBy expectOver worth bestValue worthOver expected reachedSum
+unfolding stateValue fixedTerm processOf admissibleIn limitIn freeIn cashIn afterIn reachBy expectOver worth bestValue worthOver
+    expected reachedSum
 value-back c rs b i w a l = sym (value-step (processOf c rs) (admissibleIn c b) i (at w a) l)
 
 pub amount-back : (c : Terms) (rs : Returns) (b : Behaviour) (i w a : ℕ)
     → bestAmount b (expected c rs (valuesOn c rs b (suc i))) (rateIn c i) (c .level) w a ≡ recordedAmount (fixedTerm c rs) b i (at w a)
-unfolding stateValue recordedAmount recorded fixedTerm processOf admissibleIn limitIn freeIn cashIn afterIn reachBy expectOver worth bestAmount worthOver expected reachedSum
+unfolding stateValue recordedAmount recorded fixedTerm processOf admissibleIn limitIn freeIn cashIn afterIn reachBy expectOver worth
+    bestAmount worthOver expected reachedSum
 amount-back c rs b i w a = refl
 
 pub maturity-is : (c : Terms) (rs : Returns) (b : Behaviour) (w a : ℕ) → valuesOn c rs b (c .dates) w a ≡ maturityValue w a
@@ -43,19 +45,18 @@ pub values-most : (c : Terms) (rs : Returns) (b : Behaviour) → Valid c → Val
     → (i w a : ℕ) → w ≤ c .top → a ≤ c .premium → valuesOn c rs b i w a ≤ valueMost c
 values-most c rs b v u i w a h k = state-value-most c rs v u b i (at w a) (record { account = h; guarantee = k })
 
--- ---- what the loop over the dates holds: the dates above i are valued
+-- ---- what the loop over the dates holds: the dates above i are valued, and recorded where the table has room for all dates
 pub record Valued (b : Behaviour) (c : Terms) (rs : Returns) (work table work' table' : List ℕ) (i : ℕ) : Type 0 where
   pub long : length work' ≡ length work
   pub long-table : length table' ≡ length table
   pub values : (w a : ℕ) → w ≤ c .top → a ≤ c .premium → cells work' 0 (c .premium + 1) w a ≡ valuesOn c rs b (suc i) w a
-  pub amounts : (j w a : ℕ) → i < j → j < c .dates → w ≤ c .top → a ≤ c .premium
+  pub amounts : tableSize c ≤ length table → (j w a : ℕ) → i < j → j < c .dates → w ≤ c .top → a ≤ c .premium
       → getD table' ((j - 1) * layerSize c + (w * (c .premium + 1) + a)) 0 ≡ recordedAmount (fixedTerm c rs) b j (at w a)
   pub rest : (x : ℕ) → layerSize c + layerSize c ≤ x → getD work' x 0 ≡ getD work x 0
-  pub rest-table : (x : ℕ) → (c .dates - 1) * layerSize c ≤ x → getD table' x 0 ≡ getD table x 0
+  pub rest-table : tableSize c ≤ length table → (x : ℕ) → (c .dates - 1) * layerSize c ≤ x → getD table' x 0 ≡ getD table x 0
 
-pub record Starting (behaviour : ℕ) (c : Terms) (count : ℕ) (work table list : List ℕ) : Type 0 where
+pub record Starting (behaviour : ℕ) (c : Terms) (count : ℕ) (work list : List ℕ) : Type 0 where
   pub known : behaviour ≤ 2
   pub listing : Listing list count
   pub layers : Layers c work
-  pub entries : tableSize c ≤ length table
   pub mature : (w a : ℕ) → w ≤ c .top → a ≤ c .premium → cells work 0 (c .premium + 1) w a ≡ maturityValue w a

@@ -27,6 +27,12 @@ date-layer c {i} some before =
     let l = rows-le (layerSize c) i (c .dates - 1) (omega arith) in
     record { start = refl; end = refl; within = omega arith }
 
+-- what of it is lent: all of it where the table has room for all dates
+pub record LentLayer (c : Terms) (i lent from to : ℕ) : Type 0 where
+  pub starts : from ≤ to
+  pub ends : to ≤ lent
+  pub whole : tableSize c ≤ lent → DateLayer c i from to
+
 -- the entry of a state stands in a layer
 pub entry-within : (c : Terms) {w a : ℕ} → w ≤ c .top → a ≤ c .premium → w * (c .premium + 1) + a < layerSize c
 unfolding layerSize

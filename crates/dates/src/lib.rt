@@ -4,16 +4,16 @@ ghost use Prim.Native.Nat.{ℕ, _+_, _-_, _*_, _≤_, _<_};
 ghost use lib.ListN.{length};
 ghost use Rattle.slices.specs.Stored.{stored};
 ghost use Rattle.slices.specs.Rows.{flat};
-ghost use Rattle.rules.specs.Contract.{topMost, rateMost, returnsOf};
+ghost use Rattle.rules.specs.Contract.{topMost, returnsOf};
 ghost use Rattle.rules.specs.Date.{maturityValue};
 ghost use Rattle.rules.specs.Operations.{behaviourOf};
 ghost use Rattle.contract.specs.Reading.{termsIn};
-ghost use Rattle.dates.specs.Dated.{Dating, Dated, Prepared};
+ghost use Rattle.dates.specs.Dated.{OneDate, dateOf, Summed, Dated};
 ghost use Rattle.dates.specs.Back.{Valued, Starting};
-ghost use Rattle.dates.specs.Layer.{DateLayer};
+ghost use Rattle.dates.specs.Layer.{DateLayer, LentLayer};
 ghost use Rattle.laws.specs.Accepted.{Valid};
-ghost use Rattle.further.specs.Further.{Room};
 use contract::Contract;
+use keys::Date;
 
 // The maturity values of account w.
 fn maturity_row(work: &mut [u64], stride: usize, w: usize)
@@ -44,26 +44,25 @@ pub fn clear(work: &mut [u64], from: usize, n: usize)
     }
 }
 
-// What the dynamic behaviour reads beside the discounted sums.
-fn prepare(
-    behaviour: usize,
-    work: &mut [u64],
-    table: &mut [u16],
-    base: usize,
-    stride: usize,
-    n: usize,
-    rate: usize,
-)
-    requires { ⌜ Room (now work) (now table) base stride n × (rate ≤ rateMost) ⌝ }
-    ensures { λ _. ⌜ Prepared behaviour (now (work .entry)) (now (table .entry)) (now (work .exit)) (now (table .exit)) base stride n (10000 - rate) ⌝ }
+// The discounted sums of a date, in the second layer. Gives where they stand, with the date's terms.
+pub fn sum_date(work: &mut [u64], list: &[u8], count: usize, c: Contract, rate: usize) -> Date
+    requires { ⌜ OneDate (termsIn c) count rate (now work) (now list) ⌝ }
+    ensures { λ r. ⌜
+        (r ≡ dateOf (termsIn c) rate)
+        × Summed (termsIn c) (returnsOf (now (list .entry))) (now (work .entry)) (now (work .exit)) r
+        ⌝ }
 {
-    if behaviour == 2 {
-        further::further_layer(work, table, base, stride, n, (10000 - rate) as u64);
+    expect::expect_layer(work, list, count, c);
+    Date {
+        base: c.layer_size(),
+        stride: c.premium + 1,
+        level: c.level,
+        rate,
     }
 }
 
 // The values and amounts of one date.
-pub fn one_date(
+fn one_date(
     behaviour: usize,
     work: &mut [u64],
     table: &mut [u16],
@@ -72,15 +71,14 @@ pub fn one_date(
     c: Contract,
     rate: usize,
 )
-    requires { ⌜ Dating behaviour (termsIn c) count rate (now work) (now table) (now list) ⌝ }
-    ensures { λ _. ⌜ Dated (behaviourOf behaviour) (termsIn c) (returnsOf (now (list .entry))) rate (now (work .entry)) (now (table .entry)) (now (work .exit)) (now (table .exit)) ⌝ }
+    requires { ⌜ (behaviour ≤ 2) × OneDate (termsIn c) count rate (now work) (now list) ⌝ }
+    ensures { λ _. ⌜
+        Dated (behaviourOf behaviour) (termsIn c) (returnsOf (now (list .entry))) rate (now (work .entry)) (now (table .entry))
+        (now (work .exit)) (now (table .exit))
+        ⌝ }
 {
-    let stride = c.premium + 1;
-    let n = c.top + 1;
-    let size = n * stride;
-    expect::expect_layer(work, list, count, c);
-    prepare(behaviour, work, table, size, stride, n, rate);
-    states::decide_layer(behaviour, work, table, size, stride, n, c.level, rate);
+    let d = sum_date(work, list, count, c, rate);
+    states::decide_layer(behaviour, work, table, d, c.top + 1);
 }
 
 // Where a part of the table starts and ends.
@@ -102,7 +100,19 @@ pub fn layer_of(c: Contract, i: usize) -> Part
     }
 }
 
-// Every decision date, from the last to the first, each in its own layer of the table.
+// .. as far as `lent` entries of a table go.
+fn lent_layer(c: Contract, i: usize, lent: usize) -> Part
+    requires { ⌜ Valid (termsIn c) × (0 < i) × (i < c .dates) ⌝ }
+    ensures { λ r. ⌜ LentLayer (termsIn c) i lent (r .from) (r .to) ⌝ }
+{
+    let part = layer_of(c, i);
+    Part {
+        from: date::smaller(part.from, lent),
+        to: date::smaller(part.to, lent),
+    }
+}
+
+// Every decision date, from the last to the first, each in its own layer of the table, if one is lent.
 pub fn all_dates(
     behaviour: usize,
     work: &mut [u64],
@@ -111,12 +121,15 @@ pub fn all_dates(
     count: usize,
     c: Contract,
 )
-    requires { ⌜ Starting behaviour (termsIn c) count (now work) (now table) (now list) ⌝ }
-    ensures { λ _. ⌜ Valued (behaviourOf behaviour) (termsIn c) (returnsOf (now (list .entry))) (now (work .entry)) (now (table .entry)) (now (work .exit)) (now (table .exit)) 0 ⌝ }
+    requires { ⌜ Starting behaviour (termsIn c) count (now work) (now list) ⌝ }
+    ensures { λ _. ⌜
+        Valued (behaviourOf behaviour) (termsIn c) (returnsOf (now (list .entry))) (now (work .entry)) (now (table .entry))
+        (now (work .exit)) (now (table .exit)) 0
+        ⌝ }
 {
     let mut i = c.dates - 1;
     while 0 < i {
-        let part = layer_of(c, i);
+        let part = lent_layer(c, i, table.len());
         let from = part.from;
         let to = part.to;
         let rate = date::rate_on(c.penalty, c.step, i);

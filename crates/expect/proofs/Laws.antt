@@ -15,7 +15,8 @@ use Rattle.rules.specs.Date.{nextAccount, discounted}
 use Rattle.rules.specs.FixedTerm.{layerSize}
 use Rattle.laws.specs.Bounds.{valueMost, value-most, entryMost}
 use Rattle.laws.specs.Date.{account-le}
-use Rattle.expect.specs.Expected.{reachedSum, expected, term, productMost, Largest, Reached, Run, Summed, Row, Listing, Values, Within, Balance}
+use Rattle.expect.specs.Expected.{reachedSum, expected, scaled, term, productMost}
+use Rattle.expect.specs.Expected.{Largest, Reached, Run, Summed, Row, Listing, Values, Within, Balance}
 
 -- ---- sums along the guarantees
 -- a product is small
@@ -34,9 +35,9 @@ sum-four f k =
     let four : sum f (k + 4) ≡ sum f (k + 3) + f (k + 3) = ap (sum f) (let e : k + 4 ≡ k + 3 + 1 = omega arith in e) ∙ sum-next f (k + 3) in
     omega arith
 
-pub twice-four : (f : ℕ → ℕ) (k x y : ℕ) {s : ℕ} → s ≡ sum f k → sum f (k + 4) ≡ sum f k + x → sum f (k + 4 + 4) ≡ sum f (k + 4) + y
-    → s + (x + y) ≡ sum f (k + 8)
-twice-four f k x y p q r = let e : sum f (k + 4 + 4) ≡ sum f (k + 8) = ap (sum f) (omega arith) in omega arith
+pub twice-four : (f : ℕ → ℕ) (k x y : ℕ) → sum f (k + 4) ≡ sum f k + x → sum f (k + 4 + 4) ≡ sum f (k + 4) + y
+    → sum f (k + 8) ≡ sum f k + (x + y)
+twice-four f k x y p q = let e : sum f (k + 4 + 4) ≡ sum f (k + 8) = ap (sum f) (omega arith) in omega arith
 
 -- a number of 32 bits is its low part
 pub low-part : {x : ℕ} → x ≤ 4294967295 → x % 4294967296 ≡ x
@@ -81,9 +82,19 @@ pub sum-read : {work starts weights sums sums' : List ℕ} {from n k j : ℕ} (f
 sum-read {sums = sums} {j = j} f s e l =
     ap (λ (xs : List ℕ). getD xs j 0) e ∙ stored-out sums 0 _ j j (inr (le-of-eq (zero-add j))) ∙ s .each j l
 
-pub summed : {work starts weights : List ℕ} (sums sums' : List ℕ) (from n k : ℕ)
-    → sums' ≡ stored sums 0 (λ j. sum (term work starts weights (from + j)) k) n → n ≤ length sums → Summed work starts weights sums' from n k
-summed sums sums' from n k e fits = record { long = let l = ap length e ∙ length-stored sums 0 _ n in omega arith; each = λ j l. ap (λ (xs : List ℕ). getD xs j 0) e ∙ stored-first sums _ n j fits l }
+-- a list filled from its front
+pub filled : {xs : List ℕ} (l : List ℕ) (f : ℕ → ℕ) (n : ℕ) → xs ≡ stored l 0 f n → n ≤ length l
+    → (k : ℕ) → k < n → getD xs k 0 ≡ f k
+filled l f n e fits k h = ap (λ (z : List ℕ). getD z k 0) e ∙ stored-first l f n k fits h
+
+-- the first n entries stored
+pub summed : {work starts weights sums' : List ℕ} {from n k j : ℕ} (sums : List ℕ)
+    → sums' ≡ stored sums 0 (λ i. sum (term work starts weights (from + i)) k) j → j ≡ n → n ≤ 256 → 256 ≤ length sums
+    → Summed work starts weights sums' from n k
+summed {j = j} sums e all short long = record {
+  long = let l = ap length e ∙ length-stored sums 0 _ j in omega arith;
+  each = λ i l. filled sums _ j e (omega arith) i (omega arith);
+}
 
 module _ {work starts weights : List ℕ} {count discount most to stride : ℕ} (r : Row work starts weights count discount most to stride) where
   -- the rows that are read lie before the row that is written
@@ -102,12 +113,12 @@ module _ {work starts weights : List ℕ} {count discount most to stride : ℕ} 
     small = r .small k a m l;
   }
 
-  pub row-sum-le : (a : ℕ) → a < stride → sum (term work starts weights a) count ≤ weightTotal * entryMost
+  pub row-sum-le : (a : ℕ) → a < stride → sum (term work starts weights a) count ≤ weightTotal * most
   row-sum-le a l =
       le-trans
-      (sum-le (term work starts weights a) (λ k. getD weights k 0 * entryMost) count
-      (λ k m. mul-le-mul-left (getD weights k 0) (le-trans (r .small k a m l) (r .most-is))))
-      (le-of-eq (sum-times (λ k. getD weights k 0) entryMost count ∙ ap (λ (x : ℕ). x * entryMost) (r .total)))
+      (sum-le (term work starts weights a) (λ k. getD weights k 0 * most) count
+      (λ k m. mul-le-mul-left (getD weights k 0) (r .small k a m l)))
+      (le-of-eq (sum-times (λ k. getD weights k 0) most count ∙ ap (λ (x : ℕ). x * most) (r .total)))
 
   -- the first m guarantees, some of the row filled
   pub row-part : (work' : List ℕ) (g : ℕ → ℕ) (n m : ℕ) → work' ≡ stored work to g n → m ≤ stride
@@ -138,7 +149,7 @@ row-run from n r h = record {
 -- no returns yet
 pub summed-none : {work starts weights : List ℕ} (from n : ℕ) → n ≤ 256 → Summed work starts weights (replicate 256 0) from n 0
 unfolding sum
-summed-none from n h = record { long = h; each = λ j l. getD-replicate 256 j 0 0 (omega arith) }
+summed-none from n h = record { long = le-of-eq refl; each = λ j l. getD-replicate 256 j 0 0 (omega arith) }
 
 -- ---- the row of one balance
 module _ {c : Terms} {work list weights : List ℕ} {count discount most balance stride size : ℕ} (b : Balance c work list weights count discount most balance stride size) where
@@ -215,7 +226,7 @@ within-kept c work work' f n small e w a h l =
 -- ---- row after row
 module _ (c : Terms) (rs : Returns) (work : List ℕ) (stride size : ℕ) (size-is : size ≡ (c .top + 1) * stride) where
   sums : ℕ → ℕ
-  sums = flat stride (expected c rs (cells work 0 stride))
+  sums = flat stride (scaled (expected c rs (cells work 0 stride)))
 
   -- the rows filled so far are not read
   kept : (n b a : ℕ) → a < stride → expected c rs (cells (stored work size sums n) 0 stride) b a ≡ expected c rs (cells work 0 stride) b a
@@ -227,10 +238,13 @@ module _ (c : Terms) (rs : Returns) (work : List ℕ) (stride size : ℕ) (size-
       let i = within-rows stride (c .top + 1) x a (omega arith) l in
       ap (λ (y : ℕ). rs .weight k * y) (stored-out work size sums n (0 + (x * stride + a)) (inl (omega arith)))))
 
-  pub expect-step : (b : ℕ)
-      → stored (stored work size (flat stride (expected c rs (cells work 0 stride))) (b * stride)) (size + b * stride) (expected c rs (cells (stored work size (flat stride (expected c rs (cells work 0 stride))) (b * stride)) 0 stride) b) stride
-      ≡ stored work size (flat stride (expected c rs (cells work 0 stride))) ((b + 1) * stride)
+  pub expect-step : (b : ℕ) (work' : List ℕ)
+      → work' ≡ stored work size (flat stride (scaled (expected c rs (cells work 0 stride)))) (b * stride)
+      → stored work' (size + b * stride) (scaled (expected c rs (cells work' 0 stride)) b) stride
+      ≡ stored work size (flat stride (scaled (expected c rs (cells work 0 stride)))) ((b + 1) * stride)
   unfolding sums
-  expect-step b =
-      stored-join work size sums _ (b * stride) stride (λ k l. kept (b * stride) b k l ∙ sym (flat-at stride (expected c rs (cells work 0 stride)) b k l))
+  expect-step b work' e =
+      ap (λ (xs : List ℕ). stored xs (size + b * stride) (scaled (expected c rs (cells xs 0 stride)) b) stride) e
+      ∙ stored-join work size sums _ (b * stride) stride (λ k l.
+      ap (λ (x : ℕ). 8192 * x) (kept (b * stride) b k l) ∙ sym (flat-at stride (scaled (expected c rs (cells work 0 stride))) b k l))
       ∙ ap (stored work size sums) (rows-step stride b)

@@ -20,6 +20,10 @@ reachedSum c rs v balance a = sum (λ k. rs .weight k * v (nextAccount (c .fee) 
 unfoldable pub expected : Terms → Returns → (ℕ → ℕ → ℕ) → ℕ → ℕ → ℕ
 expected c rs v balance a = discounted (c .discount) (reachedSum c rs v balance a)
 
+-- a sum as the second layer holds it: times 8,192, so that it can be added to a key, which holds an amount below 8,192 beside a value
+abbrev pub scaled : (ℕ → ℕ → ℕ) → ℕ → ℕ → ℕ
+scaled e balance a = 8192 * e balance a
+
 -- ---- what the loops hand to each other
 -- weight × value in the row that starts at the k-th start
 abbrev pub term : List ℕ → List ℕ → List ℕ → ℕ → ℕ → ℕ
@@ -44,7 +48,7 @@ pub record Run (work starts weights : List ℕ) (count most from n : ℕ) : Type
 
 -- .. and their sums over the first k returns
 pub record Summed (work starts weights sums : List ℕ) (from n k : ℕ) : Type 0 where
-  pub long : n ≤ length sums
+  pub long : 256 ≤ length sums
   pub each : (j : ℕ) → j < n → getD sums j 0 ≡ sum (term work starts weights (from + j)) k
 
 -- a row to be filled at `to`, from rows that lie before it

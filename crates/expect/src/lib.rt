@@ -1,4 +1,5 @@
 // The discounted sum of every balance and guarantee: a layer filled from the layer of the next date's values.
+ghost use mathlib.Core.Bool.{true};
 ghost use mathlib.Core.Path.{_≡_};
 ghost use Prim.Native.Nat.{ℕ, _+_, _*_, _≤_, _<_};
 ghost use lib.ListN.{length, getD};
@@ -11,7 +12,8 @@ ghost use Rattle.rules.specs.Date.{nextAccount, discounted};
 ghost use Rattle.rules.specs.FixedTerm.{layerSize};
 ghost use Rattle.laws.specs.Accepted.{Valid};
 ghost use Rattle.contract.specs.Reading.{termsIn};
-ghost use Rattle.expect.specs.Expected.{term, productMost, Largest, Reached, Run, Summed, Row, Listing, Values, Within, Balance, expected};
+ghost use Rattle.expect.specs.Expected.{term, productMost, Largest, Reached, Run, Summed, Row, Listing, Values, Within, Balance};
+ghost use Rattle.expect.specs.Expected.{expected, scaled};
 use contract::Contract;
 
 // How many returns are averaged, by what they are discounted, and what no value reached passes.
@@ -59,6 +61,18 @@ fn low_four(work: &[u64], starts: &[usize; 64], weights: &[u32; 64], k: usize, a
     let third = low_product(work, starts, weights, k + 2, a);
     let fourth = low_product(work, starts, weights, k + 3, a);
     first + second + third + fourth
+}
+
+// .. and of eight.
+fn low_eight(work: &[u64], starts: &[usize; 64], weights: &[u32; 64], k: usize, a: usize) -> usize
+    requires { ⌜ (k + 8 ≤ returnsMost) × ((i : ℕ) → i < k + 8 → Reached (now work) (now starts) (now weights) 4294967295 a i) ⌝ }
+    ensures { λ r. ⌜
+        (sum (term (now (work .entry)) (now (starts .entry)) (now (weights .entry)) a) (k + 8)
+        ≡ sum (term (now (work .entry)) (now (starts .entry)) (now (weights .entry)) a) k + r)
+        × (r ≤ 8 * productMost)
+        ⌝ }
+{
+    low_four(work, starts, weights, k, a) + low_four(work, starts, weights, k + 4, a)
 }
 
 // The sum over the returns for guarantee a.
@@ -117,11 +131,53 @@ fn add_eight(
     ensures { λ _. ⌜ Summed (now (work .entry)) (now (starts .entry)) (now (weights .entry)) (now (sums .exit)) from n (k + 8) ⌝ }
 {
     for j in 0..n {
-        let a = from + j;
-        let first = low_four(work, starts, weights, k, a);
-        let second = low_four(work, starts, weights, k + 4, a);
-        sums[j] += first + second;
+        sums[j] += low_eight(work, starts, weights, k, from + j);
     }
+}
+
+// The first eight: their sums are stored, whatever stood there, so that no zeros need be written and read before.
+fn set_eight(
+    sums: &mut [usize; 256],
+    work: &[u64],
+    starts: &[usize; 64],
+    weights: &[u32; 64],
+    from: usize,
+    n: usize,
+)
+    requires { ⌜ Run (now work) (now starts) (now weights) 8 4294967295 from n × (256 ≤ length (now sums)) ⌝ }
+    ensures { λ _. ⌜ Summed (now (work .entry)) (now (starts .entry)) (now (weights .entry)) (now (sums .exit)) from n 8 ⌝ }
+{
+    for j in 0..n {
+        sums[j] = low_eight(work, starts, weights, 0, from + j);
+    }
+}
+
+// The sums of the first eight returns, or of none where there are fewer or a value has more than 32 bits. Gives the number of the
+// return after them.
+fn set_first(
+    sums: &mut [usize; 256],
+    work: &[u64],
+    starts: &[usize; 64],
+    weights: &[u32; 64],
+    average: Average,
+    from: usize,
+    n: usize,
+) -> usize
+    requires { ⌜
+        Run (now work) (now starts) (now weights) (average .count) (average .most) from n
+        × (256 ≤ length (now sums))
+        ⌝ }
+    ensures { λ r. ⌜
+        Summed (now (work .entry)) (now (starts .entry)) (now (weights .entry)) (now (sums .exit)) from n r
+        × (r ≤ average .count)
+        ⌝ }
+{
+    if 8 <= average.count && average.most < 4294967296 {
+        set_eight(sums, work, starts, weights, from, n);
+        return 8;
+    }
+    *sums = [0usize; 256];
+    0
 }
 
 // The next eight returns, or one where fewer are left or a value has more than 32 bits. Gives the number of the return after them.
@@ -154,7 +210,7 @@ fn add_next(
     k + 1
 }
 
-// The sums of n guarantees, from `from` on.
+// The sums of n guarantees, from `from` on, whatever stood in `sums`.
 fn add_all(
     sums: &mut [usize; 256],
     work: &[u64],
@@ -166,59 +222,116 @@ fn add_all(
 )
     requires { ⌜
         Run (now work) (now starts) (now weights) (average .count) (average .most) from n
-        × Summed (now work) (now starts) (now weights) (now sums) from n 0
+        × (256 ≤ length (now sums))
         ⌝ }
     ensures { λ _. ⌜ Summed (now (work .entry)) (now (starts .entry)) (now (weights .entry)) (now (sums .exit)) from n (average .count) ⌝ }
 {
-    let mut k: usize = 0;
+    let mut k = set_first(sums, work, starts, weights, average, from, n);
     while k < average.count {
         k = add_next(sums, work, starts, weights, average, k, from, n);
     }
 }
 
-fn store_sums(work: &mut [u64], sums: &[usize; 256], discount: usize, to: usize, n: usize)
-    requires { ⌜ (discount ≤ discountMost) × (n ≤ 256) × (to + n ≤ length (now work)) × ((j : ℕ) → j < n → getD (now sums) j 0 ≤ weightTotal * entryMost) ⌝ }
-    ensures { λ _. ⌜ now (work .exit) ≡ stored (now (work .entry)) to (λ (j : ℕ). discounted discount (getD (now (sums .entry)) j 0)) n ⌝ }
+// A sum, discounted and times 8,192. In a loop `low` is the same for all, so that the loop has no branch.
+fn scaled_sum(low: bool, discount: usize, sum: usize) -> u64
+    requires { ⌜
+        (discount ≤ discountMost)
+        × (sum ≤ weightTotal * entryMost)
+        × (low ≡ true → sum ≤ 18000000000000)
+        ⌝ }
+    ensures { λ r. ⌜ r ≡ 8192 * discounted discount sum ⌝ }
 {
+    if low {
+        return 8192 * (discount * sum / 10000000000) as u64;
+    }
+    8192 * date::discounted(discount, sum) as u64
+}
+
+// The sums, discounted and times 8,192.
+fn store_sums(work: &mut [u64], sums: &[usize; 256], average: Average, to: usize, n: usize)
+    requires { ⌜
+        (average .discount ≤ discountMost)
+        × (n ≤ 256)
+        × (to + n ≤ length (now work))
+        × (average .most ≤ entryMost)
+        × ((j : ℕ) → j < n → getD (now sums) j 0 ≤ weightTotal * average .most)
+        ⌝ }
+    ensures { λ _. ⌜
+        now (work .exit)
+        ≡ stored (now (work .entry)) to (λ (j : ℕ). 8192 * discounted (average .discount) (getD (now (sums .entry)) j 0)) n
+        ⌝ }
+{
+    let low = average.most <= 1800000000;
     for j in 0..n {
-        work[to + j] = date::discounted(discount, sums[j]) as u64;
+        work[to + j] = scaled_sum(low, average.discount, sums[j]);
     }
 }
 
-// The discounted sums of n guarantees, from `from` on, in the row at `to`.
-fn expect_run(
-    work: &mut [u64],
-    starts: &[usize; 64],
-    weights: &[u32; 64],
-    average: Average,
+// n guarantees of the row at `to`, from `from` on.
+struct Part {
     to: usize,
     from: usize,
     n: usize,
-)
-    requires { ⌜ Row (now work) (now starts) (now weights) (average .count) (average .discount) (average .most) to (from + n) × (n ≤ 256) ⌝ }
-    ensures { λ _. ⌜ now (work .exit) ≡ stored (now (work .entry)) (to + from) (λ (j : ℕ). discounted (average .discount) (sum (term (now (work .entry)) (now (starts .entry)) (now (weights .entry)) (from + j)) (average .count))) n ⌝ }
-{
-    let mut sums = [0usize; 256];
-    add_all(&mut sums, &work[..], starts, weights, average, from, n);
-    store_sums(work, &sums, average.discount, to + from, n);
 }
 
-// The row at `to`: the discounted sum of each guarantee, 256 at a time.
+// The discounted sums of a part of a row, times 8,192. What stood in `sums` does not matter.
+fn expect_run(
+    work: &mut [u64],
+    sums: &mut [usize; 256],
+    starts: &[usize; 64],
+    weights: &[u32; 64],
+    average: Average,
+    p: Part,
+)
+    requires { ⌜
+        Row (now work) (now starts) (now weights) (average .count) (average .discount) (average .most) (p .to) (p .from + p .n)
+        × (p .n ≤ 256)
+        × (256 ≤ length (now sums))
+        ⌝ }
+    ensures { λ _. ⌜
+        (now (work .exit)
+        ≡ stored (now (work .entry)) (p .to + p .from)
+        (λ (j : ℕ).
+        8192
+        * discounted (average .discount)
+        (sum (term (now (work .entry)) (now (starts .entry)) (now (weights .entry)) (p .from + j)) (average .count)))
+        (p .n))
+        × (256 ≤ length (now (sums .exit)))
+        ⌝ }
+{
+    add_all(sums, &work[..], starts, weights, average, p.from, p.n);
+    store_sums(work, sums, average, p.to + p.from, p.n);
+}
+
+// The row at `to`: the discounted sum of each guarantee, times 8,192, 256 at a time.
 fn expect_row(
     work: &mut [u64],
+    sums: &mut [usize; 256],
     starts: &[usize; 64],
     weights: &[u32; 64],
     average: Average,
     to: usize,
     stride: usize,
 )
-    requires { ⌜ Row (now work) (now starts) (now weights) (average .count) (average .discount) (average .most) to stride ⌝ }
-    ensures { λ _. ⌜ now (work .exit) ≡ stored (now (work .entry)) to (λ (a : ℕ). discounted (average .discount) (sum (term (now (work .entry)) (now (starts .entry)) (now (weights .entry)) a) (average .count))) stride ⌝ }
+    requires { ⌜
+        Row (now work) (now starts) (now weights) (average .count) (average .discount) (average .most) to stride
+        × (256 ≤ length (now sums))
+        ⌝ }
+    ensures { λ _. ⌜
+        (now (work .exit)
+        ≡ stored (now (work .entry)) to
+        (λ (a : ℕ).
+        8192
+        * discounted (average .discount)
+        (sum (term (now (work .entry)) (now (starts .entry)) (now (weights .entry)) a) (average .count)))
+        stride)
+        × (256 ≤ length (now (sums .exit)))
+        ⌝ }
 {
     let mut from: usize = 0;
     while from < stride {
         let n = date::smaller(256, stride - from);
-        expect_run(work, starts, weights, average, to, from, n);
+        expect_run(work, sums, starts, weights, average, Part { to, from, n });
         from += n;
     }
 }
@@ -253,21 +366,33 @@ fn fill_starts(
 // The row of one balance in the second layer.
 fn expect_balance(
     work: &mut [u64],
+    sums: &mut [usize; 256],
     list: &[u8],
     weights: &[u32; 64],
     average: Average,
     c: Contract,
     balance: usize,
-    stride: usize,
-    size: usize,
 )
-    requires { ⌜ Balance (termsIn c) (now work) (now list) (now weights) (average .count) (average .discount) (average .most) balance stride size ⌝ }
-    ensures { λ _. ⌜ now (work .exit) ≡ stored (now (work .entry)) (size + balance * stride) (expected (termsIn c) (returnsOf (now (list .entry))) (cells (now (work .entry)) 0 stride) balance) stride ⌝ }
+    requires { ⌜
+        Balance (termsIn c) (now work) (now list) (now weights) (average .count) (average .discount) (average .most) balance
+        (c .premium + 1) ((c .top + 1) * (c .premium + 1))
+        × (256 ≤ length (now sums))
+        ⌝ }
+    ensures { λ _. ⌜
+        (now (work .exit)
+        ≡ stored (now (work .entry)) ((c .top + 1) * (c .premium + 1) + balance * (c .premium + 1))
+        (scaled (expected (termsIn c) (returnsOf (now (list .entry))) (cells (now (work .entry)) 0 (c .premium + 1))) balance)
+        (c .premium + 1))
+        × (256 ≤ length (now (sums .exit)))
+        ⌝ }
 {
+    let stride = c.premium + 1;
+    let size = (c.top + 1) * stride;
     let mut starts = [0usize; 64];
     fill_starts(&mut starts, list, average.count, c, balance, stride);
     expect_row(
         work,
+        sums,
         &starts,
         weights,
         average,
@@ -301,10 +426,16 @@ fn most(work: &[u64], size: usize, c: Contract) -> usize
     date::smaller(most, largest(work, size))
 }
 
-// The second layer: the discounted sum of every balance and guarantee, where the first holds the next date's values.
+// The second layer: the discounted sum of every balance and guarantee, times 8,192, where the first holds the next date's values.
 pub fn expect_layer(work: &mut [u64], list: &[u8], count: usize, c: Contract)
     requires { ⌜ Listing (now list) count × Values (termsIn c) (now work) ⌝ }
-    ensures { λ _. ⌜ now (work .exit) ≡ stored (now (work .entry)) (layerSize (termsIn c)) (flat (c .premium + 1) (expected (termsIn c) (returnsOf (now (list .entry))) (cells (now (work .entry)) 0 (c .premium + 1)))) (layerSize (termsIn c)) ⌝ }
+    ensures { λ _. ⌜
+        now (work .exit)
+        ≡ stored (now (work .entry)) (layerSize (termsIn c))
+        (flat (c .premium + 1)
+        (scaled (expected (termsIn c) (returnsOf (now (list .entry))) (cells (now (work .entry)) 0 (c .premium + 1)))))
+        (layerSize (termsIn c))
+        ⌝ }
 {
     let stride = c.premium + 1;
     let size = (c.top + 1) * stride;
@@ -315,9 +446,11 @@ pub fn expect_layer(work: &mut [u64], list: &[u8], count: usize, c: Contract)
         discount: c.discount,
         most: most(&work[..], size, c),
     };
+    // One array for all balances: what a balance leaves there does not matter to the next, and clearing it for each takes time.
+    let mut sums = [0usize; 256];
     let end = c.top + 1;
     for balance in 0..end {
-        expect_balance(work, list, &weights, average, c, balance, stride, size);
+        expect_balance(work, &mut sums, list, &weights, average, c, balance);
     }
 }
 

@@ -1,142 +1,148 @@
--- What the loop over one row reads, while it stores that row. Assumes nothing.
+-- The rows that are filled one after the other, each in two runs. Assumes nothing.
 use mathlib.Core.List.{List}
-use mathlib.Core.Logic.{inl, inr}
-use mathlib.Core.Path.{_≡_, ap, sym, _∙_}
-use Prim.Native.Nat.{ℕ, _+_, _-_, _*_, _≤_, _<_}
-use native.Mathlib.Nat.{mul-le-mul, zero-mul}
+use mathlib.Core.Path.{_≡_, refl, ap, ap₂, sym, _∙_}
+use Prim.Native.Nat.{ℕ, _+_, _-_, _*_, _^_, _≤_, _<_, max}
+use native.Mathlib.Nat.{zero-mul, mul-le-mul, le-trans}
 use native.Mathlib.Omega.{arith}
-use lib.ListN.{getD, length}
-use Rattle.slices.specs.Stored.{stored, stored-out, length-stored}
-use Rattle.laws.specs.Bounds.{entryMost}
-use Rattle.slices.specs.Rows.{cells, flat, cells-kept, layer-stored, row-next, rows-le, rows-step, rows-before}
-use Rattle.further.specs.Further.{furtherValue, furtherAmount, Room, Below, amount-small, value-small}
+use lib.ListN.{length, getD}
+use Rattle.slices.specs.Stored.{stored, length-stored, stored-join}
+use Rattle.slices.specs.Rows.{cells, flat, cells-kept, layer-stored, row-next, rows-le, rows-before}
+use Rattle.keys.specs.declared.Date.{Date}
+use Rattle.keys.specs.Sums.{Sums, sumMost, sum-small, sum-in, row-in, sums-less, sums-kept}
+use Rattle.worth.specs.Further.{furtherKey, further-step, further-small, Furthered}
+use Rattle.further.proofs.Run.{Run, run-out, run-before}
 
-module _ {work table : List ℕ} {base stride b k : ℕ} (r : Room work table base stride (b + 1)) (x : Below work table base stride b k) where
-  -- the places of a row, of the row below it and of the second layer
-  record Places (long entries a : ℕ) : Type 0 where
-    stay : base + (b * stride + a) < long
-    write : b * stride + a < long
-    entry : b * stride + a < entries
-    below : b * stride - stride + (a - 1) < b * stride
-    start : stride ≤ b * stride
-    apart : b * stride + stride ≤ base
+-- ---- a row, in two runs
+abbrev pub sumOf : List ℕ → Date → ℕ → ℕ → ℕ
+sumOf work d = cells work (d .base) (d .stride)
 
-  places : (a : ℕ) → a < stride → Places (length work) (length table) a
-  places a l =
-      let s = rows-step stride b in
-      let p = rows-before stride b (x .some) in
-      record {
-        stay = omega (arith, r .room, r .apart);
-        write = omega (arith, r .room, r .apart);
-        entry = omega (arith, r .entries);
-        below = omega arith;
-        start = omega arith;
-        apart = omega (arith, r .apart);
-      }
+abbrev pub best : List ℕ → Date → ℕ → ℕ → ℕ → ℕ
+best work d = furtherKey (sumOf work d)
 
-  -- .. while the row is stored
-  pub row-places : {work' table' : List ℕ} {a : ℕ} (f g : ℕ → ℕ) (n : ℕ) → work' ≡ stored work (b * stride) f n → table' ≡ stored table (b * stride) g n → a < stride
-      → (base + (b * stride + a) < length work') × (b * stride + a < length work') × (b * stride + a < length table') × (b * stride - stride + (a - 1) < b * stride) × (stride ≤ b * stride) × (b * stride + stride ≤ base)
-  row-places {a = a} f g n e d l =
-      let long = ap length e ∙ length-stored work (b * stride) f n in
-      let entries = ap length d ∙ length-stored table (b * stride) g n in
-      let p = places a l in
-      (omega (arith, p .stay), omega (arith, p .write), omega (arith, p .entry), p .below, p .start, p .apart)
+-- entries n to n + m - 1: where they stand, what stays, and the entries below that they come from
+pub record Part (d : Date) (b n m to stay from : ℕ) : Type 0 where
+  pub fits : n + m ≤ d .stride
+  pub to-is : to ≡ b * d .stride + n
+  pub stay-is : stay ≡ d .base + (b * d .stride + n)
+  pub from-is : from + d .stride ≡ b * d .stride + (n - 1)
+  pub on : (i : ℕ) → i < m → n - 1 + i ≡ n + i - 1
 
-  pub read-stay : (f : ℕ → ℕ) (n a : ℕ) → n ≤ stride → getD (stored work (b * stride) f n) (base + (b * stride + a)) 0 ≡ cells work base stride b a
-  read-stay f n a l = let s = rows-step stride b in stored-out work (b * stride) f n (base + (b * stride + a)) (inr (omega (arith, r .apart)))
+module _ {work : List ℕ} {d : Date} (b : ℕ) (s : Sums work d (b + 1)) (h : 1 ≤ b) where
+  pub row-below : d .stride ≤ b * d .stride
+  row-below = let p = rows-before (d .stride) b h in omega arith
 
-  below-place : (a : ℕ) → b * stride - stride + (a - 1) ≡ 0 + ((b - 1) * stride + (a - 1))
-  below-place a = let p = rows-before stride b (x .some) in omega arith
-
-  pub read-below : (f : ℕ → ℕ) (n a : ℕ) → a < stride
-      → getD (stored work (b * stride) f n) (b * stride - stride + (a - 1)) 0 ≡ furtherValue (cells work base stride) k (b - 1) (a - 1)
-  read-below f n a l =
-      stored-out work (b * stride) f n _ (inl (places a l .below))
-      ∙ ap (λ (j : ℕ). getD work j 0) (below-place a)
-      ∙ x .values (a - 1) (omega arith)
-
-  pub read-amount : (f : ℕ → ℕ) (n a : ℕ) → a < stride
-      → getD (stored table (b * stride) f n) (b * stride - stride + (a - 1)) 0 ≡ furtherAmount (cells work base stride) k (b - 1) (a - 1)
-  read-amount f n a l =
-      stored-out table (b * stride) f n _ (inl (places a l .below))
-      ∙ ap (λ (j : ℕ). getD table j 0) (below-place a)
-      ∙ x .amounts (a - 1) (omega arith)
-
-  pub below-small : (a : ℕ) → a < stride → k ≤ 10000 → furtherValue (cells work base stride) k (b - 1) (a - 1) ≤ entryMost + 40000000
-  below-small a l h =
-      let v = value-small (cells work base stride) k (b - 1) (a - 1) entryMost (λ y z m n. r .small y z (omega (arith, x .some)) (omega arith)) in
-      let few : b - 1 ≤ 4000 = omega (arith, r .few) in
-      let p = mul-le-mul h few in
-      omega arith
-
-  pub below-few : (a : ℕ) → furtherAmount (cells work base stride) k (b - 1) (a - 1) ≤ 4000
-  below-few a = let s = amount-small (cells work base stride) k (b - 1) (a - 1) in omega (arith, r .few)
-
--- ---- row after row
-abbrev pub valuesOf : List ℕ → ℕ → ℕ → ℕ → ℕ → ℕ
-valuesOf work base stride k = flat stride (furtherValue (cells work base stride) k)
-
-abbrev pub amountsOf : List ℕ → ℕ → ℕ → ℕ → ℕ → ℕ
-amountsOf work base stride k = flat stride (furtherAmount (cells work base stride) k)
-
--- fewer rows
-pub room-less : {work table : List ℕ} {base stride n : ℕ} (m : ℕ) → m ≤ n → Room work table base stride n → Room work table base stride m
-room-less {work} {table} {base} {stride} {n} m h r =
-    let l = rows-le stride m n h in
-    record {
-      few = omega (arith, r .few);
-      apart = omega (arith, r .apart);
-      room = omega (arith, r .room);
-      entries = omega (arith, r .entries);
-      small = λ x y p q. r .small x y (omega arith) q;
-    }
-
-module _ {work table : List ℕ} {base stride n : ℕ} (r : Room work table base stride n) (k b : ℕ) (h : b ≤ n) where
-  -- the second layer stays as it is while the first is filled
-  kept : cells (stored work 0 (valuesOf work base stride k) (b * stride)) base stride ≡ cells work base stride
-  kept = let l = rows-le stride b n h in cells-kept work 0 (b * stride) base stride (valuesOf work base stride k) (omega (arith, r .apart))
-
-  pub room-on : Room (stored work 0 (valuesOf work base stride k) (b * stride)) (stored table 0 (amountsOf work base stride k) (b * stride)) base stride n
-  room-on = record {
-    few = r .few;
-    apart = r .apart;
-    room = rw (length-stored work 0 (valuesOf work base stride k) (b * stride)) (r .room);
-    entries = rw (length-stored table 0 (amountsOf work base stride k) (b * stride)) (r .entries);
-    small = λ x y p q. rw (ap (λ (f : ℕ → ℕ → ℕ). f x y) kept) (r .small x y p q);
+  pub first-part : Part d b 0 1 (b * d .stride) (d .base + b * d .stride) (b * d .stride - d .stride)
+  first-part = let p = row-below in record {
+    fits = omega (arith, s .level-is);
+    to-is = omega arith;
+    stay-is = omega arith;
+    from-is = omega arith;
+    on = λ i l. omega arith;
   }
 
-  pub below-on : 1 ≤ b → Below (stored work 0 (valuesOf work base stride k) (b * stride)) (stored table 0 (amountsOf work base stride k) (b * stride)) base stride b k
-  below-on some =
-      let l = rows-le stride b n h in
-      let w : 0 + b * stride ≤ length work = omega (arith, r .room, r .apart) in
-      let t : 0 + b * stride ≤ length table = omega (arith, r .entries) in
-      let p : b - 1 < b = omega arith in
-      record {
-        some = some;
-        values = λ a q.
-            layer-stored work 0 stride b (furtherValue (cells work base stride) k) w .cell (b - 1) a p q
-            ∙ ap (λ (f : ℕ → ℕ → ℕ). furtherValue f k (b - 1) a) (sym kept);
-        amounts = λ a q.
-            layer-stored table 0 stride b (furtherAmount (cells work base stride) k) t .cell (b - 1) a p q
-            ∙ ap (λ (f : ℕ → ℕ → ℕ). furtherAmount f k (b - 1) a) (sym kept);
-      }
+  pub rest-part : Part d b 1 (d .stride - 1) (b * d .stride + 1) (d .base + b * d .stride + 1) (b * d .stride - d .stride)
+  rest-part = let p = row-below in record {
+    fits = omega (arith, s .level-is);
+    to-is = refl;
+    stay-is = omega arith;
+    from-is = omega arith;
+    on = λ i l. omega arith;
+  }
 
-  pub values-next : stored (stored work 0 (valuesOf work base stride k) (b * stride)) (b * stride) (furtherValue (cells (stored work 0 (valuesOf work base stride k) (b * stride)) base stride) k b) stride
-      ≡ stored work 0 (valuesOf work base stride k) ((b + 1) * stride)
-  values-next = row-next work stride b (furtherValue (cells work base stride) k) _ (λ a q. ap (λ (f : ℕ → ℕ → ℕ). furtherValue f k b a) kept)
+module _ {work work' : List ℕ} {d : Date} {b n m step to stay from : ℕ} (s : Sums work d (b + 1)) (x : Furthered work d b) (h : 1 ≤ b)
+    (k : step ≡ 8192 * (10000 - d .rate)) (p : Part d b n m to stay from)
+    (e : work' ≡ stored work (b * d .stride) (best work d step b) n)
+  where
+    r : Run work work' (b * d .stride) (best work d step b) n
+    r = record { long = ap length e ∙ length-stored work _ _ n; is = e }
 
-  pub amounts-next : stored (stored table 0 (amountsOf work base stride k) (b * stride)) (b * stride) (furtherAmount (cells (stored work 0 (valuesOf work base stride k) (b * stride)) base stride) k b) stride
-      ≡ stored table 0 (amountsOf work base stride k) ((b + 1) * stride)
-  amounts-next = row-next table stride b (furtherAmount (cells work base stride) k) _ (λ a q. ap (λ (f : ℕ → ℕ → ℕ). furtherAmount f k b a) kept)
+    read-stay : (i : ℕ) → i < m → getD work' (stay + i) 0 ≡ sumOf work d b (n + i)
+    read-stay i l =
+        let o = row-in s b 0 n (omega arith) (omega arith) in
+        let j : stay + i ≡ d .base + (b * d .stride + (n + i)) = omega arith in
+        run-out r (stay + i) (omega arith) ∙ ap (λ (z : ℕ). getD work z 0) j
 
--- the first row
-pub first-values : (work : List ℕ) (base stride k b : ℕ) → b ≡ 0
-    → stored work 0 (cells work base stride 0) stride ≡ stored work (b * stride) (furtherValue (cells work base stride) k b) stride
-unfolding furtherValue
-first-values work base stride k b e = rw (e, zero-mul stride)
+    read-from : (i : ℕ) → i < m → getD work' (from + i) 0 ≡ best work d step (b - 1) (n + i - 1)
+    read-from i l =
+        let o = rows-before (d .stride) b h in
+        let q = p .on i l in
+        let j : from + i ≡ 0 + ((b - 1) * d .stride + (n + i - 1)) = omega arith in
+        run-before r (from + i) (omega arith)
+        ∙ ap (λ (z : ℕ). getD work z 0) j
+        ∙ x .each (b - 1) (n + i - 1) (omega arith) (omega arith)
+        ∙ ap (λ (z : ℕ). best work d z (b - 1) (n + i - 1)) (sym k)
 
-pub first-amounts : (work table : List ℕ) (base stride k b : ℕ) → b ≡ 0
-    → stored table 0 (λ a. 0) stride ≡ stored table (b * stride) (furtherAmount (cells work base stride) k b) stride
-unfolding furtherAmount
-first-amounts work table base stride k b e = rw (e, zero-mul stride)
+    below-small : (i : ℕ) → i < m → best work d step (b - 1) (n + i - 1) + step < 2 ^ 63
+    below-small i l =
+        let v =
+        further-small (sumOf work d) step (b - 1) (n + i - 1) sumMost (λ y z u v. sum-small s y z (omega arith) (omega arith)) in
+        let few : b - 1 ≤ 4000 = omega (arith, s .few) in
+        let most : step + 1 ≤ 81920001 = omega arith in
+        let t = mul-le-mul most few in
+        omega arith
+
+    pub run-room : (to + m ≤ stay) × (stay + m ≤ length work') × (from + m ≤ to)
+        × ((i : ℕ) → i < m → getD work' (stay + i) 0 + b < 2 ^ 63) × ((i : ℕ) → i < m → getD work' (from + i) 0 + step < 2 ^ 63)
+    run-room =
+        let o = row-in s b n m (omega arith) (p .fits) in
+        let q = sum-in s b n m (omega arith) (p .fits) in
+        let before = rows-before (d .stride) b h in (
+          omega arith,
+          omega (arith, r .long),
+          omega arith,
+          λ i l. let small = sum-small s b (n + i) (omega arith) (omega arith) in omega (arith, read-stay i l, s .few),
+          λ i l. rw (read-from i l) (below-small i l),
+        )
+
+    abbrev pub better : ℕ → ℕ
+    better i = max (getD work' (stay + i) 0 + b) (getD work' (from + i) 0 + step)
+
+    pub run-joins : {work'' : List ℕ} → work'' ≡ stored work' to better m
+        → work'' ≡ stored work (b * d .stride) (best work d step b) (n + m)
+    run-joins g =
+        g
+        ∙ ap₂ (λ (xs : List ℕ) (j : ℕ). stored xs j better m) e (p .to-is)
+        ∙ stored-join work (b * d .stride) (best work d step b) _ n m
+        (λ i l.
+        ap₂ (λ (y z : ℕ). max (y + b) (z + step)) (read-stay i l) (read-from i l)
+        ∙ sym (further-step (sumOf work d) step b (n + i) h))
+
+-- ---- the first row
+pub first-is : (work : List ℕ) (d : Date) (step b : ℕ) → b ≡ 0
+    → stored work 0 (sumOf work d 0) (d .stride) ≡ stored work (b * d .stride) (best work d step b) (d .stride)
+unfolding furtherKey
+first-is work d step b e = rw (e, zero-mul (d .stride))
+
+-- ---- row after row
+abbrev pub stepOf : Date → ℕ
+stepOf d = 8192 * (10000 - d .rate)
+
+abbrev pub rows : List ℕ → Date → ℕ → ℕ
+rows work d = flat (d .stride) (best work d (stepOf d))
+
+module _ {work work' : List ℕ} {d : Date} {n : ℕ} (b : ℕ) (s : Sums work d n) (h : b < n)
+    (e : work' ≡ stored work 0 (rows work d) (b * d .stride))
+  where
+    apart : 0 + b * d .stride ≤ d .base
+    apart = let l = rows-le (d .stride) b n (omega arith) in omega (arith, s .apart)
+
+    kept : sumOf work' d ≡ sumOf work d
+    kept = ap (λ (xs : List ℕ). sumOf xs d) e ∙ cells-kept work 0 (b * d .stride) (d .base) (d .stride) (rows work d) apart
+
+    pub layer-sums : Sums work' d (b + 1)
+    layer-sums = rw e (sums-less (sums-kept s 0 (b * d .stride) (rows work d) apart) (b + 1) (omega arith))
+
+    pub layer-below : Furthered work' d b
+    layer-below = record {
+      each = λ x a i l.
+          ap (λ (xs : List ℕ). cells xs 0 (d .stride) x a) e
+          ∙ layer-stored work 0 (d .stride) b (best work d (stepOf d)) (le-trans apart (omega (arith, s .room))) .cell x a i l
+          ∙ ap (λ (f : ℕ → ℕ → ℕ). furtherKey f (stepOf d) x a) (sym kept);
+    }
+
+    pub layer-next : {work'' : List ℕ} → work'' ≡ stored work' (b * d .stride) (best work' d (stepOf d) b) (d .stride)
+        → work'' ≡ stored work 0 (rows work d) ((b + 1) * d .stride)
+    layer-next g =
+        g
+        ∙ ap (λ (xs : List ℕ). stored xs (b * d .stride) (best work' d (stepOf d) b) (d .stride)) e
+        ∙ row-next work (d .stride) b (best work d (stepOf d)) _ (λ a l. ap (λ (f : ℕ → ℕ → ℕ). furtherKey f (stepOf d) b a) kept)

@@ -16,6 +16,7 @@ use Rattle.contract.specs.Accepted.{Agreed}
 use Rattle.contract.specs.Reading.{termsIn}
 use Rattle.valuing.specs.declared.Answer.{Answer}
 use Rattle.valuing.specs.Answered.{Answered, Reported, reported, reported-refused}
+use Rattle.valuing.specs.First.{lent}
 use Rattle.mapping.specs.declared.Mapped as declared
 use Rattle.mapping.specs.Mapped.{mapRefusal, Mapping}
 
@@ -62,7 +63,7 @@ module _ (bytes list : List ℕ) (behaviour : ℕ) (work table map : List ℕ) w
     filled s a e f =
         let t = ap (λ (x : Terms). short (mapSize x) map) (sym (told .terms)) ∙ s in
         let yes-to = mapping-same bytes list behaviour work table map t ∙ told .accepts in
-        let w = reported yes-to (told .terms) a in
+        let w = reported yes-to (told .terms) (lent bytes list behaviour work table told .room-table) a in
         whole w
         (e ∙ ap₂ surrenderCount (told .terms) (w .table-is) ∙ sym (success-reports _ _ yes-to))
         (f

@@ -1,6 +1,4 @@
 -- Facts about slices, whatever the width of their numbers.
 pub mod Stored
 pub mod Rows
-pub mod Decided
 pub mod Parts
-pub mod Offered

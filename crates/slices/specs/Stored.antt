@@ -26,6 +26,11 @@ pub stored-next : (l : List ℕ) (at : ℕ) (f : ℕ → ℕ) (n : ℕ) → set 
 unfolding stored
 stored-next l at f n = rw add-one
 
+-- .. as a loop stores it
+pub stored-more : {l' : List ℕ} {v : ℕ} (l : List ℕ) (at : ℕ) (f : ℕ → ℕ) (n : ℕ) → l' ≡ stored l at f n → v ≡ f n
+    → set l' (at + n) v ≡ stored l at f (n + 1)
+stored-more l at f n e p = (λ i. set (e i) (at + n) (p i)) ∙ stored-next l at f n
+
 -- an entry of the run, and one outside it
 pub stored-in : (l : List ℕ) (at : ℕ) (f : ℕ → ℕ) (n k : ℕ) → at + n ≤ length l → k < n → getD (stored l at f n) (at + k) 0 ≡ f k
 unfolding stored

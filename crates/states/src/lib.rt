@@ -1,144 +1,208 @@
-// The states of a date: each one's value over the first layer, its recorded amount over the date's layer of the table.
-ghost use mathlib.Core.Bool.{true};
+// The states of a date: each one's value over the first layer, its recorded amount over the date's layer of the table, as far as
+// one is lent.
 ghost use mathlib.Core.Path.{_≡_};
-ghost use Prim.Native.Nat.{ℕ, _+_, _*_, _≤_, _<_};
+ghost use Prim.Native.Nat.{ℕ, _+_, _-_, _*_, _/_, _%_, _^_, _≤_, _<_};
 ghost use lib.ListN.{length, getD};
 ghost use Rattle.slices.specs.Stored.{stored};
-ghost use Rattle.slices.specs.Rows.{cells, flat};
-ghost use Rattle.rules.specs.Date.{dynamic};
+ghost use Rattle.rules.specs.Date.{static};
 ghost use Rattle.rules.specs.Operations.{behaviourOf};
-ghost use Rattle.worth.specs.Worth.{bestValue, bestAmount};
-ghost use Rattle.choose.specs.State.{Rising};
-ghost use Rattle.states.specs.Row.{Deciding, Row};
+ghost use Rattle.keys.specs.Sums.{Sums, Span, sums};
+ghost use Rattle.worth.specs.Worth.{Keys};
+ghost use Rattle.states.specs.Decided.{Ready, Deciding, Prepared, Decided};
+use keys::Block;
+use keys::Date;
 
-// A block of n states, to the entries from `at` on.
-fn store(
-    work: &mut [u64],
-    table: &mut [u16],
-    values: &[u64; 64],
-    amounts: &[u64; 64],
-    at: usize,
-    n: usize,
-)
-    requires { ⌜ (n ≤ 64) × (at + n ≤ length (now work)) × (at + n ≤ length (now table)) × ((j : ℕ) → j < n → getD (now amounts) j 0 ≤ 4000) ⌝ }
-    ensures { λ _. ⌜ (now (work .exit) ≡ stored (now (work .entry)) at (λ (j : ℕ). getD (now (values .entry)) j 0) n) × (now (table .exit) ≡ stored (now (table .entry)) at (λ (j : ℕ). getD (now (amounts .entry)) j 0) n) ⌝ }
+// The amounts of n keys, to the entries from `at` on.
+fn take_amounts(best: &[u64; 256], table: &mut [u16], at: usize, n: usize)
+    requires { ⌜ (n ≤ 256) × (at + n ≤ length (now table)) ⌝ }
+    ensures { λ _. ⌜
+        now (table .exit) ≡ stored (now (table .entry)) at (λ (j : ℕ). 8191 - getD (now (best .entry)) j 0 % 8192) n
+        ⌝ }
 {
     for j in 0..n {
-        work[at + j] = values[j];
-        table[at + j] = amounts[j] as u16;
+        table[at + j] = (8191 - best[j] % 8192) as u16;
     }
 }
 
-// The dynamic behaviour, for n guarantees of account w, from `from` on.
-fn dynamic_run(
-    work: &mut [u64],
-    table: &mut [u16],
-    base: usize,
-    stride: usize,
-    w: usize,
-    from: usize,
-    n: usize,
-    level: usize,
-    rate: usize,
-    rising: bool,
-)
-    requires { ⌜ Row 2 (now work) (now table) base stride w level rate rising × (n ≤ 64) × (from + n ≤ stride) ⌝ }
-    ensures { λ _. ⌜ (now (work .exit) ≡ stored (now (work .entry)) (w * stride + from) (λ (j : ℕ). bestValue dynamic (cells (now (work .entry)) base stride) rate level w (from + j)) n) × (now (table .exit) ≡ stored (now (table .entry)) (w * stride + from) (λ (j : ℕ). bestAmount dynamic (cells (now (work .entry)) base stride) rate level w (from + j)) n) ⌝ }
+// .. and their values.
+fn take_values(best: &[u64; 256], work: &mut [u64], at: usize, n: usize)
+    requires { ⌜ (n ≤ 256) × (at + n ≤ length (now work)) ⌝ }
+    ensures { λ _. ⌜ now (work .exit) ≡ stored (now (work .entry)) at (λ (j : ℕ). getD (now (best .entry)) j 0 / 8192) n ⌝ }
 {
-    let mut values = [0u64; 64];
-    let mut amounts = [0u64; 64];
-    choose::dynamic_block(
-        &mut values,
-        &mut amounts,
-        &work[..],
-        &table[..],
-        base,
-        stride,
-        w,
-        from,
-        n,
-        level,
-        rate,
-        rising,
-    );
-    store(work, table, &values, &amounts, w * stride + from, n);
+    for j in 0..n {
+        work[at + j] = best[j] / 8192;
+    }
 }
 
-// .. for all of them, 64 at a time.
-fn dynamic_row(
-    work: &mut [u64],
-    table: &mut [u16],
-    base: usize,
-    stride: usize,
-    w: usize,
-    level: usize,
-    rate: usize,
+// The keys of a block, whatever was there.
+fn decide_keys(
+    behaviour: usize,
+    best: &mut [u64; 256],
+    work: &[u64],
+    d: Date,
+    s: Block,
     rising: bool,
 )
-    requires { ⌜ Row 2 (now work) (now table) base stride w level rate rising ⌝ }
-    ensures { λ _. ⌜ (now (work .exit) ≡ stored (now (work .entry)) (w * stride) (bestValue dynamic (cells (now (work .entry)) base stride) rate level w) stride) × (now (table .exit) ≡ stored (now (table .entry)) (w * stride) (bestAmount dynamic (cells (now (work .entry)) base stride) rate level w) stride) ⌝ }
+    requires { ⌜ Deciding behaviour (now work) d s rising × (256 ≤ length (now best)) ⌝ }
+    ensures { λ _. ⌜ Keys (behaviourOf behaviour) (sums (now (work .entry)) d) d s (now (best .exit)) ⌝ }
 {
+    if behaviour == 2 {
+        dynamic::decide_block(best, work, d, s, rising);
+    } else {
+        mixed::decide_block(behaviour, best, work, d, s);
+    }
+}
+
+// The states of a block, each key taken apart: the amounts as far as the table goes.
+fn decide_block(
+    behaviour: usize,
+    best: &mut [u64; 256],
+    work: &mut [u64],
+    table: &mut [u16],
+    d: Date,
+    s: Block,
+    rising: bool,
+)
+    requires { ⌜ Deciding behaviour (now work) d s rising × (256 ≤ length (now best)) ⌝ }
+    ensures { λ _. ⌜
+        Decided (behaviourOf behaviour) (sums (now (work .entry)) d) (now (work .entry)) (now (table .entry)) (now (work .exit))
+        (now (table .exit)) d (s .w * d .stride + s .from) (s .w * d .stride + s .from + s .n)
+        × (256 ≤ length (now (best .exit)))
+        ⌝ }
+{
+    decide_keys(behaviour, best, &work[..], d, s, rising);
+    let first = s.w * d.stride + s.from;
+    let at = date::smaller(first, table.len());
+    take_amounts(best, table, at, date::smaller(s.n, table.len() - at));
+    take_values(best, work, first, s.n);
+}
+
+// Under the static behaviour the states from the level on withdraw the level, so that no key is needed: their amounts ..
+fn fill_level(table: &mut [u16], at: usize, n: usize, level: usize)
+    requires { ⌜ (at + n ≤ length (now table)) × (level < 65536) ⌝ }
+    ensures { λ _. ⌜ now (table .exit) ≡ stored (now (table .entry)) at (λ (j : ℕ). level) n ⌝ }
+{
+    for j in 0..n {
+        table[at + j] = level as u16;
+    }
+}
+
+// .. and their values, from one row of sums.
+fn copy_sums(work: &mut [u64], to: usize, at: usize, n: usize, cash: u64)
+    requires { ⌜ (to + n ≤ at) × (at + n ≤ length (now work)) × (cash < 2 ^ 62) ⌝ }
+    ensures { λ _. ⌜ now (work .exit) ≡ stored (now (work .entry)) to (λ (j : ℕ). cash + getD (now (work .entry)) (at + j) 0 / 8192) n ⌝ }
+{
+    for j in 0..n {
+        work[to + j] = cash + work[at + j] / 8192;
+    }
+}
+
+fn static_block(work: &mut [u64], table: &mut [u16], d: Date, s: Block)
+    requires { ⌜ Span (now work) d s × (d .level ≤ s .from) ⌝ }
+    ensures { λ _. ⌜
+        Decided static (sums (now (work .entry)) d) (now (work .entry)) (now (table .entry)) (now (work .exit)) (now (table .exit)) d
+        (s .w * d .stride + s .from) (s .w * d .stride + s .from + s .n)
+        ⌝ }
+{
+    let level = d.level;
+    let first = s.w * d.stride + s.from;
+    let at = date::smaller(first, table.len());
+    fill_level(table, at, date::smaller(s.n, table.len() - at), level);
+    let sums = keys::place(d, date::less(s.w, level), s.from - level);
+    copy_sums(work, first, sums, s.n, (10000 * level) as u64);
+}
+
+// A block that starts at `from`: under the static behaviour none goes over the level.
+fn block_length(behaviour: usize, d: Date, from: usize) -> usize
+    requires { ⌜ (from < d .stride) × (d .level < d .stride) ⌝ }
+    ensures { λ r. ⌜ (0 < r) × (r ≤ 256) × (from + r ≤ d .stride) ⌝ }
+{
+    if behaviour == 0 {
+        if from < d.level {
+            return date::smaller(256, d.level - from);
+        }
+    }
+    date::smaller(256, d.stride - from)
+}
+
+fn decide_next(
+    behaviour: usize,
+    best: &mut [u64; 256],
+    work: &mut [u64],
+    table: &mut [u16],
+    d: Date,
+    s: Block,
+    rising: bool,
+)
+    requires { ⌜ Deciding behaviour (now work) d s rising × (256 ≤ length (now best)) ⌝ }
+    ensures { λ _. ⌜
+        Decided (behaviourOf behaviour) (sums (now (work .entry)) d) (now (work .entry)) (now (table .entry)) (now (work .exit))
+        (now (table .exit)) d (s .w * d .stride + s .from) (s .w * d .stride + s .from + s .n)
+        × (256 ≤ length (now (best .exit)))
+        ⌝ }
+{
+    if behaviour == 0 {
+        if d.level <= s.from {
+            static_block(work, table, d, s);
+            return;
+        }
+    }
+    decide_block(behaviour, best, work, table, d, s, rising);
+}
+
+// The states of account w, 256 at a time.
+fn decide_row(
+    behaviour: usize,
+    best: &mut [u64; 256],
+    work: &mut [u64],
+    table: &mut [u16],
+    d: Date,
+    w: usize,
+    rising: bool,
+)
+    requires { ⌜ Ready behaviour (now work) d w rising × (256 ≤ length (now best)) ⌝ }
+    ensures { λ _. ⌜
+        Decided (behaviourOf behaviour) (sums (now (work .entry)) d) (now (work .entry)) (now (table .entry)) (now (work .exit))
+        (now (table .exit)) d (w * d .stride) (w * d .stride + d .stride)
+        × (256 ≤ length (now (best .exit)))
+        ⌝ }
+{
+    let stride = d.stride;
     let mut from: usize = 0;
     while from < stride {
-        let n = date::smaller(64, stride - from);
-        dynamic_run(work, table, base, stride, w, from, n, level, rate, rising);
+        let n = block_length(behaviour, d, from);
+        let s = Block { w, from, n };
+        decide_next(behaviour, best, work, table, d, s, rising);
         from += n;
     }
 }
 
-// The states of account w.
-fn decide_row(
-    behaviour: usize,
-    work: &mut [u64],
-    table: &mut [u16],
-    base: usize,
-    stride: usize,
-    w: usize,
-    level: usize,
-    rate: usize,
-    rising: bool,
-)
-    requires { ⌜ Row behaviour (now work) (now table) base stride w level rate rising ⌝ }
-    ensures { λ _. ⌜ (now (work .exit) ≡ stored (now (work .entry)) (w * stride) (bestValue (behaviourOf behaviour) (cells (now (work .entry)) base stride) rate level w) stride) × (now (table .exit) ≡ stored (now (table .entry)) (w * stride) (bestAmount (behaviourOf behaviour) (cells (now (work .entry)) base stride) rate level w) stride) ⌝ }
+// What the dynamic behaviour reads beside the sums, and whether it may pass amounts over.
+fn prepare(behaviour: usize, work: &mut [u64], d: Date, n: usize) -> bool
+    requires { ⌜ Sums (now work) d n ⌝ }
+    ensures { λ r. ⌜ Prepared behaviour (now (work .entry)) (now (work .exit)) d n r ⌝ }
 {
     if behaviour == 2 {
-        dynamic_row(work, table, base, stride, w, level, rate, rising);
-    } else {
-        plain::plain_row(behaviour, work, table, base, stride, w, level, rate);
-    }
-}
-
-// Whether the dynamic behaviour may pass amounts over. The others try none.
-fn rising(behaviour: usize, work: &[u64], base: usize, stride: usize, n: usize) -> bool
-    requires { ⌜ (n ≤ 4001) × (stride ≤ 4001) × (base + n * stride ≤ length (now work)) ⌝ }
-    ensures { λ r. ⌜ (r ≡ true → Rising (cells (now (work .entry)) base stride) stride n) ⌝ }
-{
-    if behaviour == 2 {
-        return choose::rises(work, base, stride, n);
+        let rising = dynamic::rises(&work[..], d, n);
+        further::further_layer(work, d, n);
+        return rising;
     }
     false
 }
 
 // The states of the accounts below n, from the last one down: each reads only the rows below its own.
-pub fn decide_layer(
-    behaviour: usize,
-    work: &mut [u64],
-    table: &mut [u16],
-    base: usize,
-    stride: usize,
-    n: usize,
-    level: usize,
-    rate: usize,
-)
-    requires { ⌜ Deciding behaviour (now work) (now table) base stride n rate × (0 < stride) ⌝ }
-    ensures { λ _. ⌜ (now (work .exit) ≡ stored (now (work .entry)) 0 (flat stride (bestValue (behaviourOf behaviour) (cells (now (work .entry)) base stride) rate level)) (n * stride)) × (now (table .exit) ≡ stored (now (table .entry)) 0 (flat stride (bestAmount (behaviourOf behaviour) (cells (now (work .entry)) base stride) rate level)) (n * stride)) ⌝ }
+pub fn decide_layer(behaviour: usize, work: &mut [u64], table: &mut [u16], d: Date, n: usize)
+    requires { ⌜ (behaviour ≤ 2) × Sums (now work) d n ⌝ }
+    ensures { λ _. ⌜
+        Decided (behaviourOf behaviour) (sums (now (work .entry)) d) (now (work .entry)) (now (table .entry)) (now (work .exit))
+        (now (table .exit)) d 0 (n * d .stride)
+        ⌝ }
 {
-    // a level above every guarantee is the same as the largest of them
-    let most = date::smaller(level, stride - 1);
-    let rising = rising(behaviour, &work[..], base, stride, n);
+    let rising = prepare(behaviour, work, d, n);
+    let mut best = [0u64; 256];
     let mut w = n;
     while 0 < w {
         w -= 1;
-        decide_row(behaviour, work, table, base, stride, w, most, rate, rising);
+        decide_row(behaviour, &mut best, work, table, d, w, rising);
     }
 }

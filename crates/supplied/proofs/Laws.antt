@@ -3,7 +3,7 @@ use mathlib.Core.List.{List, _++_}
 use mathlib.Core.Logic.{inr}
 use mathlib.Core.Path.{_≡_, refl, ap, ap₂, sym, _∙_, subst}
 use Prim.Native.Nat.{ℕ, suc, _+_, _-_, _*_, _≤_, _<_, max}
-use native.Mathlib.Nat.{zero-add, le-trans, le-of-eq, min-le-right}
+use native.Mathlib.Nat.{zero-add, le-trans, le-of-eq}
 use native.Mathlib.Omega.{arith}
 use lib.Dec.{T}
 use lib.ListN.{length, getD, drop, replicate}
@@ -14,8 +14,8 @@ use Rattle.decision.specs.Optimal.{table-step, table-last}
 use Rattle.decision.specs.Layers.{low-digit, lookup, layer}
 use Rattle.slices.specs.Parts.{part-at}
 use Rattle.slices.specs.Stored.{stored, length-stored, stored-out}
-use Rattle.slices.specs.Rows.{cells, flat, cells-kept, within-rows, rows-le, rows-step, row-next, layer-stored}
-use Rattle.rules.specs.Contract.{Terms, rateMost, termsOf, Returns, returnsOf}
+use Rattle.slices.specs.Rows.{cells, flat, rows-le, rows-step, row-next, layer-stored}
+use Rattle.rules.specs.Contract.{Terms, topMost, rateMost, termsOf, Returns, returnsOf}
 use Rattle.rules.specs.Date.{dynamic, freeAmount, admits, maturityValue, margin}
 use Rattle.rules.specs.Product.{suppliedValue, suppliedLayer}
 use Rattle.rules.specs.Refusals.{Verdict, accepted, refused, verdict, numberOf, placeOf, onSuccess, recordChecks, listChecks}
@@ -24,134 +24,105 @@ use Rattle.rules.specs.Operations.{productOf, answer, workAfter, tableSize, bad
 use Rattle.laws.specs.Supplied.{all-admitted}
 use Rattle.laws.specs.Date.{dynamic-is}
 use Rattle.laws.specs.Accepted.{Valid, ValidReturns, then-accepted, then-refused}
-use Rattle.laws.specs.Bounds.{table-value-most, valueMost, value-most, entryMost}
-use Rattle.expect.specs.Expected.{expected, reachedSum, Listing, expected-le, expected-same}
+use Rattle.laws.specs.Bounds.{table-value-most, valueMost, entryMost}
+use Rattle.expect.specs.Expected.{expected, reachedSum, Listing, expected-same}
+use Rattle.keys.specs.declared.Date.{Date}
+use Rattle.keys.specs.Sums.{sums, Sums, sum-in, row-in, sums-less, sums-kept, sums-same}
 use Rattle.worth.specs.Worth.{worthOver, worth-same}
 use Rattle.dates.specs.Back.{at}
+use Rattle.dates.specs.Dated.{dateOf, Summed}
 use Rattle.dates.specs.Layer.{DateLayer, layer-long, layer-entry}
 use Rattle.valuing.specs.declared.Answer as declared
 use Rattle.valuing.specs.Answered.{answerOf, refusal, Settled}
 use Rattle.valuing.specs.First.{First, first-layer, first-mature}
-use Rattle.supplied.specs.Followed.{State, followed, Following, OneDate, Back, tableOn, Starting, Answered}
+use Rattle.supplied.specs.Followed.{followed, followedOn, Following, Dating, Back, tableOn, Starting, Answered}
 
--- the entry of a state that a withdrawal leads to
-pub place : {xs : List ℕ} {base stride w a m : ℕ} → State xs base stride w a m → (x y : ℕ) → x ≤ w → y ≤ a → base + (x * stride + y) < length xs
-place {xs} {base} {stride} {w} s x y h l =
-    let p = within-rows stride (w + 1) x y (omega arith) (omega (arith, s .column)) in
-    omega (arith, s .rows)
+-- ---- one state
+module _ {work : List ℕ} {d : Date} (w : ℕ) {a : ℕ} (s : Sums work d (w + 1)) (l : a < d .stride) where
+  -- the sum of a balance and guarantee that a withdrawal leads to
+  pub sum-within : (x y : ℕ) → x ≤ w → y ≤ a → d .base + (x * d .stride + y) < length work
+  sum-within x y h k = let e = sum-in s x y 1 (omega arith) (omega arith) in omega arith
+
+  pub sum-most : (x y : ℕ) → x ≤ w → y ≤ a → sums work d x y ≤ entryMost
+  sum-most x y h k = s .small x y (omega arith) (omega arith)
+
+  pub amount-most : (t : ℕ) → t ≤ max w (freeAmount (d .level) a) → t ≤ topMost
+  unfolding freeAmount
+  amount-most t h = omega (arith, s .few, s .width)
 
 -- ---- one row
-module _ {work layer : List ℕ} {base stride level rate : ℕ} (w : ℕ) (d : Following work layer base stride (w + 1) level rate) where
-  row-end : w * stride + stride ≤ base
-  row-end = let s = rows-step stride w in omega (arith, d .apart)
+module _ {work layer : List ℕ} {d : Date} (w : ℕ) (f : Following work layer d (w + 1)) where
+  pub row-room : (a : ℕ) → a < d .stride → w * d .stride + a < length work
+  row-room a l = let e = row-in (f .layers) w a 1 (omega arith) (omega arith) in omega (arith, f .layers .room)
 
-  pub row-room : (a : ℕ) → a < stride → w * stride + a < length work
-  row-room a l = let e = row-end in omega (arith, d .room)
+  pub row-entry : (a : ℕ) → a < d .stride → w * d .stride + a < length layer
+  row-entry a l = let s = rows-step (d .stride) w in omega (arith, f .entries)
 
-  pub row-entry : (a : ℕ) → a < stride → w * stride + a < length layer
-  row-entry a l = let s = rows-step stride w in omega (arith, d .entries)
+  pub amount-within : (a : ℕ) → a < d .stride → cells layer 0 (d .stride) w a ≤ max w (freeAmount (d .level) a)
+  amount-within a l =
+      dynamic-is (freeAmount (d .level) a) w (cells layer 0 (d .stride) w a) (f .admitted w a (omega arith) l)
 
-  pub amount-within : (a : ℕ) → a < stride → cells layer 0 stride w a ≤ max w (freeAmount level a)
-  amount-within a l = dynamic-is (freeAmount level a) w (cells layer 0 stride w a) (d .admitted w a (omega arith) l)
+  -- while it is stored, the second layer stays
+  module _ (g : ℕ → ℕ) (n : ℕ) (h : n ≤ d .stride) where
+    row-end : w * d .stride + n ≤ d .base
+    row-end = let e = row-in (f .layers) w 0 n (omega arith) (omega arith) in omega arith
 
-  module _ (f : ℕ → ℕ) (n : ℕ) (h : n ≤ stride) where
-    -- while it is stored, the second layer stays
-    pub sums-kept : cells (stored work (w * stride) f n) base stride ≡ cells work base stride
-    sums-kept = let e = row-end in cells-kept work (w * stride) n base stride f (omega arith)
+    pub row-sums : sums (stored work (w * d .stride) g n) d ≡ sums work d
+    row-sums = sums-same work d (w * d .stride) n g row-end
 
-    pub state-on : (a : ℕ) → a < stride → State (stored work (w * stride) f n) base stride w a (freeAmount level a)
-    unfolding freeAmount
-    state-on a l = record {
-      account = omega (arith, d .few);
-      guarantee = omega (arith, d .width);
-      free = min-le-right level a;
-      column = l;
-      rows = rw (length-stored work (w * stride) f n) (d .room);
-      small = λ x y p q. subst (λ (e : ℕ → ℕ → ℕ). e x y ≤ entryMost) (sym sums-kept) (d .small x y (omega arith) (omega arith));
-    }
+    pub row-layers : Sums (stored work (w * d .stride) g n) d (w + 1)
+    row-layers = sums-kept (f .layers) (w * d .stride) n g row-end
 
 -- ---- row after row
-module _ {work layer : List ℕ} {base stride n level rate : ℕ} (d : Following work layer base stride n level rate) (w : ℕ) (h : w + 1 ≤ n) where
-  rows : ℕ → ℕ
-  rows = flat stride (followed (cells work base stride) (cells layer 0 stride) rate level)
+module _ {work layer : List ℕ} {d : Date} {n : ℕ} (f : Following work layer d n) (w : ℕ) (h : w + 1 ≤ n) (work' : List ℕ)
+    (is : work' ≡ stored work 0 (flat (d .stride) (followedOn d work layer)) (w * d .stride))
+  where
+    rows-end : 0 + w * d .stride ≤ d .base
+    rows-end = let e = row-in (f .layers) w 0 0 (omega arith) (omega arith) in omega arith
 
-  kept : cells (stored work 0 rows (w * stride)) base stride ≡ cells work base stride
-  kept = let l = rows-le stride (w + 1) n h in let s = rows-step stride w in cells-kept work 0 (w * stride) base stride rows (omega (arith, d .apart))
+    pub following-on : Following work' layer d (w + 1)
+    following-on = record {
+      layers = rw is (sums-less (sums-kept (f .layers) 0 (w * d .stride) _ rows-end) (w + 1) h);
+      entries = let l = rows-le (d .stride) (w + 1) n h in omega (arith, f .entries);
+      admitted = λ x a i k. f .admitted x a (omega arith) k;
+    }
 
-  pub following-on : Following (stored work 0 (flat stride (followed (cells work base stride) (cells layer 0 stride) rate level)) (w * stride)) layer base stride (w + 1) level rate
-  unfolding rows
-  following-on =
-      let l = rows-le stride (w + 1) n h in
-      record {
-        few = omega (arith, d .few);
-        width = d .width;
-        rate-is = d .rate-is;
-        apart = omega (arith, d .apart);
-        room = rw (length-stored work 0 (flat stride (followed (cells work base stride) (cells layer 0 stride) rate level)) (w * stride)) (omega (arith, d .room));
-        entries = omega (arith, d .entries);
-        admitted = λ x a i k. d .admitted x a (omega arith) k;
-        small = λ x a i k. rw (ap (λ (e : ℕ → ℕ → ℕ). e x a) kept) (d .small x a (omega arith) k);
-      }
-
-  pub follow-step : stored (stored work 0 (flat stride (followed (cells work base stride) (cells layer 0 stride) rate level)) (w * stride)) (w * stride) (followed (cells (stored work 0 (flat stride (followed (cells work base stride) (cells layer 0 stride) rate level)) (w * stride)) base stride) (cells layer 0 stride) rate level w) stride
-      ≡ stored work 0 (flat stride (followed (cells work base stride) (cells layer 0 stride) rate level)) ((w + 1) * stride)
-  unfolding rows
-  follow-step =
-      row-next work stride w (followed (cells work base stride) (cells layer 0 stride) rate level) _ (λ a l.
-      ap (λ (e : ℕ → ℕ → ℕ). followed e (cells layer 0 stride) rate level w a) kept)
+    pub follow-step : stored work' (w * d .stride) (followedOn d work' layer w) (d .stride)
+        ≡ stored work 0 (flat (d .stride) (followedOn d work layer)) ((w + 1) * d .stride)
+    follow-step =
+        let same = ap (λ (xs : List ℕ). sums xs d) is ∙ sums-same work d 0 (w * d .stride) _ rows-end in
+        ap (λ (xs : List ℕ). stored xs (w * d .stride) (followedOn d work' layer w) (d .stride)) is
+        ∙ row-next work (d .stride) w (followedOn d work layer) _ (λ a l.
+        ap (λ (e : ℕ → ℕ → ℕ). followed e (cells layer 0 (d .stride)) (d .rate) (d .level) w a) same)
 
 -- ---- one date
-module _ {c : Terms} {count rate : ℕ} {work layer list : List ℕ} (d : OneDate c count rate work layer list) where
-  module _ (work₁ : List ℕ) (is : work₁ ≡ stored work (layerSize c) (flat (c .premium + 1) (expected c (returnsOf list) (cells work 0 (c .premium + 1)))) (layerSize c)) where
-    sums-are : (w a : ℕ) → w ≤ c .top → a ≤ c .premium → cells work₁ ((c .top + 1) * (c .premium + 1)) (c .premium + 1) w a ≡ expected c (returnsOf list) (cells work 0 (c .premium + 1)) w a
-    unfolding layerSize
-    sums-are w a h l =
-        ap (λ (xs : List ℕ). cells xs ((c .top + 1) * (c .premium + 1)) (c .premium + 1) w a) is
-        ∙ layer-stored work ((c .top + 1) * (c .premium + 1)) (c .premium + 1) (c .top + 1) _ (d .first .layers .room) .cell w a (omega arith) (omega arith)
+module _ {c : Terms} {count rate : ℕ} {work layer list work₁ : List ℕ} {date : Date} (d : Dating c count rate work layer list)
+    (is : date ≡ dateOf c rate) (told : Summed c (returnsOf list) work work₁ date)
+  where
+    s : Summed c (returnsOf list) work work₁ (dateOf c rate)
+    s = subst (Summed c (returnsOf list) work work₁) is told
 
-    pub following : Following work₁ layer ((c .top + 1) * (c .premium + 1)) (c .premium + 1) (c .top + 1) (c .level) rate
+    pub following : Following work₁ layer date (c .top + 1)
     unfolding layerSize
-    following =
-        let v = d .first .layers .valid in
-        record {
-          few = omega (arith, v .top);
-          width = omega (arith, v .premium, v .top);
-          rate-is = d .rate-is;
-          apart = omega arith;
-          room = rw (ap length is ∙ length-stored work _ _ _) (d .first .layers .room);
-          entries = omega (arith, d .layer-is);
-          admitted = λ w a i k. d .admitted w a (omega arith) (omega arith);
-          small = λ w a i k.
-              rw (sums-are w a (omega arith) (omega arith))
-              (expected-le c (returnsOf list) (cells work 0 (c .premium + 1)) w a entryMost v (d .listing .valid) (λ x h. le-trans (d .first .small x a h (omega arith)) (value-most v)));
-        }
+    following = subst (λ (x : Date). Following work₁ layer x (c .top + 1)) (sym is) (record {
+      layers = s .layers;
+      entries = omega (arith, d .layer-is);
+      admitted = λ w a i k. d .admitted w a (omega arith) (omega arith);
+    })
 
-    module _ (work₂ : List ℕ)
-        (values : work₂
-        ≡ stored work₁ 0
-        (flat (c .premium + 1)
-        (followed (cells work₁ ((c .top + 1) * (c .premium + 1)) (c .premium + 1)) (cells layer 0 (c .premium + 1)) rate (c .level)))
-        ((c .top + 1) * (c .premium + 1)))
-      where
-        pub back : Back c (returnsOf list) rate work layer work₂
-        unfolding layerSize
-        back = record {
-          long = ap length values ∙ length-stored work₁ 0 _ _ ∙ ap length is ∙ length-stored work _ _ _;
+    pub back : {work₂ : List ℕ} → work₂ ≡ stored work₁ 0 (flat (date .stride) (followedOn date work₁ layer)) ((c .top + 1) * date .stride)
+        → Back c (returnsOf list) rate work layer work₂
+    unfolding layerSize
+    back e =
+        let values = e ∙ ap (λ (x : Date). stored work₁ 0 (flat (x .stride) (followedOn x work₁ layer)) ((c .top + 1) * x .stride)) is in record {
+          long = ap length values ∙ length-stored work₁ 0 _ _ ∙ s .long;
           values = λ w a h l.
+              let first = layer-stored work₁ 0 (c .premium + 1) (c .top + 1) _ (let r = s .layers .room in omega arith) in
               ap (λ (xs : List ℕ). cells xs 0 (c .premium + 1) w a) values
-              ∙ layer-stored work₁ 0 (c .premium + 1) (c .top + 1) _ (let r = following .room in omega arith) .cell w a (omega arith) (omega arith)
-              ∙ worth-is w a (cells layer 0 (c .premium + 1) w a) h l;
-          rest = λ i h.
-              ap (λ (xs : List ℕ). getD xs i 0) values
-              ∙ stored-out work₁ 0 _ _ i (inr (omega arith))
-              ∙ ap (λ (xs : List ℕ). getD xs i 0) is
-              ∙ stored-out work _ _ _ i (inr h);
+              ∙ first .cell w a (omega arith) (omega arith)
+              ∙ worth-same _ _ rate (freeAmount (c .level) a) w a _ (λ x y p q. s .sums-are x y (le-trans p h) (le-trans q l));
+          rest = λ i h. ap (λ (xs : List ℕ). getD xs i 0) values ∙ stored-out work₁ 0 _ _ i (inr (omega arith)) ∙ s .rest i h;
         }
-          where
-            worth-is : (w a t : ℕ) → w ≤ c .top → a ≤ c .premium
-                → worthOver (cells work₁ ((c .top + 1) * (c .premium + 1)) (c .premium + 1)) rate (freeAmount (c .level) a) w a t
-                ≡ worthOver (expected c (returnsOf list) (cells work 0 (c .premium + 1))) rate (freeAmount (c .level) a) w a t
-            worth-is w a t h l = worth-same _ _ rate (freeAmount (c .level) a) w a t (λ x y p q. sums-are x y (le-trans p h) (le-trans q l))
 
 -- ---- the search, date by date
 module _ (c : Terms) (table : List ℕ) (j : ℕ) (h : j < c .dates - 1) where
@@ -201,15 +172,17 @@ module _ {c : Terms} {count : ℕ} {work₀ table list work : List ℕ} (s : Sta
         ap (λ (x : ℕ). getD (midOf from (to - from) table) x 0) (zero-add (w * (c .premium + 1) + a))
         ∙ layer-entry p table (s .entries) h l
 
-    pub one-date : {rate : ℕ} → rate ≤ rateMost → OneDate c count rate work (midOf from (to - from) table) list
-    one-date small-rate = record {
-      rate-is = small-rate;
-      listing = s .listing;
-      first = record {
-        layers = record { valid = s .layers .valid; room = omega (arith, s .layers .room, v .long) };
-        small = λ w a h l.
-            le-trans (le-of-eq (v .values w a h l))
-            (table-on-most (returnsOf list) table (s .layers .valid) (s .listing .valid) (s .none-bad) (suc i) w a (omega arith) (omega arith) h l);
+    pub dating : {rate : ℕ} → rate ≤ rateMost → Dating c count rate work (midOf from (to - from) table) list
+    dating small-rate = record {
+      date = record {
+        rate-is = small-rate;
+        listing = s .listing;
+        first = record {
+          layers = record { valid = s .layers .valid; room = omega (arith, s .layers .room, v .long) };
+          small = λ w a h l.
+              le-trans (le-of-eq (v .values w a h l))
+              (table-on-most (returnsOf list) table (s .layers .valid) (s .listing .valid) (s .none-bad) (suc i) w a (omega arith) (omega arith) h l);
+        };
       };
       layer-is = layer-long p table (s .entries);
       admitted = λ w a h l.

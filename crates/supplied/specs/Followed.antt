@@ -8,48 +8,39 @@ use Rattle.decision.specs.Index.{first}
 use Rattle.decision.specs.Process.{tableValue}
 use Rattle.decision.specs.Layers.{lookup}
 use Rattle.slices.specs.Rows.{cells}
-use Rattle.rules.specs.Contract.{Terms, Returns, topMost, rateMost}
-use Rattle.laws.specs.Bounds.{entryMost}
+use Rattle.rules.specs.Contract.{Terms, Returns, rateMost}
 use Rattle.rules.specs.Date.{dynamic, freeAmount, admits, maturityValue}
 use Rattle.rules.specs.Product.{suppliedValue, suppliedLayer}
 use Rattle.rules.specs.FixedTerm.{layerSize, layoutOf, processOf, fixedTerm}
 use Rattle.rules.specs.Refusals.{Verdict}
 use Rattle.rules.specs.Operations.{answer, workAfter, tableSize, badEntry}
 use Rattle.expect.specs.Expected.{expected, Listing, Layers, Values}
+use Rattle.keys.specs.declared.Date.{Date}
+use Rattle.keys.specs.Sums.{sums, Sums}
 use Rattle.worth.specs.Worth.{worthOver}
 use Rattle.dates.specs.Back.{at}
+use Rattle.dates.specs.Dated.{OneDate}
 use Rattle.valuing.specs.declared.Answer as declared
 use Rattle.valuing.specs.Answered.{answerOf}
-
--- a state, and room for the rows of its balances
-pub record State (work : List ℕ) (base stride w a m : ℕ) : Type 0 where
-  pub account : w ≤ topMost
-  pub guarantee : a ≤ topMost
-  pub free : m ≤ a
-  pub column : a < stride
-  pub rows : base + (w + 1) * stride ≤ length work
-  pub small : (x y : ℕ) → x ≤ w → y ≤ a → cells work base stride x y ≤ entryMost
 
 -- what the amounts in t are worth over the discounted sums e
 abbrev pub followed : (ℕ → ℕ → ℕ) → (ℕ → ℕ → ℕ) → ℕ → ℕ → ℕ → ℕ → ℕ
 followed e t rate level w a = worthOver e rate (freeAmount level a) w a (t w a)
 
--- the rows below n are to be followed
-pub record Following (work layer : List ℕ) (base stride n level rate : ℕ) : Type 0 where
-  pub few : n ≤ 4001
-  pub width : stride ≤ 4001
-  pub rate-is : rate ≤ rateMost
-  pub apart : n * stride ≤ base
-  pub room : base + n * stride ≤ length work
-  pub entries : n * stride ≤ length layer
-  pub admitted : (w a : ℕ) → w < n → a < stride → T (admits dynamic (freeAmount level a) w (cells layer 0 stride w a))
-  pub small : (w a : ℕ) → w < n → a < stride → cells work base stride w a ≤ entryMost
+-- .. of date d, whose amounts stand in layer
+abbrev pub followedOn : Date → List ℕ → List ℕ → ℕ → ℕ → ℕ
+followedOn d work layer = followed (sums work d) (cells layer 0 (d .stride)) (d .rate) (d .level)
 
--- one date back, at its penalty rate
-pub record OneDate (c : Terms) (count rate : ℕ) (work layer list : List ℕ) : Type 0 where
-  pub rate-is : rate ≤ rateMost
-  pub listing : Listing list count
-  pub first : Values c work
+-- the rows below n are to be followed
+pub record Following (work layer : List ℕ) (d : Date) (n : ℕ) : Type 0 where
+  pub layers : Sums work d n
+  pub entries : n * d .stride ≤ length layer
+  pub admitted : (w a : ℕ) → w < n → a < d .stride
+      → T (admits dynamic (freeAmount (d .level) a) w (cells layer 0 (d .stride) w a))
+
+-- one date back, by its layer of the table
+pub record Dating (c : Terms) (count rate : ℕ) (work layer list : List ℕ) : Type 0 where
+  pub date : OneDate c count rate work list
   pub layer-is : length layer ≡ layerSize c
   pub admitted : (w a : ℕ) → w ≤ c .top → a ≤ c .premium → T (admits dynamic (freeAmount (c .level) a) w (cells layer 0 (c .premium + 1) w a))
 

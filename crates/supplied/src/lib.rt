@@ -4,20 +4,22 @@ ghost use Prim.Native.Nat.{ℕ, _+_, _*_, _≤_, _<_, max};
 ghost use lib.ListN.{length, getD};
 ghost use Rattle.decision.specs.Index.{first};
 ghost use Rattle.slices.specs.Stored.{stored};
-ghost use Rattle.slices.specs.Rows.{cells, flat};
-ghost use Rattle.rules.specs.Contract.{rateMost, returnsOf};
+ghost use Rattle.slices.specs.Rows.{flat};
+ghost use Rattle.rules.specs.Contract.{returnsOf};
 ghost use Rattle.rules.specs.Date.{freeAmount};
 ghost use Rattle.rules.specs.Refusals.{verdict};
 ghost use Rattle.rules.specs.Operations.{tableSize, badAt, badEntry, tableChecks, suppliedAnswer, suppliedWork};
 ghost use Rattle.laws.specs.Accepted.{Valid};
 ghost use Rattle.contract.specs.Reading.{termsIn};
+ghost use Rattle.keys.specs.Sums.{sums, Sums};
 ghost use Rattle.worth.specs.Worth.{worthOver};
 ghost use Rattle.valuing.specs.Answered.{answerOf, Ready};
 ghost use Rattle.valuing.specs.First.{First};
-ghost use Rattle.supplied.specs.Followed.{State, followed, Following, OneDate, Back, tableOn, Starting, Answered};
+ghost use Rattle.supplied.specs.Followed.{followedOn, Following, Dating, Back, tableOn, Starting, Answered};
 use contract::Agreement;
 use contract::Contract;
 use contract::Outcome;
+use keys::Date;
 use valuing::Answer;
 
 // Refusal 14 of entry e of a date's layer.
@@ -70,73 +72,53 @@ fn first_bad(table: &[u16], c: Contract) -> usize
 }
 
 // What amount t is worth.
-fn worth(
-    work: &[u64],
-    base: usize,
-    stride: usize,
-    w: usize,
-    a: usize,
-    level: usize,
-    rate: usize,
-    t: usize,
-) -> usize
-    requires { ⌜ State (now work) base stride w a (freeAmount level a) × (rate ≤ rateMost) × (t ≤ max w (freeAmount level a)) ⌝ }
-    ensures { λ r. ⌜ r ≡ worthOver (cells (now (work .entry)) base stride) rate (freeAmount level a) w a t ⌝ }
+fn worth(work: &[u64], d: Date, w: usize, a: usize, t: usize) -> usize
+    requires { ⌜ Sums (now work) d (w + 1) × (a < d .stride) × (t ≤ max w (freeAmount (d .level) a)) ⌝ }
+    ensures { λ r. ⌜ r ≡ worthOver (sums (now (work .entry)) d) (d .rate) (freeAmount (d .level) a) w a t ⌝ }
 {
-    let m = date::free_amount(level, a);
+    let m = date::free_amount(d.level, a);
     let g = date::guarantee_after(m, w, a, t);
-    let at = base + (date::balance_after(w, t) * stride + g);
-    date::cash(rate, m, t) + date::wide(work[at])
+    let at = keys::place(d, date::balance_after(w, t), g);
+    date::cash(d.rate, m, t) + date::wide(work[at] / 8192)
 }
 
 // The states of account w.
-fn follow_row(
-    work: &mut [u64],
-    layer: &[u16],
-    base: usize,
-    stride: usize,
-    w: usize,
-    level: usize,
-    rate: usize,
-)
-    requires { ⌜ Following (now work) (now layer) base stride (w + 1) level rate ⌝ }
-    ensures { λ _. ⌜ now (work .exit) ≡ stored (now (work .entry)) (w * stride) (followed (cells (now (work .entry)) base stride) (cells (now (layer .entry)) 0 stride) rate level w) stride ⌝ }
+fn follow_row(work: &mut [u64], layer: &[u16], d: Date, w: usize)
+    requires { ⌜ Following (now work) (now layer) d (w + 1) ⌝ }
+    ensures { λ _. ⌜
+        now (work .exit)
+        ≡ stored (now (work .entry)) (w * d .stride) (followedOn d (now (work .entry)) (now (layer .entry)) w) (d .stride)
+        ⌝ }
 {
+    let stride = d.stride;
     let row = w * stride;
     for a in 0..stride {
         let i = row + a;
         let t = date::wide16(layer[i]);
-        work[i] = worth(&work[..], base, stride, w, a, level, rate, t) as u64;
+        work[i] = worth(&work[..], d, w, a, t) as u64;
     }
 }
 
 // The states of the accounts below n.
-fn follow_layer(
-    work: &mut [u64],
-    layer: &[u16],
-    base: usize,
-    stride: usize,
-    n: usize,
-    level: usize,
-    rate: usize,
-)
-    requires { ⌜ Following (now work) (now layer) base stride n level rate ⌝ }
-    ensures { λ _. ⌜ now (work .exit) ≡ stored (now (work .entry)) 0 (flat stride (followed (cells (now (work .entry)) base stride) (cells (now (layer .entry)) 0 stride) rate level)) (n * stride) ⌝ }
+fn follow_layer(work: &mut [u64], layer: &[u16], d: Date, n: usize)
+    requires { ⌜ Following (now work) (now layer) d n ⌝ }
+    ensures { λ _. ⌜
+        now (work .exit)
+        ≡ stored (now (work .entry)) 0 (flat (d .stride) (followedOn d (now (work .entry)) (now (layer .entry)))) (n * d .stride)
+        ⌝ }
 {
     for w in 0..n {
-        follow_row(work, layer, base, stride, w, level, rate);
+        follow_row(work, layer, d, w);
     }
 }
 
 // The values of one date, at its penalty rate.
 fn follow_date(work: &mut [u64], layer: &[u16], list: &[u8], count: usize, c: Contract, rate: usize)
-    requires { ⌜ OneDate (termsIn c) count rate (now work) (now layer) (now list) ⌝ }
+    requires { ⌜ Dating (termsIn c) count rate (now work) (now layer) (now list) ⌝ }
     ensures { λ _. ⌜ Back (termsIn c) (returnsOf (now (list .entry))) rate (now (work .entry)) (now (layer .entry)) (now (work .exit)) ⌝ }
 {
-    let stride = c.premium + 1;
-    let n = c.top + 1;
-    expect::expect_layer(work, list, count, c);
-    follow_layer(work, layer, n * stride, stride, n, c.level, rate);
+    let d = dates::sum_date(work, list, count, c, rate);
+    follow_layer(work, layer, d, c.top + 1);
 }
 
 // Every decision date, from the last to the first, each by its own layer of the table.

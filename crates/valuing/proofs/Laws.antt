@@ -31,10 +31,10 @@ use Rattle.contract.specs.declared.Outcome.{Outcome}
 use Rattle.contract.specs.declared.Returns as listed
 use Rattle.contract.specs.Accepted.{Both, both-not-read}
 use Rattle.contract.specs.Reading.{termsIn, contractOf, outcomeAt, bothRead}
-use Rattle.expect.specs.Expected.{expected, reachedSum, Listing, expected-same}
+use Rattle.expect.specs.Expected.{expected, reachedSum, expected-same}
 use Rattle.dates.specs.Back.{at, valuesOn, Valued, Starting}
 use Rattle.valuing.specs.declared.Answer as declared
-use Rattle.valuing.specs.Answered.{valuingAgreed, Settled, Answered, Reported}
+use Rattle.valuing.specs.Answered.{valuingAgreed, Alone, Settled, Answered, Reported}
 use Rattle.valuing.specs.First.{First, first-layer, first-from, first-mature}
 
 pub diff : (a b : ℕ) → pos a -ℤ pos b ≡ subℕ a b
@@ -73,7 +73,7 @@ module _ {b : Behaviour} {c : Terms} {rs : Returns} {work table work' table' : L
     where
       rest : (j : ℕ) → (j < 0) ⊎ (0 + (c .dates - 1) * layerSize c ≤ j) → getD table' j 0 ≡ getD table j 0
       rest j (inl h) = absurd (omega arith)
-      rest j (inr h) = v .rest-table j (omega arith)
+      rest j (inr h) = v .rest-table room j (omega arith)
 
       cell : (e : ℕ) → e < (c .dates - 1) * layerSize c
           → getD table' (0 + e) 0 ≡ recordedAmount (fixedTerm c rs) b (suc (e / layerSize c)) (at (e % layerSize c / (c .premium + 1)) (e % layerSize c % (c .premium + 1)))
@@ -90,7 +90,7 @@ module _ {b : Behaviour} {c : Terms} {rs : Returns} {work table work' table' : L
           let da = mod-lt r p in
           let whole : (suc j - 1) * size + (w * (c .premium + 1) + a) ≡ 0 + e =
           ap (λ (x : ℕ). (suc j - 1) * size + x) (div-add-mod' r (c .premium + 1)) ∙ (let z : suc j - 1 ≡ j = omega arith in rw z (div-add-mod' e size)) ∙ sym (zero-add e) in
-          ap (λ (x : ℕ). getD table' x 0) (sym whole) ∙ v .amounts (suc j) w a (omega arith) (omega arith) (omega arith) (omega arith)
+          ap (λ (x : ℕ). getD table' x 0) (sym whole) ∙ v .amounts room (suc j) w a (omega arith) (omega arith) (omega arith) (omega arith)
 
 -- maturity values put into the first layer change nothing that is kept
 pub from-start : {b : Behaviour} {c : Terms} {rs : Returns} {work work₁ table work' table' : List ℕ} (f : ℕ → ℕ)
@@ -100,33 +100,33 @@ from-start f e v =
     record { long = x .long; long-table = v .long-table; values = v .values; amounts = v .amounts; rest = x .rest; rest-table = v .rest-table }
 
 -- the first layer at maturity
-pub starting : {c : Terms} {behaviour count : ℕ} {list work' table : List ℕ} (work : List ℕ) → Valid c → Listing list count → behaviour ≤ 2
-    → layerSize c + layerSize c ≤ length work → tableSize c ≤ length table
-    → work' ≡ stored work 0 (flat (c .premium + 1) maturityValue) (layerSize c) → Starting behaviour c count work' table list
-unfolding layerSize tableSize
-starting {c} {work' = work'} work valid listing known room room-table e = record {
-  known = known;
-  listing = listing;
-  layers = record { valid = valid; room = let l = ap length e ∙ length-stored work 0 (flat (c .premium + 1) maturityValue) ((c .top + 1) * (c .premium + 1)) in omega arith };
-  entries = room-table;
-  mature = first-mature c work (omega arith) e;
+pub starting : {c : Terms} {behaviour count : ℕ} {list work work' : List ℕ} (lent : Alone behaviour c count list work)
+    → work' ≡ stored work 0 (flat (c .premium + 1) maturityValue) (layerSize c) → Starting behaviour c count work' list
+unfolding layerSize
+starting {c} {work = work} lent e = record {
+  known = lent .known;
+  listing = lent .ready .listing;
+  layers = record { valid = lent .ready .valid; room = let l = ap length e ∙ length-stored work 0 (flat (c .premium + 1) maturityValue) ((c .top + 1) * (c .premium + 1)) in omega (arith, lent .room) };
+  mature = first-mature c work (omega (arith, lent .room)) e;
 }
 
 -- ---- what terms that were read answer
 pub answered : {b : Behaviour} {c : Terms} {rs : Returns} {work table work' table' : List ℕ} (r : declared.Answer) (work'' : List ℕ)
-    → Valid c → layerSize c + layerSize c ≤ length work → tableSize c ≤ length table
+    → Valid c → layerSize c + layerSize c ≤ length work
     → Valued b c rs work table work' table' 0 → Settled c rs work' r work'' → Answered b c rs work table r work'' table'
 unfolding answer workAfter onSuccess numberOf placeOf
-answered {b} {c} {rs} r work'' valid room room-table d s =
+answered {b} {c} {rs} r work'' valid room d s =
     let value : r .value ≡ contractValue (fixedTerm c rs) b = s .value-is ∙ contract-value d valid in record {
-      answer-is = λ i. record {
-        number = s .number-is i;
-        place = s .place-is i;
-        value = value i;
-        margin = (s .margin-is ∙ ap (λ (x : ℕ). margin x (c .premium)) value) i;
+      worked = record {
+        answer-is = λ i. record {
+          number = s .number-is i;
+          place = s .place-is i;
+          value = value i;
+          margin = (s .margin-is ∙ ap (λ (x : ℕ). margin x (c .premium)) value) i;
+        };
+        work-is = s .work-is ∙ work-layers d room;
       };
-      work-is = s .work-is ∙ work-layers d room;
-      table-is = table-layers d room-table (size-some c);
+      table-is = λ all. table-layers d all (size-some c);
     }
 
 -- ---- the checks of a valuation, one after the other

@@ -1,6 +1,6 @@
 -- What the calls answer, and what the valuing of terms that were read leaves. Assumes nothing.
 use mathlib.Core.List.{List, _++_}
-use mathlib.Core.Path.{_≡_, subst}
+use mathlib.Core.Path.{_≡_, sym, subst}
 use Prim.Native.Nat.{ℕ, _+_, _≤_}
 use lib.IntN.{pos}
 use lib.ListN.{length, drop}
@@ -35,11 +35,15 @@ pub record Ready (c : Terms) (count : ℕ) (list : List ℕ) : Type 0 where
   pub valid : Valid c
   pub listing : Listing list count
 
--- .. and slices that are long enough, under a behaviour
-pub record Lent (behaviour : ℕ) (c : Terms) (count : ℕ) (list work table : List ℕ) : Type 0 where
+-- .. and a working slice that is long enough, under a behaviour
+pub record Alone (behaviour : ℕ) (c : Terms) (count : ℕ) (list work : List ℕ) : Type 0 where
   pub known : behaviour ≤ 2
   pub ready : Ready c count list
   pub room : layerSize c + layerSize c ≤ length work
+
+-- .. and a table
+pub record Lent (behaviour : ℕ) (c : Terms) (count : ℕ) (list work table : List ℕ) : Type 0 where
+  pub alone : Alone behaviour c count list work
   pub room-table : tableSize c ≤ length table
 
 pub record Settling (c : Terms) (count : ℕ) (work list : List ℕ) : Type 0 where
@@ -54,11 +58,15 @@ pub record Settled (c : Terms) (rs : Returns) (work : List ℕ) (r : declared.An
   pub margin-is : r .margin ≡ margin (r .value) (c .premium)
   pub work-is : work' ≡ stored work (layerSize c) (λ (i : ℕ). 0) (layerSize c)
 
--- the answer, and both slices
-pub record Answered (b : Behaviour) (c : Terms) (rs : Returns) (work table : List ℕ) (r : declared.Answer) (work' table' : List ℕ) : Type 0 where
+-- the answer and the working slice
+pub record Worked (b : Behaviour) (c : Terms) (rs : Returns) (work : List ℕ) (r : declared.Answer) (work' : List ℕ) : Type 0 where
   pub answer-is : r ≡ answerOf (answer accepted (contractValue (fixedTerm c rs) b) (c .premium))
   pub work-is : work' ≡ workAfter accepted (layerSize c) (valueLayer (fixedTerm c rs) b) work
-  pub table-is : table' ≡ amountLayers (fixedTerm c rs) b ++ drop (tableSize c) table
+
+-- .. and the table, where it has room for all dates
+pub record Answered (b : Behaviour) (c : Terms) (rs : Returns) (work table : List ℕ) (r : declared.Answer) (work' table' : List ℕ) : Type 0 where
+  pub worked : Worked b c rs work r work'
+  pub table-is : tableSize c ≤ length table → table' ≡ amountLayers (fixedTerm c rs) b ++ drop (tableSize c) table
 
 -- ---- what a call that values reports and leaves, on any input
 pub record Reported (v : Verdict) (bytes list : List ℕ) (behaviour : ℕ) (work table : List ℕ) (r : declared.Answer) (work' table' : List ℕ) : Type 0 where
@@ -71,9 +79,9 @@ module _ {v : Verdict} {bytes list : List ℕ} {behaviour : ℕ} {work table : L
   unfolding answer workAfter onSuccess numberOf placeOf
   reported-refused n p e f = record { answer-is = rw e f; work-is = rw e; table-is = rw e }
 
-  pub reported : {work' table' : List ℕ} {c : Terms} → v ≡ accepted → c ≡ termsOf bytes
+  pub reported : {work' table' : List ℕ} {c : Terms} → v ≡ accepted → c ≡ termsOf bytes → tableSize c ≤ length table
       → Answered (behaviourOf behaviour) c (returnsOf list) work table r work' table' → Reported v bytes list behaviour work table r work' table'
   unfolding onSuccess productOf
-  reported {work' = work'} {table' = table'} e same a =
+  reported {work' = work'} {table' = table'} e same room a =
       let b = subst (λ (x : Terms). Answered (behaviourOf behaviour) x (returnsOf list) work table r work' table') same a in
-      record { answer-is = rw e (b .answer-is); work-is = rw e (b .work-is); table-is = rw e (b .table-is) }
+      record { answer-is = rw e (b .worked .answer-is); work-is = rw e (b .worked .work-is); table-is = rw e (b .table-is (rw (sym same) room)) }

@@ -99,8 +99,10 @@ pub lent : (bytes list : List ℕ) (behaviour : ℕ) (work table : List ℕ) {c 
 unfolding valuingVerdict valuingChecks
 lent bytes list behaviour work table told =
     let room = valuing-room bytes list behaviour work table (told .accepts) in record {
-      known = room .known;
-      ready = ready (agreed-both told (then-earlier (recordChecks bytes ++ listChecks list) _ (told .accepts)));
-      room = rw (told .terms) (room .layers);
+      alone = record {
+        known = room .known;
+        ready = ready (agreed-both told (then-earlier (recordChecks bytes ++ listChecks list) _ (told .accepts)));
+        room = rw (told .terms) (room .layers);
+      };
       room-table = rw (told .terms) (room .entries);
     }

@@ -11,7 +11,7 @@ ghost use Rattle.rules.specs.Refusals.{short};
 ghost use Rattle.rules.specs.Operations.{productOf, behaviourOf, tableSize, valuingAnswer, valuingWork, valuingTable};
 ghost use Rattle.laws.specs.Accepted.{Valid};
 ghost use Rattle.contract.specs.Reading.{termsIn};
-ghost use Rattle.valuing.specs.Answered.{answerOf, refusal, valuingAgreed, Lent, Settling, Settled, Answered};
+ghost use Rattle.valuing.specs.Answered.{answerOf, refusal, valuingAgreed, Alone, Settling, Settled, Worked, Answered};
 use contract::Agreement;
 use contract::Contract;
 use contract::Outcome;
@@ -91,7 +91,7 @@ pub fn check(bytes: &[u8], list: &[u8], behaviour: usize, work: &[u64], table: &
     agreement
 }
 
-// Values a contract whose checks have passed.
+// Values a contract whose checks have passed, over the working slice and as much of a table as is lent.
 pub fn valued(
     c: Contract,
     list: &[u8],
@@ -100,12 +100,32 @@ pub fn valued(
     work: &mut [u64],
     table: &mut [u16],
 ) -> Answer
-    requires { ⌜ Lent behaviour (termsIn c) count (now list) (now work) (now table) ⌝ }
-    ensures { λ r. ⌜ Answered (behaviourOf behaviour) (termsIn c) (returnsOf (now (list .entry))) (now (work .entry)) (now (table .entry)) r (now (work .exit)) (now (table .exit)) ⌝ }
+    requires { ⌜ Alone behaviour (termsIn c) count (now list) (now work) ⌝ }
+    ensures { λ r. ⌜
+        Answered (behaviourOf behaviour) (termsIn c) (returnsOf (now (list .entry))) (now (work .entry)) (now (table .entry)) r
+        (now (work .exit)) (now (table .exit))
+        ⌝ }
 {
     dates::fill_maturity(work, c.premium + 1, c.top + 1);
     dates::all_dates(behaviour, work, table, list, count, c);
     settle(work, list, count, c)
+}
+
+// .. over the working slice alone.
+pub fn valued_alone(
+    c: Contract,
+    list: &[u8],
+    count: usize,
+    behaviour: usize,
+    work: &mut [u64],
+) -> Answer
+    requires { ⌜ Alone behaviour (termsIn c) count (now list) (now work) ⌝ }
+    ensures { λ r. ⌜
+        Worked (behaviourOf behaviour) (termsIn c) (returnsOf (now (list .entry))) (now (work .entry)) r (now (work .exit))
+        ⌝ }
+{
+    let mut none = [0u16; 1];
+    valued(c, list, count, behaviour, work, &mut none[0..0])
 }
 
 // Values a contract: fills the table and answers number, place, value and margin.

@@ -1,13 +1,13 @@
 -- `dates::all_dates` meets its contract. Assumes nothing.
-use Prim.Native.Nat.{_<_}
 use borrow.Author.Needs.{needs}
 use mathlib.Core.Path.{_≡_}
 use native.Mathlib.Omega.{arith}
+use Prim.Native.Nat.{_<_}
 use Rattle.contract.specs.Reading.{termsIn}
+use Rattle.dates.proofs.Laws.{dating, valued-before, valued-none}
+use Rattle.dates.specs.Back.{Valued}
 use Rattle.rules.specs.Contract.{returnsOf}
 use Rattle.rules.specs.Operations.{behaviourOf}
-use Rattle.dates.specs.Back.{Valued}
-use Rattle.dates.proofs.Laws.{dating, valued-before, valued-none}
 use Rattle.dates.proofs.all_dates.Statement.{statement}
 use Rattle.dates.proofs.all_dates.Tie as tie
 
@@ -22,10 +22,12 @@ sub-i : tie.Need-sub-i Inv-loop μ-loop
 sub-i c = omega (arith, c .before .before .before .before .pre .layers .valid .dates-least)
 
 loop-holds : tie.Need-loop-holds Inv-loop μ-loop
-loop-holds c = let pre = c .before .before .before .before .pre in (omega (arith, pre .layers .valid .dates-least), valued-none pre)
+loop-holds c =
+    let c4 = c .before .before .before .before in
+    (omega (arith, c4 .pre .layers .valid .dates-least), valued-none (c4 .pre))
 
-layer-of-requires : tie.Need-layer-of-requires Inv-loop μ-loop
-layer-of-requires c κs = search needs
+lent-layer-requires : tie.Need-lent-layer-requires Inv-loop μ-loop
+lent-layer-requires c κs = search needs
 
 rate-on-requires : tie.Need-rate-on-requires Inv-loop μ-loop
 rate-on-requires c κs =
@@ -46,11 +48,9 @@ part-one-date-end c = search needs
 
 one-date-requires : tie.Need-one-date-requires Inv-loop μ-loop
 one-date-requires c κs =
-    let pre = c .before .before .before .before .before .before .before .before .before .before .pre in
-    let part = c .before .before .before .layer-of .ensures in
-    let loop = c .before .before .before .before .before .loop in
-    let taken = c .before .before .before .before .loop-test .taken in
-    dating pre part taken (loop .inv .0) (loop .inv .1) (c .before .before .rate-on .ensures .1)
+    let c5 = c .before .before .before .before .before in
+    let c10 = c5 .before .before .before .before .before in
+    (c10 .pre .known, dating (c10 .pre) (c5 .loop .inv .1) (c .before .before .rate-on .ensures .1))
 
 sub-i-2 : tie.Need-sub-i-2 Inv-loop μ-loop
 sub-i-2 c = omega arith
@@ -60,13 +60,19 @@ loop-less c = omega arith
 
 loop-again : tie.Need-loop-again Inv-loop μ-loop
 loop-again c =
-    let pre = c .before .before .before .before .before .before .before .before .before .before .before .before .before .before .before .pre in
-    let part = c .before .before .before .before .before .before .before .before .layer-of .ensures in
-    let loop = c .before .before .before .before .before .before .before .before .before .before .loop in
-    let one-date = c .before .before .before .before .one-date in
-    let dated = rw (c .before .before .before .before .before .before .before .rate-on .ensures .0) at (one-date .ensures) in
-    let taken = c .before .before .before .before .before .before .before .before .before .loop-test .taken in
-    (omega arith, valued-before pre part taken (loop .inv .0) (loop .inv .1) (one-date .last .1 .0) (one-date .last .1 .1 .0) dated)
+    let c4 = c .before .before .before .before in
+    let c7 = c4 .before .before .before in
+    let c8 = c7 .before in
+    let c9 = c8 .before in
+    let c10 = c9 .before in
+    let c15 = c10 .before .before .before .before .before in
+    let loop = c10 .loop in
+    let one-date = c4 .one-date in
+    let dated = rw (c7 .rate-on .ensures .0) at (one-date .ensures) in (
+      omega arith,
+      valued-before (c15 .pre) (loop .inv .1) (c8 .lent-layer .ensures) (c9 .loop-test .taken) (loop .inv .0)
+          (one-date .last .1 .0) (one-date .last .1 .1 .0) dated,
+    )
 
 same-length : tie.Need-same-length Inv-loop μ-loop
 same-length c = c .before .loop .inv .1 .long
@@ -85,7 +91,7 @@ all-dates-spec =
     μ-loop
     sub-i
     loop-holds
-    layer-of-requires
+    lent-layer-requires
     rate-on-requires
     mul-one-date
     sub-one-date

@@ -18,13 +18,16 @@ unfolding stored
 loop-holds c = (omega arith, refl)
 
 add-work : tie.Need-add-work Inv-loop μ-loop
-add-work c = let lw : length (c .before .loop .work) ≡ length (c .before .before .args .work .now) = ap length (c .before .loop .inv .1) ∙ length-stored _ _ _ _ in omega arith
+add-work c = let lw : length (c .before .loop .work) ≡ length (c .before .before .args .work .now) =
+    ap length (c .before .loop .inv .1) ∙ length-stored _ _ _ _ in omega arith
 
 mul-work : tie.Need-mul-work Inv-loop μ-loop
-mul-work c = let lw : length (c .before .loop .work) ≡ length (c .before .before .args .work .now) = ap length (c .before .loop .inv .1) ∙ length-stored _ _ _ _ in omega arith
+mul-work c = let lw : length (c .before .loop .work) ≡ length (c .before .before .args .work .now) =
+    ap length (c .before .loop .inv .1) ∙ length-stored _ _ _ _ in omega arith
 
 slice-write-work : tie.Need-slice-write-work Inv-loop μ-loop
-slice-write-work c = let lw : length (c .before .loop .work) ≡ length (c .before .before .args .work .now) = ap length (c .before .loop .inv .1) ∙ length-stored _ _ _ _ in omega arith
+slice-write-work c = let lw : length (c .before .loop .work) ≡ length (c .before .before .args .work .now) =
+    ap length (c .before .loop .inv .1) ∙ length-stored _ _ _ _ in omega arith
 
 add-i : tie.Need-add-i Inv-loop μ-loop
 add-i c = omega arith
@@ -33,7 +36,11 @@ loop-less : tie.Need-loop-less Inv-loop μ-loop
 loop-less c = omega arith
 
 loop-again : tie.Need-loop-again Inv-loop μ-loop
-loop-again c = (omega arith, (λ i. set (c .before .loop .inv .1 i) (c .before .before .args .from + c .before .loop .i) 0) ∙ stored-next _ _ _ _)
+loop-again c = (
+  omega arith,
+  (λ i. set (c .before .loop .inv .1 i) (c .before .before .args .from + c .before .loop .i) 0)
+      ∙ stored-next _ _ _ _,
+)
 
 same-length : tie.Need-same-length Inv-loop μ-loop
 same-length c = ap length (c .before .loop .inv .1) ∙ length-stored _ _ _ _

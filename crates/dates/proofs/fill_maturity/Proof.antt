@@ -54,7 +54,10 @@ same-length : tie.Need-same-length Inv-loop μ-loop
 same-length c = ap length (c .before .loop .inv .1) ∙ length-stored _ _ _ _
 
 returns : tie.Need-returns Inv-loop μ-loop
-returns c = let e : c .before .loop .w ≡ c .before .before .before .args .n = omega arith in c .before .loop .inv .1 ∙ ap (stored _ _ _) (ap (λ (k : ℕ). k * c .before .before .before .args .stride) e)
+returns c =
+    let c3 = c .before .before .before in
+    let e : c .before .loop .w ≡ c3 .args .n = omega arith in c .before .loop .inv .1
+    ∙ ap (stored _ _ _) (ap (λ (k : ℕ). k * c3 .args .stride) e)
 
 pub fill-maturity-spec : {M : Type 1} → statement M
 fill-maturity-spec =

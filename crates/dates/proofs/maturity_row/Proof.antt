@@ -25,13 +25,22 @@ maturity-value-requires : tie.Need-maturity-value-requires Inv-loop μ-loop
 maturity-value-requires c κs = omega arith
 
 add-work : tie.Need-add-work Inv-loop μ-loop
-add-work c = let lw : length (c .before .before .loop .work) ≡ length (c .before .before .before .before .args .work .now) = ap length (c .before .before .loop .inv .1) ∙ length-stored _ _ _ _ in omega arith
+add-work c =
+    let c4 = c .before .before .before .before in
+    let lw : length (c .before .before .loop .work) ≡ length (c4 .args .work .now) = ap length (c .before .before .loop .inv .1)
+    ∙ length-stored _ _ _ _ in omega arith
 
 mul-work : tie.Need-mul-work Inv-loop μ-loop
-mul-work c = let lw : length (c .before .before .loop .work) ≡ length (c .before .before .before .before .args .work .now) = ap length (c .before .before .loop .inv .1) ∙ length-stored _ _ _ _ in omega arith
+mul-work c =
+    let c4 = c .before .before .before .before in
+    let lw : length (c .before .before .loop .work) ≡ length (c4 .args .work .now) = ap length (c .before .before .loop .inv .1)
+    ∙ length-stored _ _ _ _ in omega arith
 
 slice-write-work : tie.Need-slice-write-work Inv-loop μ-loop
-slice-write-work c = let lw : length (c .before .before .loop .work) ≡ length (c .before .before .before .before .args .work .now) = ap length (c .before .before .loop .inv .1) ∙ length-stored _ _ _ _ in omega arith
+slice-write-work c =
+    let c4 = c .before .before .before .before in
+    let lw : length (c .before .before .loop .work) ≡ length (c4 .args .work .now) = ap length (c .before .before .loop .inv .1)
+    ∙ length-stored _ _ _ _ in omega arith
 
 add-a : tie.Need-add-a Inv-loop μ-loop
 add-a c = omega arith
@@ -49,7 +58,9 @@ same-length : tie.Need-same-length Inv-loop μ-loop
 same-length c = ap length (c .before .loop .inv .1) ∙ length-stored _ _ _ _
 
 returns : tie.Need-returns Inv-loop μ-loop
-returns c = let e : c .before .loop .a ≡ c .before .before .before .args .stride = omega arith in c .before .loop .inv .1 ∙ ap (stored _ _ _) e
+returns c =
+    let c3 = c .before .before .before in
+    let e : c .before .loop .a ≡ c3 .args .stride = omega arith in c .before .loop .inv .1 ∙ ap (stored _ _ _) e
 
 pub maturity-row-spec : {M : Type 1} → statement M
 maturity-row-spec =

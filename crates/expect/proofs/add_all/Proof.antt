@@ -12,15 +12,16 @@ Inv-loop sums₀ work starts weights average from n k₀ sums k = (k ≤ average
 abbrev μ-loop : tie.MeasureT-loop
 μ-loop sums₀ work starts weights average from n k₀ sums k = average .count - k
 
+set-first-requires : tie.Need-set-first-requires Inv-loop μ-loop
+set-first-requires c κs = c .before .before .pre
+
 loop-holds : tie.Need-loop-holds Inv-loop μ-loop
-loop-holds c = (omega arith, c .before .pre .1)
+loop-holds c = (c .set-first .ensures .1, c .set-first .ensures .0)
 
 add-next-requires : tie.Need-add-next-requires Inv-loop μ-loop
 add-next-requires c κs =
-    let pre = c .before .before .before .before .before .pre in
-    let loop = c .before .before .before .loop in
-    let if1 = c .before .if1 in
-    (pre .0, loop .inv .1, if1 .taken)
+    let pre = c .before .before .before .before .before .before .before .pre in
+    (pre .0, c .before .before .before .loop .inv .1, c .before .if1 .taken)
 
 loop-less : tie.Need-loop-less Inv-loop μ-loop
 loop-less c = omega (arith, c .add-next .ensures .1, c .add-next .ensures .2)
@@ -30,12 +31,20 @@ loop-again c = (c .add-next .ensures .2, c .add-next .ensures .0)
 
 returns : tie.Need-returns Inv-loop μ-loop
 returns c =
-    let args = c .before .before .before .before .args in
+    let args = c .before .before .before .before .before .before .args in
     let loop = c .before .before .loop in
-    let if1 = c .if1 in
-    let e : loop .k ≡ args .average .count = omega (arith, if1 .left) in
+    let e : loop .k ≡ args .average .count = omega (arith, c .if1 .left) in
     subst (Summed (args .work .now) (args .starts .now) (args .weights .now) (loop .sums) (args .from) (args .n)) e (loop .inv .1)
 
 pub add-all-spec : {M : Type 1} → statement M
 add-all-spec =
-    tie.close (tie.spec Inv-loop μ-loop loop-holds add-next-requires loop-less loop-again returns)
+    tie.close
+    (tie.spec
+    Inv-loop
+    μ-loop
+    set-first-requires
+    loop-holds
+    add-next-requires
+    loop-less
+    loop-again
+    returns)

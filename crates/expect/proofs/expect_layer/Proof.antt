@@ -1,26 +1,29 @@
 -- `expect::expect_layer` meets its contract. Assumes nothing.
 use Prim.Native.Nat.{ℕ, _+_, _*_, _-_, _≤_}
-use lib.ListN.{length, getD}
-use mathlib.Core.List.{List}
+use lib.ListN.{length}
 use mathlib.Core.Path.{_≡_, refl, ap, _∙_}
-use native.Mathlib.Nat.{le-trans}
+use native.Mathlib.Nat.{le-trans, le-of-eq}
 use native.Mathlib.Omega.{arith}
 use Rattle.contract.specs.Reading.{termsIn}
-use Rattle.expect.specs.Expected.{expected}
+use Rattle.expect.specs.Expected.{expected, scaled}
 use Rattle.laws.specs.Bounds.{value-most}
 use Rattle.rules.specs.Contract.{returnsOf}
 use Rattle.rules.specs.FixedTerm.{layerSize}
 use Rattle.slices.specs.Rows.{cells, flat}
-use Rattle.slices.specs.Stored.{stored, stored-first, stored-none, length-stored}
-use Rattle.expect.proofs.Laws.{within-kept, expect-step}
+use Rattle.slices.specs.Stored.{stored, stored-none, length-stored}
+use Rattle.expect.proofs.Laws.{filled, within-kept, expect-step}
 use Rattle.expect.proofs.expect_layer.Statement.{statement}
 use Rattle.expect.proofs.expect_layer.Tie as tie
 
 abbrev Inv-loop : tie.InvT-loop
-Inv-loop work₀ list count c stride size weights average end balance₀ work balance = (balance ≤ end) × (work ≡ stored work₀ size (flat stride (expected (termsIn c) (returnsOf list) (cells work₀ 0 stride))) (balance * stride))
+Inv-loop work₀ list count c stride size weights average sums₀ end balance₀ work sums balance =
+    (balance ≤ end)
+    × (work
+    ≡ stored work₀ size (flat stride (scaled (expected (termsIn c) (returnsOf list) (cells work₀ 0 stride)))) (balance * stride))
+    × (256 ≤ length sums)
 
 abbrev μ-loop : tie.MeasureT-loop
-μ-loop work₀ list count c stride size weights average end balance₀ work balance = end - balance
+μ-loop work₀ list count c stride size weights average sums₀ end balance₀ work sums balance = end - balance
 
 add-stride : tie.Need-add-stride Inv-loop μ-loop
 add-stride c =
@@ -47,48 +50,54 @@ add-end c =
     omega (arith, pre .1 .layers .valid .top)
 
 loop-holds : tie.Need-loop-holds Inv-loop μ-loop
-loop-holds c = (omega arith, stored-none _ _ _ _)
+loop-holds c = (omega arith, stored-none _ _ _ _, le-of-eq refl)
 
 expect-balance-requires : tie.Need-expect-balance-requires Inv-loop μ-loop
 unfolding layerSize
 expect-balance-requires c κs =
-    let pre = c .before .before .before .before .before .before .before .before .before .before .before .before .before .pre in
-    let args = c .before .before .before .before .before .before .before .before .before .before .before .before .before .args in
-    let fill-weights = c .before .before .before .before .before .before .before .fill-weights in
-    let most = c .before .before .before .before .before .most in
-    let loop = c .before .before .before .loop in
-    let e : length (loop .work) ≡ length (args .work .now) = ap length (loop .inv .1) ∙ length-stored _ _ _ _ in
-    record {
-      listing = pre .0;
-      layers = record { valid = pre .1 .layers .valid; room = omega (arith, pre .1 .layers .room) };
-      discount-is = refl;
-      most-is = le-trans (most .ensures .0) (value-most (pre .1 .layers .valid));
-      small = within-kept (termsIn (args .c)) (args .work .now) (loop .work) _ _ (most .ensures .1) (loop .inv .1);
-      weights-are = λ k l. ap (λ (xs : List ℕ). getD xs k 0) (fill-weights .ensures) ∙ stored-first _ _ _ k (pre .0 .few) l;
-      balance-is = omega arith;
-      stride-is = refl;
-      size-is = refl;
-    }
+    let start = c .before .before .before .before .before .before .before .before .before .before .before .before .before .before in
+    let pre = start .pre in
+    let work₀ = start .args .work .now in
+    let fill-weights = c .before .before .before .before .before .before .before .before .fill-weights in
+    let most = c .before .before .before .before .before .before .most in
+    let loop = c .before .before .before .before .loop in
+    let e : length (loop .work) ≡ length work₀ = ap length (loop .inv .1) ∙ length-stored _ _ _ _ in (
+      record {
+        listing = pre .0;
+        layers = record { valid = pre .1 .layers .valid; room = omega (arith, pre .1 .layers .room) };
+        discount-is = refl;
+        most-is = le-trans (most .ensures .0) (value-most (pre .1 .layers .valid));
+        small = within-kept (termsIn (start .args .c)) work₀ (loop .work) _ _ (most .ensures .1) (loop .inv .1);
+        weights-are = filled _ _ _ (fill-weights .ensures) (pre .0 .few);
+        balance-is = omega arith;
+        stride-is = refl;
+        size-is = refl;
+      },
+      loop .inv .2,
+    )
 
 add-balance : tie.Need-add-balance Inv-loop μ-loop
 add-balance c =
-    let pre = c .before .before .before .before .before .before .before .before .before .before .before .before .before .before .before .before .pre in
-    omega (arith, pre .1 .layers .valid .top)
+    let turn = c .before .before .before .before .before .before in
+    omega (arith, turn .before .before .before .before .before .before .before .before .before .before .before .pre .1 .layers .valid .top)
 
 loop-less : tie.Need-loop-less Inv-loop μ-loop
 loop-less c = omega arith
 
 loop-again : tie.Need-loop-again Inv-loop μ-loop
 loop-again c =
-    let args = c .before .before .before .before .before .before .before .before .before .before .before .before .before .before .before .before .args in
-    let loop = c .before .before .before .before .before .before .loop in
+    let turn = c .before .before .before .before .before .before in
+    let args = turn .before .before .before .before .before .before .before .before .before .before .before .args in
+    let loop = turn .before .loop in
     let expect-balance = c .before .before .expect-balance in
-    let list₀ = args .list .now in
     let c₀ = args .c in
-    let balance' = loop .balance in
-    let step = expect-step (termsIn c₀) (returnsOf list₀) (args .work .now) (c₀ .premium + 1) ((c₀ .top + 1) * (c₀ .premium + 1)) refl balance' in
-    let moved = ap (λ (xs : List ℕ). stored xs (((c₀ .top + 1) * (c₀ .premium + 1)) + balance' * (c₀ .premium + 1)) (expected (termsIn c₀) (returnsOf list₀) (cells xs 0 (c₀ .premium + 1)) balance') (c₀ .premium + 1)) (loop .inv .1) in
-    (omega arith, expect-balance .ensures ∙ moved ∙ step)
+    let step =
+    expect-step (termsIn c₀) (returnsOf (args .list .now)) (args .work .now) (c₀ .premium + 1) ((c₀ .top + 1) * (c₀ .premium + 1)) refl
+    in (
+      omega arith,
+      expect-balance .ensures .0 ∙ step (loop .balance) (loop .work) (loop .inv .1),
+      expect-balance .ensures .1,
+    )
 
 same-length : tie.Need-same-length Inv-loop μ-loop
 same-length c = ap length (c .before .loop .inv .1) ∙ length-stored _ _ _ _
@@ -100,9 +109,10 @@ returns c =
     let loop = c .before .loop in
     let work₀ = args .work .now in
     let c₀ = args .c in
+    let sums = flat (c₀ .premium + 1) (scaled (expected (termsIn c₀) (returnsOf (args .list .now)) (cells work₀ 0 (c₀ .premium + 1)))) in
     let e : loop .balance ≡ c₀ .top + 1 = omega arith in
     loop .inv .1
-    ∙ ap (λ (b : ℕ). stored work₀ ((c₀ .top + 1) * (c₀ .premium + 1)) (flat (c₀ .premium + 1) (expected (termsIn c₀) (returnsOf (args .list .now)) (cells work₀ 0 (c₀ .premium + 1)))) (b * (c₀ .premium + 1))) e
+    ∙ ap (λ (b : ℕ). stored work₀ ((c₀ .top + 1) * (c₀ .premium + 1)) sums (b * (c₀ .premium + 1))) e
 
 pub expect-layer-spec : {M : Type 1} → statement M
 expect-layer-spec =

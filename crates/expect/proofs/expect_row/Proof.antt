@@ -1,5 +1,5 @@
 -- `expect::expect_row` meets its contract. Assumes nothing.
-use Prim.Native.Nat.{ℕ, _+_, _-_, _≤_}
+use Prim.Native.Nat.{ℕ, _+_, _*_, _-_, _≤_}
 use borrow.Author.Needs.{needs}
 use lib.ListN.{length}
 use mathlib.Core.List.{List}
@@ -14,14 +14,17 @@ use Rattle.expect.proofs.expect_row.Statement.{statement}
 use Rattle.expect.proofs.expect_row.Tie as tie
 
 abbrev Inv-loop : tie.InvT-loop
-Inv-loop work₀ starts weights average to stride from₀ work from = (from ≤ stride) × (work ≡ stored work₀ to (λ x. discounted (average .discount) (sum (term work₀ starts weights x) (average .count))) from)
+Inv-loop work₀ sums₀ starts weights average to stride from₀ work sums from =
+    (from ≤ stride)
+    × (work ≡ stored work₀ to (λ x. 8192 * discounted (average .discount) (sum (term work₀ starts weights x) (average .count))) from)
+    × (256 ≤ length sums)
 
 abbrev μ-loop : tie.MeasureT-loop
-μ-loop work₀ starts weights average to stride from₀ work from = stride - from
+μ-loop work₀ sums₀ starts weights average to stride from₀ work sums from = stride - from
 
 loop-holds : tie.Need-loop-holds Inv-loop μ-loop
 unfolding stored
-loop-holds c = (omega arith, refl)
+loop-holds c = (omega arith, refl, c .before .pre .1)
 
 sub-smaller : tie.Need-sub-smaller Inv-loop μ-loop
 sub-smaller c = omega arith
@@ -31,40 +34,47 @@ smaller-requires c κs = search needs
 
 expect-run-requires : tie.Need-expect-run-requires Inv-loop μ-loop
 expect-run-requires c κs =
-    let pre = c .before .before .before .before .before .pre in
-    let loop = c .before .before .before .loop in
-    let smaller = c .before .smaller in
-    (row-part pre (loop .work) _ _ (loop .from + smaller .result) (loop .inv .1) (let e = smaller .ensures in omega arith), let e = smaller .ensures in omega arith)
+    let loop = c .before .before .before .before .loop in
+    let n = c .before .before .smaller .result in
+    let e = c .before .before .smaller .ensures in
+    let row = c .before .before .before .before .before .before .pre .0 in
+    (row-part row (loop .work) _ _ (loop .from + n) (loop .inv .1) (omega arith), omega arith, loop .inv .2)
 
 add-from : tie.Need-add-from Inv-loop μ-loop
-add-from c = let e = c .before .before .before .before .smaller .ensures in omega (arith, c .before .before .before .before .before .before .before .before .pre .room)
+add-from c =
+    let row = c .before .before .before .before .before .before .before .before .before .pre .0 in
+    let e = c .before .before .before .before .before .smaller .ensures in
+    omega (arith, row .room)
 
 loop-less : tie.Need-loop-less Inv-loop μ-loop
-loop-less c = let e = c .before .before .before .before .smaller .ensures in omega arith
+loop-less c = let e = c .before .before .before .before .before .smaller .ensures in omega arith
 
 loop-again : tie.Need-loop-again Inv-loop μ-loop
 loop-again c =
-    let args = c .before .before .before .before .before .before .before .before .args in
-    let pre = c .before .before .before .before .before .before .before .before .pre in
-    let loop = c .before .before .before .before .before .before .loop in
-    let smaller = c .before .before .before .before .smaller in
-    let expect-run = c .before .before .expect-run in
-    let y = args in
+    let y = c .before .before .before .before .before .before .before .before .before .args in
+    let pre = c .before .before .before .before .before .before .before .before .before .pre .0 in
+    let loop = c .before .before .before .before .before .before .before .loop in
     let from = loop .from in
-    let n = smaller .result in
-    let e = smaller .ensures in
-    let moved = ap (λ (xs : List ℕ). stored xs (y .to + from) (λ j. discounted (y .average .discount) (sum (term xs (y .starts .now) (y .weights .now) (from + j)) (y .average .count))) n) (loop .inv .1) in (
+    let n = c .before .before .before .before .before .smaller .result in
+    let e = c .before .before .before .before .before .smaller .ensures in
+    let expect-run = c .before .before .expect-run in
+    let value : ℕ → ℕ = λ s. 8192 * discounted (y .average .discount) s in
+    let total : List ℕ → ℕ → ℕ = λ xs j. sum (term xs (y .starts .now) (y .weights .now) (from + j)) (y .average .count) in
+    let moved = ap (λ (xs : List ℕ). stored xs (y .to + from) (λ j. value (total xs j)) n) (loop .inv .1) in (
       omega arith,
-      expect-run .ensures
+      expect-run .ensures .0
           ∙ moved
-          ∙ stored-join (y .work .now) (y .to) _ _ from n (λ j l. ap (discounted (y .average .discount)) (row-sum pre _ from (from + j) (omega arith))),
+          ∙ stored-join (y .work .now) (y .to) _ _ from n (λ j l. ap value (row-sum pre _ from (from + j) (omega arith))),
+      expect-run .ensures .1,
     )
 
 same-length : tie.Need-same-length Inv-loop μ-loop
 same-length c = ap length (c .before .loop .inv .1) ∙ length-stored _ _ _ _
 
 returns : tie.Need-returns Inv-loop μ-loop
-returns c = let e : c .before .loop .from ≡ c .before .before .before .args .stride = omega arith in rw (sym e) (c .before .loop .inv .1)
+returns c =
+    let e : c .before .loop .from ≡ c .before .before .before .args .stride = omega arith in
+    (rw (sym e) (c .before .loop .inv .1), c .before .loop .inv .2)
 
 pub expect-row-spec : {M : Type 1} → statement M
 expect-row-spec =

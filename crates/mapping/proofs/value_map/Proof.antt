@@ -59,7 +59,7 @@ map-size-requires c κs =
     let agreement = c .before .agreement in
     let args = c .before .before .before .before .before .before .before .before .before .before .before .args in
     let told = agreed _ (args .bytes .now) (args .list .now) _ _ (sym (check .ensures) ∙ agreement .given .1) in
-    lent (args .bytes .now) (args .list .now) (args .behaviour) (args .work .now) (args .table .now) told .ready .valid
+    lent (args .bytes .now) (args .list .now) (args .behaviour) (args .work .now) (args .table .now) told .alone .ready .valid
 
 refused-requires-2 : tie.Need-refused-requires-2
 refused-requires-2 c κs = search needs
@@ -89,7 +89,7 @@ valued-requires c κs =
     let agreement = c .before .before .before .before .before .agreement in
     let args = c .before .before .before .before .before .before .before .before .before .before .before .before .before .before .before .args in
     let told = agreed _ (args .bytes .now) (args .list .now) _ _ (sym (check .ensures) ∙ agreement .given .1) in
-    lent (args .bytes .now) (args .list .now) (args .behaviour) (args .work .now) (args .table .now) told
+    lent (args .bytes .now) (args .list .now) (args .behaviour) (args .work .now) (args .table .now) told .alone
 
 fill-requires : tie.Need-fill-requires
 fill-requires c κs =
@@ -100,7 +100,7 @@ fill-requires c κs =
     let args = c .before .before .before .before .before .before .before .before .before .before .before .before .before .before .before .before .before .before .before .before .before .before .args in
     let told = agreed _ (args .bytes .now) (args .list .now) _ _ (sym (check .ensures) ∙ agreement .given .1) in
     let given = lent (args .bytes .now) (args .list .now) (args .behaviour) (args .work .now) (args .table .now) told in
-    record { valid = given .ready .valid; entries = omega (arith, given .room-table); words = omega (arith, map-size .ensures, if1 .left) }
+    record { valid = given .alone .ready .valid; entries = omega (arith, given .room-table); words = omega (arith, map-size .ensures, if1 .left) }
 
 same-length-5 : tie.Need-same-length-5
 same-length-5 c = search needs

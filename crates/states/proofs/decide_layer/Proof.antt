@@ -1,114 +1,83 @@
 -- `states::decide_layer` meets its contract. Assumes nothing.
-use Prim.Native.Nat.{ℕ, _+_, _-_, _≤_}
-use borrow.Author.Needs.{needs}
-use mathlib.Core.List.{List}
-use mathlib.Core.Path.{_≡_, sym, subst}
-use native.Mathlib.Nat.{le-refl}
+use lib.ListN.{length}
+use mathlib.Core.Logic.{inl, inr}
+use mathlib.Core.Path.{_≡_, refl, sym, ap, _∙_}
+use native.Mathlib.Nat.{le-trans, zero-mul}
 use native.Mathlib.Omega.{arith}
-use Rattle.worth.specs.Worth.{bestValue, bestAmount}
+use Prim.Native.Nat.{_+_, _-_, _*_, _≤_}
+use Rattle.keys.specs.Sums.{sums}
 use Rattle.rules.specs.Operations.{behaviourOf}
-use Rattle.slices.specs.Decided.{Decided, decided-none, decided-row, decided-all}
-use Rattle.slices.specs.Rows.{cells}
-use Rattle.states.proofs.Laws.{below-most, next-row, value-row, amount-row}
+use Rattle.slices.specs.Rows.{rows-before, rows-le}
+use Rattle.states.proofs.Blocks.{decided-none, decided-join}
+use Rattle.states.proofs.Layer.{rows-ready, ready-kept, sums-left, decided-all}
+use Rattle.states.specs.Decided.{Decided}
 use Rattle.states.proofs.decide_layer.Statement.{statement}
 use Rattle.states.proofs.decide_layer.Tie as tie
 
 abbrev Inv-loop : tie.InvT-loop
-Inv-loop behaviour work₀ table₀ base stride n level rate most rising w₀ work table w = (w ≤ n) × Decided work₀ work stride w n (bestValue (behaviourOf behaviour) (cells work₀ base stride) rate level) × Decided table₀ table stride w n (bestAmount (behaviourOf behaviour) (cells work₀ base stride) rate level)
+Inv-loop behaviour work₀ table₀ d n rising best₀ w₀ work table best w =
+    (w ≤ n) × Decided (behaviourOf behaviour) (sums work₀ d) work₀ table₀ work table d (w * d .stride) (n * d .stride)
+    × (256 ≤ length best)
 
 abbrev μ-loop : tie.MeasureT-loop
-μ-loop behaviour work₀ table₀ base stride n level rate most rising w₀ work table w = w
+μ-loop behaviour work₀ table₀ d n rising best₀ w₀ work table best w = w
 
-sub-smaller : tie.Need-sub-smaller Inv-loop μ-loop
-sub-smaller c = omega (arith, c .before .before .pre .1)
-
-smaller-requires : tie.Need-smaller-requires Inv-loop μ-loop
-smaller-requires c κs = search needs
-
-rising-requires : tie.Need-rising-requires Inv-loop μ-loop
-rising-requires c κs = let r = c .before .before .before .before .pre .0 .room in (r .few, c .before .before .before .before .pre .0 .width, r .room)
+prepare-requires : tie.Need-prepare-requires Inv-loop μ-loop
+prepare-requires c κs = c .before .before .before .pre .1
 
 loop-holds : tie.Need-loop-holds Inv-loop μ-loop
-loop-holds c = (le-refl _, decided-none _ _ _ _, decided-none _ _ _ _)
+loop-holds c = (omega arith, decided-none (omega arith), omega arith)
 
 sub-w : tie.Need-sub-w Inv-loop μ-loop
 sub-w c = omega arith
 
 decide-row-requires : tie.Need-decide-row-requires Inv-loop μ-loop
 decide-row-requires c κs =
-    let args = c .before .before .before .before .before .before .before .before .before .args in
-    let work₀ = args .work .now in
-    let behaviour₀ = args .behaviour in
-    let stride₀ = args .stride in
-    let level₀ = args .level in
-    let base₀ = args .base in
-    let rate₀ = args .rate in
-    let n₀ = args .n in
-    let pre = c .before .before .before .before .before .before .before .before .before .pre in
-    let smaller = c .before .before .before .before .before .before .smaller in
-    let rising = c .before .before .before .before .rising in
-    let loop = c .before .before .before .loop in
-    let w' = loop .w in
-    let up : w' ≡ w' - 1 + 1 = omega arith in
-    let h : w' - 1 + 1 ≤ n₀ = omega arith in
-    let x = subst (λ (k : ℕ). Decided work₀ (loop .work) stride₀ k n₀ (bestValue (behaviourOf behaviour₀) (cells work₀ base₀ stride₀) rate₀ level₀)) up (loop .inv .1) in
-    let y = subst (λ (k : ℕ). Decided (args .table .now) (loop .table) stride₀ k n₀ (bestAmount (behaviourOf behaviour₀) (cells work₀ base₀ stride₀) rate₀ level₀)) up (loop .inv .2) in
-    next-row (pre .0) (w' - 1) h x y (below-most level₀ stride₀ (smaller .result) (pre .1) (smaller .ensures)) (rising .ensures)
+    let c4 = c .before .before .before .before in
+    let c7 = c4 .before .before .before in
+    let c11 = c7 .before .before .before .before in
+    let pre = c11 .pre in
+    let d = c11 .args .d in
+    let loop = c4 .loop in
+    let w = loop .w - 1 in
+    let row = rows-before (d .stride) (loop .w) (omega arith) in
+    let ready = rows-ready (pre .1) (c7 .prepare .ensures) (pre .0) w (omega arith) in
+    let kept = ready-kept ready (loop .inv .1 .long) (λ i h. loop .inv .1 .rest i (inl (omega arith)))
+    (λ i h. loop .inv .1 .rest i (inr (le-trans (pre .1 .apart) h))) in
+    (kept, loop .inv .2)
 
 loop-less : tie.Need-loop-less Inv-loop μ-loop
 loop-less c = omega arith
 
 loop-again : tie.Need-loop-again Inv-loop μ-loop
 loop-again c =
-    let args = c .before .before .before .before .before .before .before .before .before .before .before .before .before .before .args in
-    let table₀ = args .table .now in
-    let work₀ = args .work .now in
-    let behaviour₀ = args .behaviour in
-    let stride₀ = args .stride in
-    let level₀ = args .level in
-    let base₀ = args .base in
-    let rate₀ = args .rate in
-    let n₀ = args .n in
-    let pre = c .before .before .before .before .before .before .before .before .before .before .before .before .before .before .pre in
-    let smaller = c .before .before .before .before .before .before .before .before .before .before .before .smaller in
-    let loop = c .before .before .before .before .before .before .before .before .loop in
-    let w' = loop .w in
-    let decide-row = c .before .before .before .before .decide-row in
-    let up : w' ≡ w' - 1 + 1 = omega arith in
-    let h : w' - 1 + 1 ≤ n₀ = omega arith in
-    let x = subst (λ (k : ℕ). Decided work₀ (loop .work) stride₀ k n₀ (bestValue (behaviourOf behaviour₀) (cells work₀ base₀ stride₀) rate₀ level₀)) up (loop .inv .1) in
-    let y = subst (λ (k : ℕ). Decided table₀ (loop .table) stride₀ k n₀ (bestAmount (behaviourOf behaviour₀) (cells work₀ base₀ stride₀) rate₀ level₀)) up (loop .inv .2) in
-    let r = pre .0 .room in
-    let values = decided-row (w' - 1) _ x (omega arith) (omega (arith, r .room, r .apart)) (value-row (pre .0) (w' - 1) h x y (behaviourOf behaviour₀) level₀ (smaller .result) (smaller .ensures)) in
-    let amounts = decided-row (w' - 1) _ y (omega arith) (r .entries) (amount-row (pre .0) (w' - 1) h x y (behaviourOf behaviour₀) level₀ (smaller .result) (smaller .ensures)) in (
+    let c4 = c .before .before .before .before in
+    let c9 = c4 .before .before .before .before .before in
+    let c12 = c9 .before .before .before in
+    let c16 = c12 .before .before .before .before in
+    let pre = c16 .pre in
+    let d = c16 .args .d in
+    let loop = c9 .loop in
+    let row = rows-before (d .stride) (loop .w) (omega arith) in
+    let below = rows-le (d .stride) (loop .w) (c16 .args .n) (loop .inv .0) in
+    let same = sums-left (c12 .prepare .last .1 .0) (loop .work) d (λ i h. loop .inv .1 .rest i (inr (le-trans (pre .1 .apart) h))) in (
       omega arith,
-      subst (λ (xs : List ℕ). Decided work₀ xs stride₀ (w' - 1) n₀ (bestValue (behaviourOf behaviour₀) (cells work₀ base₀ stride₀) rate₀ level₀)) (sym (decide-row .ensures .0)) values,
-      subst (λ (xs : List ℕ). Decided table₀ xs stride₀ (w' - 1) n₀ (bestAmount (behaviourOf behaviour₀) (cells work₀ base₀ stride₀) rate₀ level₀)) (sym (decide-row .ensures .1)) amounts,
+      decided-join same (loop .inv .1) (c4 .decide-row .ensures .0) (inr (sym row, refl, refl)) below (omega arith),
+      c4 .decide-row .ensures .1,
     )
 
 same-length : tie.Need-same-length Inv-loop μ-loop
-same-length c = c .before .loop .inv .1 .long
+same-length c = c .before .loop .inv .1 .long ∙ c .before .before .before .before .prepare .ensures .long
 
 same-length-2 : tie.Need-same-length-2 Inv-loop μ-loop
-same-length-2 c = c .before .loop .inv .2 .long
+same-length-2 c = c .before .loop .inv .1 .long-table
 
 returns : tie.Need-returns Inv-loop μ-loop
 returns c =
-    let args = c .before .before .before .before .before .before .before .args in
-    let work₀ = args .work .now in
-    let behaviour₀ = args .behaviour in
-    let stride₀ = args .stride in
-    let level₀ = args .level in
-    let base₀ = args .base in
-    let rate₀ = args .rate in
-    let n₀ = args .n in
-    let pre = c .before .before .before .before .before .before .before .pre in
-    let loop = c .before .loop in
-    let z : loop .w ≡ 0 = omega arith in
-    let r = pre .0 .room in (
-      decided-all (subst (λ (k : ℕ). Decided work₀ (loop .work) stride₀ k n₀ (bestValue (behaviourOf behaviour₀) (cells work₀ base₀ stride₀) rate₀ level₀)) z (loop .inv .1)) (pre .1) (omega (arith, r .room, r .apart)),
-      decided-all (subst (λ (k : ℕ). Decided (args .table .now) (loop .table) stride₀ k n₀ (bestAmount (behaviourOf behaviour₀) (cells work₀ base₀ stride₀) rate₀ level₀)) z (loop .inv .2)) (pre .1) (r .entries),
-    )
+    let c4 = c .before .before .before .before in
+    let c8 = c4 .before .before .before .before in
+    let none : c .before .loop .w ≡ 0 = omega arith in
+    decided-all (c8 .pre .1) (c4 .prepare .ensures) (ap (λ x. x * c8 .args .d .stride) none ∙ zero-mul _) (c .before .loop .inv .1)
 
 pub decide-layer-spec : {M : Type 1} → statement M
 decide-layer-spec =
@@ -116,9 +85,7 @@ decide-layer-spec =
     (tie.spec
     Inv-loop
     μ-loop
-    sub-smaller
-    smaller-requires
-    rising-requires
+    prepare-requires
     loop-holds
     sub-w
     decide-row-requires

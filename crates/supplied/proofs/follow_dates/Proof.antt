@@ -7,7 +7,7 @@ use Rattle.contract.specs.Reading.{termsIn}
 use Rattle.rules.specs.Contract.{returnsOf}
 use Rattle.supplied.specs.Followed.{tableOn}
 use Rattle.valuing.specs.First.{First}
-use Rattle.supplied.proofs.Laws.{one-date, first-before, first-none}
+use Rattle.supplied.proofs.Laws.{dating, first-before, first-none}
 use Rattle.supplied.proofs.follow_dates.Statement.{statement}
 use Rattle.supplied.proofs.follow_dates.Tie as tie
 
@@ -50,7 +50,7 @@ follow-date-requires c κs =
     let part = c .before .before .before .layer-of .ensures in
     let loop = c .before .before .before .before .before .loop in
     let taken = c .before .before .before .before .loop-test .taken in
-    one-date pre part taken (loop .inv .0) (loop .inv .1) (c .before .before .rate-on .ensures .1)
+    dating pre part taken (loop .inv .0) (loop .inv .1) (c .before .before .rate-on .ensures .1)
 
 sub-i-2 : tie.Need-sub-i-2 Inv-loop μ-loop
 sub-i-2 c = omega arith

@@ -1,15 +1,15 @@
 -- `supplied::worth` meets its contract. Assumes nothing.
-use Prim.Native.Nat.{ℕ, _+_, _*_, _≤_, _<_}
+use Prim.Native.Nat.{ℕ, _+_, _/_, _≤_, _<_}
 use borrow.Author.Needs.{needs}
-use lib.ListN.{length}
-use mathlib.Core.Path.{ap, ap₂, _∙_}
+use lib.ListN.{length, getD}
+use mathlib.Core.Path.{_≡_, ap, ap₂, _∙_}
 use native.Mathlib.Nat.{le-trans, le-of-eq, sub-le}
 use native.Mathlib.Omega.{arith}
-use Rattle.worth.specs.Worth.{worthOver}
+use Rattle.keys.specs.Sums.{sums}
 use Rattle.laws.specs.Date.{guarantee-le}
 use Rattle.rules.specs.Date.{cash, balanceAfter, guaranteeAfter}
-use Rattle.slices.specs.Rows.{cells}
-use Rattle.supplied.proofs.Laws.{place}
+use Rattle.worth.specs.Worth.{worthOver}
+use Rattle.supplied.proofs.Laws.{sum-within, sum-most, amount-most}
 use Rattle.supplied.proofs.worth.Statement.{statement}
 use Rattle.supplied.proofs.worth.Tie as tie
 
@@ -22,27 +22,33 @@ guarantee-after-requires c κs = search needs
 balance-after-requires : tie.Need-balance-after-requires
 balance-after-requires c κs = search needs
 
-left : (c : tie.After-balance-after) → (c .balance-after .result ≤ c .before .before .before .before .args .w) × (c .before .guarantee-after .result ≤ c .before .before .before .before .args .a)
+left : (c : tie.After-balance-after)
+    → (c .balance-after .result ≤ c .before .before .before .before .args .w)
+    × (c .before .guarantee-after .result ≤ c .before .before .before .before .args .a)
 unfolding balanceAfter
 left c =
     let args = c .before .before .before .before .args in
     let g = guarantee-le (c .before .before .free-amount .result) (args .w) (args .a) (args .t) in
-    (le-trans (le-of-eq (c .balance-after .ensures)) (sub-le _ _), le-trans (le-of-eq (c .before .guarantee-after .ensures)) (le-trans g (sub-le _ _)))
+    let balance = le-of-eq (c .balance-after .ensures) in
+    let guarantee = le-of-eq (c .before .guarantee-after .ensures) in
+    (le-trans balance (sub-le _ _), le-trans guarantee (le-trans g (sub-le _ _)))
 
-at-within : (c : tie.After-balance-after) → c .before .before .before .before .args .base + (c .balance-after .result * c .before .before .before .before .args .stride + c .before .guarantee-after .result) < length (c .before .before .before .before .args .work .now)
-at-within c = place (c .before .before .before .before .pre .0) _ _ (left c .0) (left c .1)
+place-requires : tie.Need-place-requires
+place-requires c κs =
+    let pre = c .before .before .before .before .pre in
+    let p = sum-within _ (pre .0) (pre .1) _ _ (left c .0) (left c .1) in
+    omega arith
 
-mul-at : tie.Need-mul-at
-mul-at c = let p = at-within c in omega arith
-
-add-at : tie.Need-add-at
-add-at c = let p = at-within c in omega arith
-
-add-at-2 : tie.Need-add-at-2
-add-at-2 c = let p = at-within c in omega arith
+at-within : (c : tie.After-place) → c .place .result < length (c .before .before .before .before .before .args .work .now)
+at-within c =
+    let pre = c .before .before .before .before .before .pre in
+    let p = sum-within _ (pre .0) (pre .1) _ _ (left (c .before) .0) (left (c .before) .1) in
+    rw (c .place .ensures) p
 
 cash-requires : tie.Need-cash-requires
-cash-requires c κs = search needs
+cash-requires c κs =
+    let pre = c .before .before .before .before .before .pre in
+    (pre .0 .rate-is, amount-most _ (pre .0) (pre .1) _ (pre .2))
 
 mul-wide : tie.Need-mul-wide
 mul-wide c = let p = at-within (c .before) in omega arith
@@ -53,22 +59,34 @@ shared-slice-read-wide c = at-within (c .before .before)
 wide-requires : tie.Need-wide-requires
 wide-requires c κs = search needs
 
+-- the discounted sum that is read
+sum-is : (c : tie.After-wide)
+    → c .wide .result
+    ≡ sums (c .before .before .before .before .before .before .before .before .args .work .now)
+    (c .before .before .before .before .before .before .before .before .args .d)
+    (c .before .before .before .before .balance-after .result)
+    (c .before .before .before .before .before .guarantee-after .result)
+sum-is c =
+    let args = c .before .before .before .before .before .before .before .before .args in
+    c .wide .ensures ∙ ap (λ (i : ℕ). getD (args .work .now) i 0 / 8192) (c .before .before .before .place .ensures)
+
 add-result : tie.Need-add-result
 add-result c =
-    let l = left (c .before .before .before) in
-    let s = c .before .before .before .before .before .before .before .pre .0 .small _ _ (l .0) (l .1) in
-    omega (arith, c .wide .ensures, c .before .before .cash .ensures .1)
+    let pre = c .before .before .before .before .before .before .before .before .pre in
+    let l = left (c .before .before .before .before) in
+    let s = sum-most _ (pre .0) (pre .1) _ _ (l .0) (l .1) in
+    omega (arith, sum-is c, c .before .before .cash .ensures .1)
 
 returns : tie.Need-returns
 unfolding worthOver
 returns c =
-    let args = c .before .before .before .before .before .before .before .args in
-    let t₀ = args .t in
-    let free-amount = c .before .before .before .before .before .free-amount in
-    let guarantee-after = c .before .before .before .before .guarantee-after in
-    let balance-after = c .before .before .before .balance-after in
-    let cash-of = c .before .before .cash in
-    ap₂ (λ (x y : ℕ). x + y) (cash-of .ensures .0 ∙ ap (λ (m : ℕ). cash (args .rate) m t₀) (free-amount .ensures)) (c .wide .ensures ∙ ap₂ (λ (x y : ℕ). cells (args .work .now) (args .base) (args .stride) x y) (balance-after .ensures) (guarantee-after .ensures ∙ ap (λ (m : ℕ). guaranteeAfter m (args .w) (args .a) t₀) (free-amount .ensures)))
+    let args = c .before .before .before .before .before .before .before .before .args in
+    let free = c .before .before .before .before .before .before .free-amount .ensures in
+    let cash-is = c .before .before .cash .ensures .0 ∙ ap (λ (m : ℕ). cash (args .d .rate) m (args .t)) free in
+    let after-free = ap (λ (m : ℕ). guaranteeAfter m (args .w) (args .a) (args .t)) free in
+    let guarantee-is = c .before .before .before .before .before .guarantee-after .ensures ∙ after-free in
+    let balance-is = c .before .before .before .before .balance-after .ensures in
+    ap₂ (λ (x y : ℕ). x + y) cash-is (sum-is c ∙ ap₂ (sums (args .work .now) (args .d)) balance-is guarantee-is)
 
 pub worth-spec : {M : Type 1} → statement M
 worth-spec =
@@ -77,9 +95,7 @@ worth-spec =
     free-amount-requires
     guarantee-after-requires
     balance-after-requires
-    mul-at
-    add-at
-    add-at-2
+    place-requires
     cash-requires
     mul-wide
     shared-slice-read-wide

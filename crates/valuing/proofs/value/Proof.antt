@@ -51,7 +51,7 @@ valued-requires : tie.Need-valued-requires
 valued-requires c κs =
     let args = c .before .before .before .before .before .before .before .before .before .before .before .before .args in
     lent (args .bytes .now) (args .list .now) (args .behaviour) (args .work .now) (args .table .now)
-    (agreed _ (args .bytes .now) (args .list .now) _ _ (sym (c .before .before .before .before .before .check .ensures) ∙ c .before .before .before .agreement .given .1))
+    (agreed _ (args .bytes .now) (args .list .now) _ _ (sym (c .before .before .before .before .before .check .ensures) ∙ c .before .before .before .agreement .given .1)) .alone
 
 same-length-3 : tie.Need-same-length-3
 same-length-3 c = search needs
@@ -68,7 +68,8 @@ returns-2 c =
     let work₀ = args .work .now in
     let table₀ = args .table .now in
     let told = agreed (valuingVerdict bytes₀ list₀ (args .behaviour) work₀ table₀) bytes₀ list₀ _ _ (sym (c .before .before .before .before .before .before .before .before .before .before .check .ensures) ∙ c .before .before .before .before .before .before .before .before .agreement .given .1) in
-    let w = reported (told .accepts) (told .terms) (c .before .before .before .before .valued .ensures) in
+    let given = lent bytes₀ list₀ (args .behaviour) work₀ table₀ told in
+    let w = reported (told .accepts) (told .terms) (given .room-table) (c .before .before .before .before .valued .ensures) in
     (w .answer-is, (w .work-is, (w .table-is, claimed bytes₀ list₀ (args .behaviour) work₀ table₀ w)))
 
 pub value-spec : {M : Type 1} → statement M

@@ -25,7 +25,7 @@ all-dates-requires : tie.Need-all-dates-requires
 unfolding layerSize
 all-dates-requires c κs =
     let pre = c .before .before .before .before .before .before .before .before .before .before .before .pre in
-    starting (c .before .before .before .before .before .before .before .before .before .before .before .args .work .now) (pre .ready .valid) (pre .ready .listing) (pre .known) (pre .room) (pre .room-table) (c .before .before .before .before .fill-maturity .ensures)
+    starting pre (c .before .before .before .before .fill-maturity .ensures)
 
 settle-requires : tie.Need-settle-requires
 unfolding layerSize
@@ -44,7 +44,7 @@ returns : tie.Need-returns
 unfolding layerSize
 returns c =
     let pre = c .before .before .before .before .before .before .before .before .before .before .before .before .before .before .before .before .before .before .before .before .pre in
-    answered _ _ (pre .ready .valid) (pre .room) (pre .room-table) (from-start _ (c .before .before .before .before .before .before .before .before .before .before .before .before .before .fill-maturity .ensures) (c .before .before .before .before .before .before .before .before .all-dates .ensures)) (c .before .before .settle .ensures)
+    answered _ _ (pre .ready .valid) (pre .room) (from-start _ (c .before .before .before .before .before .before .before .before .before .before .before .before .before .fill-maturity .ensures) (c .before .before .before .before .before .before .before .before .all-dates .ensures)) (c .before .before .settle .ensures)
 
 pub valued-spec : {M : Type 1} → statement M
 valued-spec =
