@@ -1,21 +1,25 @@
 //! Valuing a contract, tuned by hand: what the proved engine is timed against.
 //!
 //! Safe Rust without SIMD intrinsics, over the engine's design. Each date has two steps: the
-//! second layer is filled with E(b, a), the discounted sum for balance b and guarantee a; then
-//! the first layer is overwritten with the values of the date, the table's layer with its
-//! amounts. The two lent layers hold all states. Beyond them there are only rows: one row of
-//! sums, one of values, one of amounts, one of flags for the map of surrender, and the slices
-//! of the rows that a balance leads to.
+//! second layer is filled with E(b, a), the discounted sum for balance b and guarantee a, times
+//! 8,192; then the first layer is overwritten with the values of the date, the table's layer
+//! with its amounts. The two lent layers hold all states, and the states of an account are
+//! decided where their values will stand. Beyond them there are only rows: one of sums, one of
+//! flags for the map of surrender, and the slices of the rows that a balance leads to.
 //!
 //! What makes it fast: every loop that costs runs along the guarantee, so that it reads rows
-//! in order and the compiler can widen it; several rows are taken at once, so that the row
-//! being filled is loaded and stored less often; and no division stands in such a loop.
+//! in order and the compiler can widen it; value and amount are one number, a key, so that one
+//! maximum decides both; eight rows are summed at once, so that a sum is loaded and stored less
+//! often; and no division but by a power of two stands in a loop over choices.
 //!
-//! A value is at most 40 × 10,000 × 4,000 = 1,600,000,000, below 2^31.
+//! A value is at most 40 × 10,000 × 4,000 = 1,600,000,000, below 2^31; a key is below 2^44.
 
 use crate::gmwb::{Mapped, Valued};
 
 const UNIT: u64 = 10_000;
+
+/// Keys and stored sums hold values times this; every amount is below it.
+const SPAN: u64 = 8_192;
 
 struct Terms {
     premium: usize,
@@ -200,7 +204,6 @@ fn fill_table(
 ) -> (u64, i64) {
     let layer = terms.layer();
     let (values, expected) = work[..2 * layer].split_at_mut(layer);
-    let mut row = Row::new(terms);
     fill_maturity(terms, values);
     let layers = table[..terms.entries()].chunks_exact_mut(layer).enumerate();
     for (index, amounts) in layers.rev() {
@@ -209,7 +212,7 @@ fn fill_table(
         match behaviour {
             0 => decide_static(terms, values, expected, amounts),
             1 => decide_mixed(terms, net, values, expected, amounts),
-            _ => decide_dynamic(terms, net, values, expected, amounts, &mut row),
+            _ => decide_dynamic(terms, net, values, expected, amounts),
         }
     }
     expected.fill(0);
@@ -239,7 +242,7 @@ fn value_at_start(terms: &Terms, returns: &[Return], values: &[u64]) -> (u64, i6
 
 // ---------------------------------------------------- Step 1: expectation
 
-/// E(b, a) for every balance and guarantee, from the values of the next date.
+/// E(b, a) times `SPAN` for every balance and guarantee, from the values of the next date.
 fn expect_layer(terms: &Terms, returns: &[Return], values: &[u64], expected: &mut [u64]) {
     let stride = terms.stride();
     let mut sums = vec![0; stride];
@@ -252,7 +255,7 @@ fn expect_layer(terms: &Terms, returns: &[Return], values: &[u64], expected: &mu
         }
         sum_rows(&rows, &mut sums);
         for (e, sum) in out.iter_mut().zip(&sums) {
-            *e = terms.discounted(*sum);
+            *e = SPAN * terms.discounted(*sum);
         }
     }
 }
@@ -262,19 +265,15 @@ fn product(weight: u32, value: &u64) -> u64 {
 }
 
 /// The weighted sum of the rows, eight at a time: one load and one store of a sum for eight
-/// products.
+/// products, and no load for the first eight.
 fn sum_rows(rows: &[(u32, &[u64])], sums: &mut [u64]) {
-    sums.fill(0);
     let mut eights = rows.chunks_exact(8);
+    match eights.next() {
+        Some(eight) => sum_eight(eight, sums, |_, added| added),
+        None => sums.fill(0),
+    }
     for eight in &mut eights {
-        let (a, b, c, d) = (eight[0], eight[1], eight[2], eight[3]);
-        let (e, f, g, h) = (eight[4], eight[5], eight[6], eight[7]);
-        let low = a.1.iter().zip(b.1).zip(c.1).zip(d.1);
-        let high = e.1.iter().zip(f.1).zip(g.1).zip(h.1);
-        for (sum, ((((p, q), r), s), (((t, u), v), w))) in sums.iter_mut().zip(low.zip(high)) {
-            *sum += product(a.0, p) + product(b.0, q) + product(c.0, r) + product(d.0, s);
-            *sum += product(e.0, t) + product(f.0, u) + product(g.0, v) + product(h.0, w);
-        }
+        sum_eight(eight, sums, |sum, added| sum + added);
     }
     for (weight, row) in eights.remainder() {
         for (sum, value) in sums.iter_mut().zip(*row) {
@@ -283,27 +282,89 @@ fn sum_rows(rows: &[(u32, &[u64])], sums: &mut [u64]) {
     }
 }
 
+/// `joined` is given the sum in place and that of the eight products.
+fn sum_eight(eight: &[(u32, &[u64])], sums: &mut [u64], joined: impl Fn(u64, u64) -> u64) {
+    let (a, b, c, d) = (eight[0], eight[1], eight[2], eight[3]);
+    let (e, f, g, h) = (eight[4], eight[5], eight[6], eight[7]);
+    let low = a.1.iter().zip(b.1).zip(c.1).zip(d.1);
+    let high = e.1.iter().zip(f.1).zip(g.1).zip(h.1);
+    for (sum, ((((p, q), r), s), (((t, u), v), w))) in sums.iter_mut().zip(low.zip(high)) {
+        let first = product(a.0, p) + product(b.0, q) + product(c.0, r) + product(d.0, s);
+        let second = product(e.0, t) + product(f.0, u) + product(g.0, v) + product(h.0, w);
+        *sum = joined(*sum, first + second);
+    }
+}
+
+// ------------------------------------------------------------------- Keys
+
+/// Value and amount as one number: the larger key is the larger value and, at a tie, the
+/// smaller amount. A stored sum plus the key of cash and amount is the key of that choice.
+fn key(value: u64, amount: usize) -> u64 {
+    SPAN * value + (SPAN - 1 - amount as u64)
+}
+
+/// The plainest x86-64 compares no 64-bit numbers side by side, and keys are far below 2^63,
+/// so the sign of the difference tells. To take back a negative difference costs fewer
+/// instructions than to pick one of the two.
+fn larger(held: u64, other: u64) -> u64 {
+    let difference = held.wrapping_sub(other);
+    let negative = (difference as i64 >> 63) as u64;
+    held.wrapping_sub(difference & negative)
+}
+
+/// Offers states the choice of one cash and amount, whose key is given, with its sums.
+fn offer(states: &mut [u64], sums: &[u64], key: u64) {
+    for (held, sum) in states.iter_mut().zip(sums) {
+        *held = larger(*held, key + sum);
+    }
+}
+
+/// Leaves the values of a row of keys and stores their amounts.
+fn take_apart(row: &mut [u64], amounts: &mut [u16]) {
+    for (key, amount) in row.iter_mut().zip(amounts) {
+        // SPAN - 1 less the remainder, by bits.
+        *amount = !(*key as u16) % SPAN as u16;
+        *key /= SPAN;
+    }
+}
+
 // ----------------------------------------------- Step 2: static and mixed
 
-/// Every state draws m. Below the level m is the guarantee itself and none is left; from the
-/// level on it is the level, and the row of one balance is read in order.
+/// Fills a row from each state's m and the sum after withdrawing it. Below the level m is the
+/// guarantee itself and none is left; from the level on it is the level, and the row of one
+/// balance is read in order.
+fn fill_by_m(
+    terms: &Terms,
+    expected: &[u64],
+    account: usize,
+    row: &mut [u64],
+    filled: impl Fn(usize, u64) -> u64,
+) {
+    let (stride, level) = (terms.stride(), terms.level);
+    for m in 0..level {
+        row[m] = filled(m, expected[account.saturating_sub(m) * stride]);
+    }
+    let after = account.saturating_sub(level) * stride;
+    for (state, e) in row[level..].iter_mut().zip(&expected[after..]) {
+        *state = filled(level, *e);
+    }
+}
+
+/// Every state withdraws m; there is no choice, so no key either.
 fn decide_static(terms: &Terms, values: &mut [u64], expected: &[u64], amounts: &mut [u16]) {
     let (stride, level) = (terms.stride(), terms.level);
     let rows = values.chunks_exact_mut(stride);
     for (account, (row, drawn)) in rows.zip(amounts.chunks_exact_mut(stride)).enumerate() {
-        for m in 0..level {
-            row[m] = UNIT * m as u64 + expected[account.saturating_sub(m) * stride];
-            drawn[m] = m as u16;
-        }
-        let after = account.saturating_sub(level) * stride;
-        for (value, e) in row[level..].iter_mut().zip(&expected[after..]) {
-            *value = UNIT * level as u64 + e;
+        let value = |m, e| UNIT * m as u64 + e / SPAN;
+        fill_by_m(terms, expected, account, row, value);
+        for (m, amount) in drawn[..level].iter_mut().enumerate() {
+            *amount = m as u16;
         }
         drawn[level..].fill(level as u16);
     }
 }
 
-/// Static, then surrender where it is open and better; a tie keeps m, the smaller amount.
+/// The key of withdrawing m, or that of surrender where it is open and larger.
 fn decide_mixed(
     terms: &Terms,
     net: u64,
@@ -311,175 +372,109 @@ fn decide_mixed(
     expected: &[u64],
     amounts: &mut [u16],
 ) {
-    decide_static(terms, values, expected, amounts);
-    let stride = terms.stride();
+    let (stride, level) = (terms.stride(), terms.level);
+    let surrender = |account: usize, m: usize| {
+        let cash = UNIT * m as u64 + net * (account - m) as u64;
+        key(cash, account) + expected[0]
+    };
     let rows = values.chunks_exact_mut(stride);
     for (account, (row, drawn)) in rows.zip(amounts.chunks_exact_mut(stride)).enumerate() {
-        for (value, amount) in row.iter_mut().zip(drawn) {
-            // The amount in place is m.
-            let above = account.saturating_sub((*amount).into());
-            let surrender = UNIT * account as u64 - (UNIT - net) * above as u64 + expected[0];
-            if above > 0 && surrender > *value {
-                *value = surrender;
-                *amount = account as u16;
+        let withdrawal = |m, e| key(UNIT * m as u64, m) + e;
+        fill_by_m(terms, expected, account, row, withdrawal);
+        for m in 0..account.min(level) {
+            row[m] = larger(row[m], surrender(account, m));
+        }
+        if account > level {
+            let other = surrender(account, level);
+            for held in &mut row[level..] {
+                *held = larger(*held, other);
             }
         }
+        take_apart(row, drawn);
     }
 }
 
 // ------------------------------------------------------- Step 2: dynamic
 
-/// The states of one account while they are decided. Amounts have the width of the values
-/// here, so that both go through the same widened loop.
-struct Row {
-    values: Vec<u64>,
-    amounts: Vec<u64>,
-}
-
-impl Row {
-    fn new(terms: &Terms) -> Row {
-        Row {
-            values: vec![0; terms.stride()],
-            amounts: vec![0; terms.stride()],
-        }
-    }
-
-    /// The states from a guarantee on.
-    fn from(&mut self, guarantee: usize) -> impl Iterator<Item = (&mut u64, &mut u64)> {
-        let values = self.values[guarantee..].iter_mut();
-        values.zip(&mut self.amounts[guarantee..])
-    }
-
-    /// Offers a value and amount to one state.
-    fn offer(&mut self, guarantee: usize, other: (u64, u64)) {
-        let held = (self.values[guarantee], self.amounts[guarantee]);
-        (self.values[guarantee], self.amounts[guarantee]) = better(held, other);
-    }
-}
-
-/// All bits where another value is above the one held: the plainest x86-64 compares no 64-bit
-/// numbers side by side, and values are far below 2^63, so the sign of the difference tells.
-fn gains(held: u64, other: u64) -> u64 {
-    (held.wrapping_sub(other) as i64 >> 63) as u64
-}
-
-fn picked(mask: u64, held: u64, other: u64) -> u64 {
-    held ^ ((held ^ other) & mask)
-}
-
-/// The better of the value and amount held and another. Amounts come smallest first, so a
-/// tie keeps the one held. By value, because a store made only where the other is better
-/// would be a branch.
-fn better(held: (u64, u64), other: (u64, u64)) -> (u64, u64) {
-    let mask = gains(held.0, other.0);
-    (picked(mask, held.0, other.0), picked(mask, held.1, other.1))
-}
-
-/// Rows go from top downwards: the best draws above m stand in the first layer and the
-/// table's layer, and a row looks only at rows below it.
+/// Rows go from top downwards: the best of withdrawing further stands in the first layer, and
+/// a row looks only at rows below it, so it is decided in the place of its own.
 fn decide_dynamic(
     terms: &Terms,
     net: u64,
     values: &mut [u64],
     expected: &[u64],
     amounts: &mut [u16],
-    row: &mut Row,
 ) {
     let stride = terms.stride();
-    fill_draws(terms, net, values, expected, amounts);
+    let rising = rows_rise(terms, expected);
+    fill_further(terms, net, values, expected);
     for account in (0..=terms.top).rev() {
-        let here = account * stride..(account + 1) * stride;
+        let (below, row) = values.split_at_mut(account * stride);
+        let row = &mut row[..stride];
         try_up_to_level(terms, expected, account, row);
-        try_above_level(terms, net, values, amounts, account, row);
-        try_above_level_reset(terms, net, expected, account, row);
-        values[here.clone()].copy_from_slice(&row.values);
-        for (amount, t) in amounts[here].iter_mut().zip(&row.amounts) {
-            *amount = *t as u16;
-        }
+        try_above_level(terms, net, below, account, row);
+        try_above_level_reset(terms, net, expected, account, rising, row);
+        take_apart(row, &mut amounts[account * stride..][..stride]);
     }
 }
 
-/// P(b, a): the best that any number of units at net cash leaves, each taking one from
-/// balance and guarantee; and that number, the smallest among the best:
-/// P(b, a) = max(E(b, a), net + P(b − 1, a − 1 held at 0)). Only a ≤ b is looked at later.
-fn fill_draws(terms: &Terms, net: u64, values: &mut [u64], expected: &[u64], amounts: &mut [u16]) {
+/// Whether no sum falls as the guarantee rises. A fall sets the highest bit of a difference;
+/// a row is gone through to its end, since an early way out would not be widened.
+fn rows_rise(terms: &Terms, expected: &[u64]) -> bool {
+    let mut rows = expected.chunks_exact(terms.stride());
+    rows.all(|row| {
+        let steps = row.iter().zip(&row[1..]);
+        let bits = steps.fold(0, |bits, (e, next)| bits | next.wrapping_sub(*e));
+        bits >> 63 == 0
+    })
+}
+
+/// P(b, a) = max(8,192 × E(b, a) + b, 8,192 × net + P(b − 1, a − 1 held at 0)): the best of
+/// withdrawing any number of units at net cash, each taking one from balance and guarantee.
+/// What is left of the balance stands for the amount, the more left the smaller it is, so
+/// that nothing is subtracted for a unit. Only a ≤ b is looked at later.
+fn fill_further(terms: &Terms, net: u64, values: &mut [u64], expected: &[u64]) {
     let stride = terms.stride();
     values[..stride].copy_from_slice(&expected[..stride]);
-    amounts[..stride].fill(0);
     for balance in 1..=terms.top {
         let (below, here) = values.split_at_mut(balance * stride);
-        let (below_t, here_t) = amounts.split_at_mut(balance * stride);
-        let (below, below_t) = (
-            &below[(balance - 1) * stride..],
-            &below_t[(balance - 1) * stride..],
-        );
-        // Columns 0 and 1 both come from column 0.
-        let before = below[..1].iter().chain(below);
-        let before_t = below_t[..1].iter().chain(below_t);
-        let kept = &expected[balance * stride..];
-        let out = here[..stride].iter_mut().zip(&mut here_t[..stride]);
-        for (((value, t), e), (p, q)) in out.zip(kept).zip(before.zip(before_t)) {
-            let mask = gains(*e, net + p);
-            *value = picked(mask, *e, net + p);
-            *t = (q + 1) & mask as u16;
+        let below = &below[(balance - 1) * stride..];
+        let kept = &expected[balance * stride..][..stride];
+        let left = balance as u64;
+        here[0] = larger(kept[0] + left, SPAN * net + below[0]);
+        for ((best, e), p) in here[1..].iter_mut().zip(&kept[1..]).zip(below) {
+            *best = larger(e + left, SPAN * net + p);
         }
     }
 }
 
-/// Amounts 0 to m: the guarantee falls by the amount, the balance too, held at 0. Two
-/// amounts at a time; amount t is open from guarantee t on.
-fn try_up_to_level(terms: &Terms, expected: &[u64], account: usize, row: &mut Row) {
+/// Amounts 0 to m: the guarantee falls by the amount, the balance too, held at 0. Amount t is
+/// open from guarantee t on.
+fn try_up_to_level(terms: &Terms, expected: &[u64], account: usize, row: &mut [u64]) {
     let stride = terms.stride();
     let kept = |t: usize| &expected[account.saturating_sub(t) * stride..][..stride - t];
-    row.values.copy_from_slice(kept(0));
-    row.amounts.fill(0);
-    let mut t = 1;
-    while t < terms.level {
-        let (one, two) = (kept(t), kept(t + 1));
-        let (t1, t2) = (t as u64, t as u64 + 1);
-        row.offer(t, (UNIT * t1 + one[0], t1));
-        for ((value, amount), (e1, e2)) in row.from(t + 1).zip(one[1..].iter().zip(two)) {
-            let held = better((*value, *amount), (UNIT * t1 + e1, t1));
-            (*value, *amount) = better(held, (UNIT * t2 + e2, t2));
-        }
-        t += 2;
+    for (held, e) in row.iter_mut().zip(kept(0)) {
+        *held = key(0, 0) + e;
     }
-    if t == terms.level {
-        for ((value, amount), e) in row.from(t).zip(kept(t)) {
-            let other = (UNIT * t as u64 + e, t as u64);
-            (*value, *amount) = better((*value, *amount), other);
-        }
+    for t in 1..=terms.level {
+        offer(&mut row[t..], kept(t), key(UNIT * t as u64, t));
     }
 }
 
 /// Amounts above m where the account is at least the guarantee: one more than m, then the
-/// best draw from there.
-fn try_above_level(
-    terms: &Terms,
-    net: u64,
-    values: &[u64],
-    amounts: &[u16],
-    account: usize,
-    row: &mut Row,
-) {
+/// best of withdrawing further from there. The key is that of the whole account, and what is
+/// left of the balance makes it that of the amount.
+fn try_above_level(terms: &Terms, net: u64, below: &[u64], account: usize, row: &mut [u64]) {
     let (stride, level) = (terms.stride(), terms.level);
+    let more = |m: usize| key(UNIT * m as u64 + net, account);
     // Up to the level m is the guarantee itself, and none is left.
     for m in 0..account.min(level + 1) {
-        let at = (account - m - 1) * stride;
-        let worth = UNIT * m as u64 + net + values[at];
-        let t = m as u64 + 1 + u64::from(amounts[at]);
-        row.offer(m, (worth, t));
+        row[m] = larger(row[m], more(m) + below[(account - m - 1) * stride]);
     }
-    let guarantees = account.min(terms.premium).saturating_sub(level);
-    if guarantees == 0 {
-        return;
-    }
-    let at = (account - level - 1) * stride;
-    let best = values[at..].iter().zip(&amounts[at..]).take(guarantees);
-    for ((value, amount), (p, q)) in row.from(level + 1).zip(best) {
-        let t = level as u64 + 1 + u64::from(*q);
-        let other = (UNIT * level as u64 + net + p, t);
-        (*value, *amount) = better((*value, *amount), other);
+    if account > level {
+        let further = &below[(account - level - 1) * stride..];
+        let end = account.min(terms.premium);
+        offer(&mut row[level + 1..=end], further, more(level));
     }
 }
 
@@ -487,29 +482,60 @@ fn try_above_level(
 /// the level there, so m is the level, and the guarantee after is A × b / W rounded down, b
 /// being the balance after.
 ///
-/// That quotient is the high half of A × step with step = b × 2^32 / W rounded up: the
-/// rounding adds less than A / 2^32, which is below 1 / W, and A × b / W lies at least 1 / W
-/// below the next whole number.
-fn try_above_level_reset(terms: &Terms, net: u64, expected: &[u64], account: usize, row: &mut Row) {
+/// That quotient is A × b × inverse / 2^40 rounded down, with inverse = 2^40 / W rounded up:
+/// the rounding adds less than A × b / 2^40, which is below 1 / W, and A × b / W lies at least
+/// 1 / W below the next whole number.
+///
+/// Most amounts are passed over by runs of 16 states: where rows rise, no state of a run is
+/// offered more than its last, and none gains if that is not above the least key of the run.
+fn try_above_level_reset(
+    terms: &Terms,
+    net: u64,
+    expected: &[u64],
+    account: usize,
+    rising: bool,
+    row: &mut [u64],
+) {
     let (stride, level) = (terms.stride(), terms.level);
-    if account >= terms.premium {
+    if account <= level || account >= terms.premium {
         return;
     }
-    for t in level + 1..=account {
-        let balance = account - t;
-        let cash = UNIT * level as u64 + net * (t - level) as u64;
-        let kept = &expected[balance * stride..][..stride];
-        let step = ((balance as u64) << 32).div_ceil(account as u64);
-        let mut quotient = step * account as u64;
-        for (value, amount) in row.from(account + 1) {
-            quotient += step;
-            let e = kept[(quotient >> 32) as usize];
-            // A branch here: this loop looks up single entries and is not widened, and the
-            // branch is seldom mistaken.
-            if cash + e > *value {
-                (*value, *amount) = (cash + e, t as u64);
+    let inverse = (1_u64 << 40).div_ceil(account as u64);
+    let balances = &expected[..(account - level) * stride];
+    let mut low = account as u64 + 1;
+    for run in row[account + 1..].chunks_mut(16) {
+        let end = low + run.len() as u64;
+        // Where rows may fall nothing is passed over: every key is above 0.
+        let least = run.iter().copied().min().filter(|_| rising).unwrap_or(0);
+        let mut share = (account - level) as u64 * inverse;
+        let mut cash = key(UNIT * level as u64 + net, level + 1);
+        for kept in balances.chunks_exact(stride).rev() {
+            share -= inverse;
+            if cash + kept[quotient((end - 1) * share)] > least {
+                offer_shares(run, kept, cash, low, share);
             }
+            // One unit more.
+            cash = cash + SPAN * net - 1;
         }
+        low = end;
+    }
+}
+
+fn quotient(product: u64) -> usize {
+    (product >> 40) as usize
+}
+
+/// Offers a run of states, from guarantee `low` on, an amount that leaves each the given share
+/// of its guarantee. A branch here: this loop looks up single sums and is not widened, and the
+/// branch is seldom mistaken.
+fn offer_shares(run: &mut [u64], kept: &[u64], key: u64, low: u64, share: u64) {
+    let mut product = low * share;
+    for held in run {
+        let other = key + kept[quotient(product)];
+        if other > *held {
+            *held = other;
+        }
+        product += share;
     }
 }
 
