@@ -21,6 +21,10 @@ const UNIT: u64 = 10_000;
 /// Keys and stored sums hold values times this; every amount is below it.
 const SPAN: u64 = 8_192;
 
+/// How many states are passed over at once, and then again how many of them.
+const RUN: usize = 32;
+const PART: usize = 8;
+
 struct Terms {
     premium: usize,
     level: usize,
@@ -486,8 +490,9 @@ fn try_above_level(terms: &Terms, net: u64, below: &[u64], account: usize, row: 
 /// the rounding adds less than A × b / 2^40, which is below 1 / W, and A × b / W lies at least
 /// 1 / W below the next whole number.
 ///
-/// Most amounts are passed over by runs of 16 states: where rows rise, no state of a run is
-/// offered more than its last, and none gains if that is not above the least key of the run.
+/// Most amounts are passed over by runs of states: where rows rise, no state of a run is offered
+/// more than its last, and none gains if that is not above the least key of the run. A run that
+/// gains is looked at again in parts, each by its own least key.
 fn try_above_level_reset(
     terms: &Terms,
     net: u64,
@@ -503,19 +508,48 @@ fn try_above_level_reset(
     let inverse = (1_u64 << 40).div_ceil(account as u64);
     let balances = &expected[..(account - level) * stride];
     let mut low = account as u64 + 1;
-    for run in row[account + 1..].chunks_mut(16) {
+    for run in row[account + 1..].chunks_mut(RUN) {
         let end = low + run.len() as u64;
-        // Where rows may fall nothing is passed over: every key is above 0.
-        let least = run.iter().copied().min().filter(|_| rising).unwrap_or(0);
+        let leasts = least_keys(run, rising);
+        let least = leasts.into_iter().fold(u64::MAX, u64::min);
         let mut share = (account - level) as u64 * inverse;
         let mut cash = key(UNIT * level as u64 + net, level + 1);
         for kept in balances.chunks_exact(stride).rev() {
             share -= inverse;
             if cash + kept[quotient((end - 1) * share)] > least {
-                offer_shares(run, kept, cash, low, share);
+                offer_parts(run, &leasts, kept, cash, low, share);
             }
             // One unit more.
             cash = cash + SPAN * net - 1;
+        }
+        low = end;
+    }
+}
+
+/// The least key of each part of a run. Where rows may fall nothing is passed over: every key is
+/// above 0.
+fn least_keys(run: &[u64], rising: bool) -> [u64; RUN / PART] {
+    let mut leasts = [u64::MAX; RUN / PART];
+    for (least, part) in leasts.iter_mut().zip(run.chunks(PART)) {
+        *least = part.iter().copied().min().filter(|_| rising).unwrap_or(0);
+    }
+    leasts
+}
+
+/// Offers the parts of a run an amount, from guarantee `low` on.
+fn offer_parts(
+    run: &mut [u64],
+    leasts: &[u64; RUN / PART],
+    kept: &[u64],
+    key: u64,
+    low: u64,
+    share: u64,
+) {
+    let mut low = low;
+    for (part, least) in run.chunks_mut(PART).zip(leasts) {
+        let end = low + part.len() as u64;
+        if key + kept[quotient((end - 1) * share)] > *least {
+            offer_shares(part, kept, key, low, share);
         }
         low = end;
     }
@@ -525,12 +559,12 @@ fn quotient(product: u64) -> usize {
     (product >> 40) as usize
 }
 
-/// Offers a run of states, from guarantee `low` on, an amount that leaves each the given share
-/// of its guarantee. A branch here: this loop looks up single sums and is not widened, and the
+/// Offers states, from guarantee `low` on, an amount that leaves each the given share of its
+/// guarantee. A branch here: this loop looks up single sums and is not widened, and the
 /// branch is seldom mistaken.
-fn offer_shares(run: &mut [u64], kept: &[u64], key: u64, low: u64, share: u64) {
+fn offer_shares(states: &mut [u64], kept: &[u64], key: u64, low: u64, share: u64) {
     let mut product = low * share;
-    for held in run {
+    for held in states {
         let other = key + kept[quotient(product)];
         if other > *held {
             *held = other;

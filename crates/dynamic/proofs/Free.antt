@@ -122,7 +122,7 @@ module _ {work : List ℕ} {d : Date} {s : Block} (b : Span work d s) {at add : 
       small = λ j l. let m = few j l in omega arith;
     }
 
-    pub first-held : (best best' : List ℕ) → 256 ≤ length best → best' ≡ stored best 0 (λ j. getD work (at + j) 0 + add) (s .n)
+    pub first-held : (best best' : List ℕ) → 512 ≤ length best → best' ≡ stored best 0 (λ j. getD work (at + j) 0 + add) (s .n)
         → Held (keyAt work d s) best' (s .n) (triedTo s 1)
     unfolding most
     first-held best best' long e = record {

@@ -4,5 +4,7 @@ pub mod Free
 pub mod Further
 pub mod Rising
 pub mod Inverse
+pub mod Bounds
+pub mod Parts
 pub mod Share
 pub mod Step

@@ -32,7 +32,7 @@ module _ {g : ℕ → ℕ → ℕ} {best : List ℕ} {n : ℕ} {count : ℕ → 
 
 -- k numbers offered, each of which is the largest of the amounts tried next, and small
 module _ {g : ℕ → ℕ → ℕ} {best best' : List ℕ} {n low k : ℕ} {count : ℕ → ℕ} (count' c : ℕ → ℕ) (h : Held g best n count)
-    (e : best' ≡ stored best low (λ i. max (getD best (low + i) 0) (c i)) k) (short : n ≤ 256) (fits : low + k ≤ n)
+    (e : best' ≡ stored best low (λ i. max (getD best (low + i) 0) (c i)) k) (short : n ≤ 512) (fits : low + k ≤ n)
     (few : (i : ℕ) → i < k → c i ≤ keyMost)
     (joins : (i : ℕ) → i < k → max (most (g (low + i)) (count (low + i))) (c i) ≡ most (g (low + i)) (count' (low + i)))
     (else : (j : ℕ) → (j < low) ⊎ (low + k ≤ j) → j < n → count j ≡ count' j)

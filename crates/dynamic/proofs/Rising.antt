@@ -1,4 +1,4 @@
--- The least of some keys, and rows that rise with the guarantee. Assumes nothing.
+-- Rows that rise with the guarantee. Assumes nothing.
 use mathlib.Core.List.{List}
 use mathlib.Core.Path.{_≡_, ap, subst, subst₂}
 use Prim.Native.Nat.{ℕ, zero, suc, _+_, _-_, _*_, _≤_, _<_, min}
@@ -7,14 +7,7 @@ use native.Mathlib.Decide.{decLe}
 use native.Mathlib.Omega.{arith}
 use lib.ListN.{getD}
 use Rattle.slices.specs.Rows.{cells}
-use Rattle.dynamic.specs.Block.{Rising}
-
--- ---- the least of the entries so far
-pub least-next : (g : ℕ → ℕ) (i r : ℕ) {s : ℕ} → s ≡ min (g i) r → ((k : ℕ) → k < i → r ≤ g k) → (k : ℕ) → k < i + 1 → s ≤ g k
-least-next g i r e h k l = elim (decLe (k + 1) i) [
-  | yes m ↦ let q = h k (omega arith) in omega arith
-  | no m ↦ let q = ap g (let z : k ≡ i = omega arith in z) in omega arith
-]
+use Rattle.dynamic.specs.Block.{Ascending, Rising}
 
 -- ---- whether the rows rise, counted
 pub falls-next : (g h : ℕ → ℕ) (i r p : ℕ) → (p ≡ 0 → g i ≤ h i) → (r ≡ 0 → (k : ℕ) → k < i → g k ≤ h k) → r + p ≡ 0 → (k : ℕ)
@@ -35,13 +28,19 @@ rising-next {e} {stride} x r last = record { step = λ z y h l. go z y h l (decL
     go z y h l (yes m) = r .step z y (omega arith) l
     go z y h l (no m) = let s : z ≡ x = omega arith in rw s (last y l)
 
-pub row-rises : (work : List ℕ) (base stride x steps : ℕ) → steps ≡ stride - 1
-    → ((i : ℕ) → i < steps → getD work (base + x * stride + i) 0 ≤ getD work (base + x * stride + i + 1) 0)
+pub row-rises : (work : List ℕ) (base stride x steps : ℕ) → steps ≡ stride - 1 → Ascending work (base + x * stride) steps
     → (y : ℕ) → y + 1 < stride → cells work base stride x y ≤ cells work base stride x (y + 1)
 row-rises work base stride x steps e h y l =
     let p : base + x * stride + y ≡ base + (x * stride + y) = omega arith in
     let q : base + x * stride + y + 1 ≡ base + (x * stride + (y + 1)) = omega arith in
     subst₂ (λ (u v : ℕ). getD work u 0 ≤ getD work v 0) p q (h y (omega arith))
+
+pub row-ascends : (work : List ℕ) (base stride x n steps : ℕ) → steps ≡ stride - 1 → Rising (cells work base stride) stride n → x < n
+    → Ascending work (base + x * stride) steps
+row-ascends work base stride x n steps e r l i k =
+    let p : base + (x * stride + i) ≡ base + x * stride + i = omega arith in
+    let q : base + (x * stride + (i + 1)) ≡ base + x * stride + i + 1 = omega arith in
+    subst₂ (λ (u v : ℕ). getD work u 0 ≤ getD work v 0) p q (r .step x i l (omega arith))
 
 pub rising-le : {e : ℕ → ℕ → ℕ} {stride n : ℕ} → Rising e stride n → (x y z : ℕ) → x < n → y ≤ z → z < stride → e x y ≤ e x z
 rising-le {e} r x y zero h k l = le-of-eq (ap (e x) (let q : y ≡ 0 = omega arith in q))

@@ -1,27 +1,25 @@
 -- The amounts above m where the account is below the guarantee, for a run of states. Assumes nothing.
-use mathlib.Core.Bool.{true}
 use mathlib.Core.List.{List}
 use mathlib.Core.Logic.{_⊎_, inl, inr}
-use mathlib.Core.Path.{_≡_, ap, ap₂, sym, _∙_, subst}
+use mathlib.Core.Path.{_≡_, refl, ap, ap₂, sym, _∙_}
 use Prim.Native.Nat.{ℕ, _+_, _-_, _*_, _/_, _^_, _≤_, _<_, min, max}
-use native.Mathlib.Nat.{le-trans, le-of-eq, sub-le}
-use native.Mathlib.Decide.{decLe}
+use native.Mathlib.Nat.{le-trans, le-of-eq, sub-le, max-eq-left}
 use native.Mathlib.Omega.{arith}
 use lib.ListN.{length, getD}
-use Rattle.slices.specs.Stored.{stored}
+use Rattle.slices.specs.Stored.{is-stored, stored-eq}
 use Rattle.slices.specs.Rows.{cells}
-use Rattle.rules.specs.Date.{freeAmount, cash, penalty}
-use Rattle.laws.specs.Bounds.{cash-le}
-use Rattle.keys.specs.declared.Date.{Date}
-use Rattle.keys.specs.Key.{amountMost, key, key-add, key-small}
-use Rattle.keys.specs.Most.{most, most-le, most-next, most-same}
-use Rattle.keys.specs.Sums.{Span, sums, row-in, sum-in, sum-small}
-use Rattle.worth.specs.Laws.{above-is}
+use Rattle.rules.specs.Date.{freeAmount, cash}
 use Rattle.keys.specs.declared.Block.{Block}
+use Rattle.keys.specs.declared.Date.{Date}
+use Rattle.keys.specs.Key.{key, key-add}
+use Rattle.keys.specs.Most.{most, most-le, most-next}
+use Rattle.keys.specs.Sums.{Span, sums, sum-in, sum-small}
+use Rattle.worth.specs.Laws.{above-is}
 use Rattle.dynamic.specs.declared.Run.{Run}
 use Rattle.dynamic.specs.declared.Way.{Way}
-use Rattle.dynamic.specs.Block.{Held, Shared, Sharing, Rising, Running, left, freeOf, keyAt, keyMost, triedBelow, triedRun}
-use Rattle.dynamic.proofs.Offers.{held-same, offered}
+use Rattle.dynamic.specs.Block.{Held, Leading, Sharing, Running, Bounded, raisedTo, inverseOf, left, freeOf, keyAt, keyMost}
+use Rattle.dynamic.specs.Block.{triedBelow, triedRun}
+use Rattle.dynamic.proofs.Offers.{offered}
 use Rattle.dynamic.proofs.Tried.{below-free, run-in, run-out}
 use Rattle.dynamic.proofs.Inverse.{share-is, share-le, share-rises, share-small, step-small}
 use Rattle.dynamic.proofs.Rising.{rising-le}
@@ -31,36 +29,44 @@ pub free-level : (level a : ℕ) → level < a → freeAmount level a ≡ level
 unfolding freeAmount
 free-level level a h = omega arith
 
-module _ {work : List ℕ} {d : Date} {s : Block} {r : Run} (b : Span work d s) (x : Running work d s r) where
+-- a key is above 0, and so is what bounds it
+some-bound : (w t v add below : ℕ) {bound : ℕ} → t ≤ w → w ≤ 4000 → add ≡ key v t → below + add ≤ bound → 0 < bound
+unfolding key
+some-bound w t v add below upto top e h = omega arith
+
+module _ {work : List ℕ} {d : Date} {s : Block} (b : Span work d s) where
   account : s .w ≤ 4000
   account = omega (arith, b .layers .few)
 
-  -- what an amount's way starts from
-  module _ {t : ℕ} (upto : t ≤ s .w) where
-    pub way-room : d .base + (s .w - t) * d .stride ≤ length work
-    way-room = let k = sum-in (b .layers) (s .w - t) 0 0 (omega arith) (omega arith) in omega arith
+  -- what the way of an amount starts from
+  pub way-room : {t : ℕ} → t ≤ s .w → d .base + (s .w - t) * d .stride ≤ length work
+  way-room {t} upto = let k = sum-in (b .layers) (s .w - t) 0 0 (omega arith) (omega arith) in omega arith
 
-    pub way-step : (s .w - t) * r .inverse < 18446744073709551616
-    way-step = let k = step-small (s .w) (r .inverse) (omega (arith, x .level-is)) account (x .inverse-is) (s .w - t) (sub-le _ _) in
-        omega arith
+  pub way-step : (t : ℕ) → 1 ≤ s .w → (s .w - t) * inverseOf (s .w) < 18446744073709551616
+  way-step t some = let k = step-small (s .w) (inverseOf (s .w)) some account refl (s .w - t) (sub-le _ _) in omega arith
 
-  module _ {t : ℕ} (above : d .level < t) (upto : t ≤ s .w) {to : Way} (way : Shared d (s .w) (r .inverse) t to) where
-    -- the guarantee left to state j, whose guarantee is a
-    module _ {a : ℕ} (j : ℕ) (a-is : a ≡ s .from + j) (from : r .low ≤ j) (end : j < r .end) where
+  module _ {to : Way} (way : Leading d s to) where
+    abbrev t : ℕ
+    t = to .t
+
+    some : 1 ≤ s .w
+    some = omega (arith, way .above, way .upto)
+
+    -- the guarantee left to state j, whose guarantee a is above the account
+    module _ {a : ℕ} (j : ℕ) (a-is : a ≡ s .from + j) (above : s .w < a) (end : j < s .n) where
       high : a ≤ 4000
-      high = omega (arith, b .columns, b .layers .width, x .within)
+      high = omega (arith, b .columns, b .layers .width)
 
       left-is : left (to .step) a ≡ a * (s .w - t) / s .w
       left-is =
-          ap (λ (z : ℕ). a * z / 1099511627776) (way .step-is)
-          ∙ share-is (s .w) (r .inverse) (omega (arith, x .level-is)) account (x .inverse-is) a (s .w - t) (omega (arith, high))
-          (sub-le _ _)
+          ap (λ (z : ℕ). a * z / 1099511627776) (way .shared .step-is)
+          ∙ share-is (s .w) (inverseOf (s .w)) some account refl a (s .w - t) (omega (arith, high)) (sub-le _ _)
 
       inside : a * (s .w - t) / s .w < d .stride
-      inside = let k = share-le a (s .w - t) (s .w) (sub-le _ _) in omega (arith, b .columns, x .within)
+      inside = let k = share-le a (s .w - t) (s .w) (sub-le _ _) in omega (arith, b .columns)
 
       place-is : to .at + left (to .step) a ≡ d .base + ((s .w - t) * d .stride + a * (s .w - t) / s .w)
-      place-is = ap₂ (λ (y z : ℕ). y + z) (way .at-is) left-is ∙ omega arith
+      place-is = ap₂ (λ (y z : ℕ). y + z) (way .shared .at-is) left-is ∙ omega arith
 
       pub way-in : to .at + left (to .step) a < length work
       way-in = let k = sum-in (b .layers) (s .w - t) (a * (s .w - t) / s .w) 1 (omega arith) (let i = inside in omega arith) in
@@ -72,119 +78,130 @@ module _ {work : List ℕ} {d : Date} {s : Block} {r : Run} (b : Span work d s) 
       pub way-small : getD work (to .at + left (to .step) a) 0 < 2 ^ 59
       way-small = let k = sum-small (b .layers) (s .w - t) _ (omega arith) inside in omega (arith, sum-is)
 
-      pub way-product : a * to .step < 2 ^ 63
+      way-product : a * to .step < 2 ^ 63
       way-product =
-          let k = share-small (s .w) (r .inverse) (omega (arith, x .level-is)) account (x .inverse-is) a (s .w - t)
-          (omega (arith, high)) (sub-le _ _) in
-          omega (arith, ap (λ (z : ℕ). a * z) (way .step-is))
+          let k = share-small (s .w) (inverseOf (s .w)) some account refl a (s .w - t) (omega (arith, high)) (sub-le _ _) in
+          omega (arith, ap (λ (z : ℕ). a * z) (way .shared .step-is))
 
       pub way-key : getD work (to .at + left (to .step) a) 0 + to .add ≡ keyAt work d s j t
       way-key =
-          let m = free-level (d .level) (s .from + j) (omega (arith, x .above, x .level-is)) in
-          ap₂ (λ (y z : ℕ). y + z) (sum-is ∙ b .layers .scaled (s .w - t) _ (omega arith) inside) (way .add-is)
+          let m = free-level (d .level) (s .from + j) (omega (arith, way .above, way .upto)) in
+          ap₂ (λ (y z : ℕ). y + z) (sum-is ∙ b .layers .scaled (s .w - t) _ (omega arith) inside) (way .shared .add-is)
           ∙ sym (key-add (cash (d .rate) (d .level) t) (sums work d (s .w - t) (a * (s .w - t) / s .w)) t)
           ∙ ap₂ (λ (y z : ℕ). key (cash (d .rate) y t + sums work d (s .w - t) (z * (s .w - t) / s .w)) t) (sym m) a-is
-          ∙ ap (λ (v : ℕ). key v t) (sym (above-is (sums work d) (d .rate) (freeOf d s j) (s .w) (s .from + j) t (omega (arith, m))
-          upto (omega (arith, x .above))))
+          ∙ ap (λ (v : ℕ). key v t) (sym (above-is (sums work d) (d .rate) (freeOf d s j) (s .w) (s .from + j) t (omega (arith, m, way .above))
+          (way .upto) (omega arith)))
 
-    -- ---- the states of the run
-    first-is : (i : ℕ) → s .from + r .low + i ≡ s .from + (r .low + i)
-    first-is i = omega arith
+    -- ---- the states of a run
+    module _ {r : Run} (x : Running d s r) (nonempty : r .low < r .end) where
+      first-is : (i : ℕ) → s .from + r .low + i ≡ s .from + (r .low + i)
+      first-is i = omega arith
 
-    module _ {best : List ℕ} (h : Held (keyAt work d s) best (s .n) (triedRun d s (r .low) (r .end) t)) where
+      above-is' : (i : ℕ) → s .w < s .from + r .low + i
+      above-is' i = omega (arith, x .above)
+
+      -- .. and the last of them
+      last-is : s .from + r .end - 1 ≡ s .from + (r .end - 1)
+      last-is = omega (arith)
+
+      last-above : s .w < s .from + r .end - 1
+      last-above = omega (arith, x .above)
+
+      last-end : r .end - 1 < s .n
+      last-end = omega (arith, x .within)
+
+      pub way-last : ((s .from + r .end - 1) * to .step < 18446744073709551616)
+          × (to .at + left (to .step) (s .from + r .end - 1) < length work)
+          × (getD work (to .at + left (to .step) (s .from + r .end - 1)) 0 + to .add < 18446744073709551616)
+      way-last =
+          let p = way-product (r .end - 1) last-is last-above last-end in
+          let q = way-small (r .end - 1) last-is last-above last-end in
+          (omega arith, way-in (r .end - 1) last-is last-above last-end, omega (arith, way .shared .add-small))
+
       pub way-sharing : Sharing work (r .low) (r .end - r .low) (s .from + r .low) to
       way-sharing = record {
-        within = omega (arith, b .short, x .within);
-        columns = omega (arith, b .columns, b .layers .width, x .within, x .some);
-        more = way .add-small;
-        product = λ i l. way-product (r .low + i) (first-is i) (omega arith) (omega arith);
-        room = λ i l. way-in (r .low + i) (first-is i) (omega arith) (omega arith);
-        small = λ i l. way-small (r .low + i) (first-is i) (omega arith) (omega arith);
+        within = λ i l. omega (arith, b .short, x .within);
+        columns = omega (arith, b .columns, b .layers .width, x .within);
+        more = way .shared .add-small;
+        product =
+            let a : s .from + r .low + (r .end - r .low) ≤ 4001 = omega (arith, b .columns, b .layers .width, x .within) in
+            let k = share-small (s .w) (inverseOf (s .w)) some account refl _ (s .w - t) a (sub-le _ _) in
+            omega (arith, ap (λ (z : ℕ). (s .from + r .low + (r .end - r .low)) * z) (way .shared .step-is));
+        room = λ i l. way-in (r .low + i) (first-is i) (above-is' i) (omega (arith, x .within));
+        small = λ i l. way-small (r .low + i) (first-is i) (above-is' i) (omega (arith, x .within));
       }
 
-      pub way-offered : {best' : List ℕ}
-          → best' ≡ stored best (r .low) (λ i. max (getD best (r .low + i) 0)
-          (getD work (to .at + left (to .step) (s .from + r .low + i)) 0 + to .add)) (r .end - r .low)
-          → Held (keyAt work d s) best' (s .n) (triedRun d s (r .low) (r .end) (t + 1))
-      way-offered e =
-          offered (triedRun d s (r .low) (r .end) (t + 1)) _ h e (b .short) (omega (arith, x .within, x .some))
-          (λ i l. let k = way-small (r .low + i) (first-is i) (omega arith) (omega arith) in omega (arith, way .add-small))
-          joins
-          else
-        where
-          joins : (i : ℕ) → i < r .end - r .low
-              → max (most (keyAt work d s (r .low + i)) (triedRun d s (r .low) (r .end) t (r .low + i)))
-              (getD work (to .at + left (to .step) (s .from + r .low + i)) 0 + to .add)
-              ≡ most (keyAt work d s (r .low + i)) (triedRun d s (r .low) (r .end) (t + 1) (r .low + i))
-          joins i l =
-              ap₂ (λ (y z : ℕ). max (most (keyAt work d s (r .low + i)) y) z)
-              (run-in d s (r .low) (r .end) t (r .low + i) (omega arith) (omega arith))
-              (way-key (r .low + i) (first-is i) (omega arith) (omega arith))
-              ∙ most-next (keyAt work d s (r .low + i)) t
-              ∙ ap (most (keyAt work d s (r .low + i)))
-              (sym (run-in d s (r .low) (r .end) (t + 1) (r .low + i) (omega arith) (omega arith)))
+      -- what is offered is the key of the amount
+      pub way-raised : (best : List ℕ) {best' : List ℕ}
+          → best' ≡ raisedTo best (r .low) (λ i. getD work (to .at + left (to .step) (s .from + r .low + i)) 0 + to .add) (r .end - r .low)
+          → best' ≡ raisedTo best (r .low) (λ i. keyAt work d s (r .low + i) t) (r .end - r .low)
+      way-raised best e = e ∙ stored-eq best (r .low) _ _ (r .end - r .low)
+          (λ i l. ap (max (getD best (r .low + i) 0)) (way-key (r .low + i) (first-is i) (above-is' i) (omega (arith, x .within))))
 
-          else : (j : ℕ) → (j < r .low) ⊎ (r .low + (r .end - r .low) ≤ j) → j < s .n
-              → triedRun d s (r .low) (r .end) t j ≡ triedRun d s (r .low) (r .end) (t + 1) j
-          else j (inl l) k = run-out d s (r .low) (r .end) t (t + 1) j (omega (arith, x .some)) (inl l)
-          else j (inr l) k = run-out d s (r .low) (r .end) t (t + 1) j (omega (arith, x .some)) (inr (omega (arith, x .some)))
+      pub way-few : (i : ℕ) → i < r .end - r .low → keyAt work d s (r .low + i) t ≤ keyMost
+      way-few i l =
+          let k = way-small (r .low + i) (first-is i) (above-is' i) (omega (arith, x .within)) in
+          let e = way-key (r .low + i) (first-is i) (above-is' i) (omega (arith, x .within)) in
+          omega (arith, way .shared .add-small)
 
       -- the last state of the run has the largest guarantee: where it does not gain, none does
-      pub way-passed : {last : ℕ} → last ≡ s .from + r .end - 1 → Rising (cells work (d .base) (d .stride)) (d .stride) (s .w + 1)
-          → getD work (to .at + left (to .step) last) 0 + to .add ≤ r .bound
-          → Held (keyAt work d s) best (s .n) (triedRun d s (r .low) (r .end) (t + 1))
-      way-passed {last} last-is rises small = held-same _ h (λ j l. go j (decLe (r .low) j) (decLe (r .end) j))
+      pub way-passed : {best : List ℕ} → 512 ≤ length best → Bounded work d s (λ j. getD best j 0) r
+          → getD work (to .at + left (to .step) (s .from + r .end - 1)) 0 + to .add ≤ r .bound
+          → best ≡ raisedTo best (r .low) (λ i. keyAt work d s (r .low + i) t) (r .end - r .low)
+      way-passed {best} long bounded small =
+          is-stored best best (r .low) _ (r .end - r .low) refl (omega (arith, b .short, x .within))
+          (λ i l. sym (max-eq-left (le-trans (no-more i l) (bounded .each (r .low + i) (omega arith) (omega arith)))))
+          (λ j o. refl)
         where
-          last-state : last ≡ s .from + (r .end - 1)
-          last-state = omega (arith, x .some)
-
-          no-more : (j : ℕ) → r .low ≤ j → j < r .end → keyAt work d s j t ≤ r .bound
-          no-more j p q =
-              let here = way-key j (let z : s .from + j ≡ s .from + j = omega arith in z) p q in
-              let up = rising-le rises (s .w - t) ((s .from + j) * (s .w - t) / s .w) (last * (s .w - t) / s .w) (omega arith)
-              (share-rises (s .from + j) last (s .w - t) (s .w) (omega (arith, x .level-is)) (omega arith))
-              (inside (r .end - 1) last-state (omega (arith, x .some)) (omega (arith, x .some))) in
-              let low = sum-is j (let z : s .from + j ≡ s .from + j = omega arith in z) p q in
-              let high = sum-is (r .end - 1) last-state (omega (arith, x .some)) (omega (arith, x .some)) in
+          no-more : (i : ℕ) → i < r .end - r .low → keyAt work d s (r .low + i) t ≤ r .bound
+          no-more i l =
+              let a = s .from + r .low + i in
+              let last = s .from + r .end - 1 in
+              let here = way-key (r .low + i) (first-is i) (above-is' i) (omega (arith, x .within)) in
+              let up = rising-le (bounded .rises (some-bound (s .w) t _ (to .add) _ (way .upto) account (way .shared .add-is) small)) (s .w - t)
+              (a * (s .w - t) / s .w) (last * (s .w - t) / s .w) (omega arith)
+              (share-rises a last (s .w - t) (s .w) some (omega arith)) (inside (r .end - 1) last-is last-above last-end) in
+              let low = sum-is (r .low + i) (first-is i) (above-is' i) (omega (arith, x .within)) in
+              let high = sum-is (r .end - 1) last-is last-above last-end in
               omega arith
 
-          go : (j : ℕ) → Dec (r .low ≤ j) → Dec (r .end ≤ j)
-              → most (keyAt work d s j) (triedRun d s (r .low) (r .end) t j)
-              ≡ most (keyAt work d s j) (triedRun d s (r .low) (r .end) (t + 1) j)
-          go j (no p) q = ap (most (keyAt work d s j))
-              (run-out d s (r .low) (r .end) t (t + 1) j (omega (arith, x .some)) (inl (omega arith)))
-          go j (yes p) (yes q) = ap (most (keyAt work d s j)) (run-out d s (r .low) (r .end) t (t + 1) j (omega (arith, x .some)) (inr q))
-          go j (yes p) (no q) =
-              let held = le-trans (x .bounded j p (omega arith)) (most-le (keyAt work d s j) (d .level + 1) t (omega arith)) in
-              ap (most (keyAt work d s j)) (run-in d s (r .low) (r .end) t j p (omega arith))
-              ∙ most-same (keyAt work d s j) t (le-trans (no-more j p (omega arith)) held)
-              ∙ ap (most (keyAt work d s j)) (sym (run-in d s (r .low) (r .end) (t + 1) j p (omega arith)))
+-- ---- a run, from the amounts up to m to all of them
+-- each of its states withdraws the level without penalty
+pub level-free : (d : Date) (s : Block) (low : ℕ) → s .w < s .from + low → d .level < s .w → (j : ℕ) → low ≤ j → freeOf d s j ≡ d .level
+level-free d s low above level j h = free-level (d .level) (s .from + j) (omega arith)
 
--- ---- a run of 16 states
-module _ {work : List ℕ} {d : Date} {s : Block} (b : Span work d s) {low : ℕ} (above : s .w < s .from + low)
-    (level-is : d .level < s .w) where
-  -- each of which withdraws the level without penalty
-  pub level-free : (j : ℕ) → low ≤ j → freeOf d s j ≡ d .level
-  level-free j h = free-level (d .level) (s .from + j) (omega arith)
+module _ {work : List ℕ} {d : Date} {s : Block} (b : Span work d s) {r : Run} (x : Running d s r) (nonempty : r .low < r .end) where
+  -- one amount more
+  pub amount-tried : {to : Way} {best best' : List ℕ} → Leading d s to
+      → Held (keyAt work d s) best (s .n) (triedRun d s (r .low) (r .end) (to .t))
+      → best' ≡ raisedTo best (r .low) (λ i. keyAt work d s (r .low + i) (to .t)) (r .end - r .low)
+      → Held (keyAt work d s) best' (s .n) (triedRun d s (r .low) (r .end) (to .t + 1))
+  amount-tried {to} way h e =
+      offered (triedRun d s (r .low) (r .end) (to .t + 1)) _ h e (b .short) (omega (arith, x .within)) (way-few b way x nonempty) joins else
+    where
+      joins : (i : ℕ) → i < r .end - r .low
+          → max (most (keyAt work d s (r .low + i)) (triedRun d s (r .low) (r .end) (to .t) (r .low + i))) (keyAt work d s (r .low + i) (to .t))
+          ≡ most (keyAt work d s (r .low + i)) (triedRun d s (r .low) (r .end) (to .t + 1) (r .low + i))
+      joins i l =
+          ap (λ (y : ℕ). max (most (keyAt work d s (r .low + i)) y) (keyAt work d s (r .low + i) (to .t)))
+          (run-in d s (r .low) (r .end) (to .t) (r .low + i) (omega arith) (omega arith))
+          ∙ most-next (keyAt work d s (r .low + i)) (to .t)
+          ∙ ap (most (keyAt work d s (r .low + i)))
+          (sym (run-in d s (r .low) (r .end) (to .t + 1) (r .low + i) (omega arith) (omega arith)))
 
-  pub running : {best : List ℕ} (r : Run) → Held (keyAt work d s) best (s .n) (triedBelow d s low) → r .low ≡ low → r .end
-      ≡ min (s .n) (low + 16)
-      → low < s .n → r .inverse ≡ (1099511627776 + s .w - 1) / s .w
-      → (r .rising ≡ true → Rising (cells work (d .base) (d .stride)) (d .stride) (s .w + 1))
-      → ((i : ℕ) → i < r .end - low → r .bound ≤ getD best (low + i) 0) → Running work d s r
-  running {best} r h low-is end-is some inverse rises least = record {
-    some = omega arith;
-    within = omega arith;
-    above = omega arith;
-    level-is = level-is;
-    inverse-is = inverse;
-    rises = rises;
-    bounded = λ j p l.
-        let at : low + (j - low) ≡ j = omega arith in
-        le-trans (subst (λ (z : ℕ). r .bound ≤ getD best z 0) at (least (j - low) (omega arith)))
-        (le-of-eq (h .each j (omega arith) ∙ ap (most (keyAt work d s j)) (below-free d s low j (omega arith)
-        ∙ ap (λ (z : ℕ). z + 1) (level-free j (omega arith)))));
-  }
+      else : (j : ℕ) → (j < r .low) ⊎ (r .low + (r .end - r .low) ≤ j) → j < s .n
+          → triedRun d s (r .low) (r .end) (to .t) j ≡ triedRun d s (r .low) (r .end) (to .t + 1) j
+      else j (inl l) k = run-out d s (r .low) (r .end) (to .t) (to .t + 1) j (omega (arith)) (inl l)
+      else j (inr l) k = run-out d s (r .low) (r .end) (to .t) (to .t + 1) j (omega (arith)) (inr (omega (arith)))
+
+  -- what its states hold at first stays a bound
+  pub held-more : {best best₀ : List ℕ} {t : ℕ} → Held (keyAt work d s) best₀ (s .n) (triedBelow d s (r .low))
+      → Held (keyAt work d s) best (s .n) (triedRun d s (r .low) (r .end) t) → d .level < t
+      → (j : ℕ) → r .low ≤ j → j < r .end → getD best₀ j 0 ≤ getD best j 0
+  held-more {t = t} h₀ h more j p l =
+      le-trans (le-of-eq (h₀ .each j (omega (arith, x .within)) ∙ ap (most (keyAt work d s j)) (below-free d s (r .low) j p)))
+      (le-trans (most-le (keyAt work d s j) _ t (omega (arith, level-free d s (r .low) (x .above) (x .level-is) j p)))
+      (le-of-eq (sym (h .each j (omega (arith, x .within)) ∙ ap (most (keyAt work d s j)) (run-in d s (r .low) (r .end) t j p l)))))
 
 -- the states from the first one whose guarantee is above the account
 pub above-from : (n w from low : ℕ) → min n (w + 1 - from) ≤ low → low < n → w < from + low

@@ -1,4 +1,4 @@
-// The states of an account under the dynamic behaviour, a block of up to 256 guarantees at a time: the key of each one's value and
+// The states of an account under the dynamic behaviour, a block of up to 512 guarantees at a time: the key of each one's value and
 // recorded amount, in an array, so that the loops along the guarantee can be widened.
 ghost use mathlib.Core.Bool.{true};
 ghost use mathlib.Core.Path.{_≡_};
@@ -16,11 +16,20 @@ ghost use Rattle.dynamic.specs.Block.{
   Offering,
   Alike,
   Shared,
+  Stepped,
   Sharing,
   Rising,
   Running,
+  Leading,
+  Bounded,
+  Bounds,
+  Ascending,
   Row,
   left,
+  inverseOf,
+  leastOf,
+  boundOf,
+  raisedTo,
   freeOf,
   keyAt,
   triedTo,
@@ -31,9 +40,9 @@ use keys::Block;
 use keys::Date;
 
 // The number at k with `add` more, for state j.
-fn raise(best: &mut [u64; 256], j: usize, work: &[u64], k: usize, add: u64)
+fn raise(best: &mut [u64; 512], j: usize, work: &[u64], k: usize, add: u64)
     requires { ⌜
-        (j < 256)
+        (j < 512)
         × (k < length (now work))
         × (getD (now best) j 0 < 2 ^ 63)
         × (getD (now work) k 0 + add < 2 ^ 63)
@@ -46,12 +55,10 @@ fn raise(best: &mut [u64; 256], j: usize, work: &[u64], k: usize, add: u64)
 }
 
 // Numbers from `at` on, each with `add` more, for n states from state `low` on.
-fn offer(best: &mut [u64; 256], low: usize, work: &[u64], at: usize, n: usize, add: u64)
+fn offer(best: &mut [u64; 512], low: usize, work: &[u64], at: usize, n: usize, add: u64)
     requires { ⌜ Offering (now best) (now work) low at n add ⌝ }
     ensures { λ _. ⌜
-        now (best .exit)
-        ≡ stored (now (best .entry)) low
-        (λ (i : ℕ). max (getD (now (best .entry)) (low + i) 0) (getD (now (work .entry)) (at + i) 0 + add)) n
+        now (best .exit) ≡ raisedTo (now (best .entry)) low (λ (i : ℕ). getD (now (work .entry)) (at + i) 0 + add) n
         ⌝ }
 {
     for i in 0..n {
@@ -60,7 +67,7 @@ fn offer(best: &mut [u64; 256], low: usize, work: &[u64], at: usize, n: usize, a
 }
 
 // Amount t, up to the level, for the states whose guarantee it does not pass.
-fn offer_amount(best: &mut [u64; 256], work: &[u64], d: Date, s: Block, t: usize)
+fn offer_amount(best: &mut [u64; 512], work: &[u64], d: Date, s: Block, t: usize)
     requires { ⌜ Span (now work) d s × (t ≤ d .level) × Held (keyAt (now work) d s) (now best) (s .n) (triedTo s t) ⌝ }
     ensures { λ _. ⌜ Held (keyAt (now (work .entry)) d s) (now (best .exit)) (s .n) (triedTo s (t + 1)) ⌝ }
 {
@@ -70,8 +77,8 @@ fn offer_amount(best: &mut [u64; 256], work: &[u64], d: Date, s: Block, t: usize
 }
 
 // The amounts 0 to m: whatever the states held, they hold the key of amount 0 first.
-fn free_block(best: &mut [u64; 256], work: &[u64], d: Date, s: Block)
-    requires { ⌜ Span (now work) d s × (256 ≤ length (now best)) ⌝ }
+fn free_block(best: &mut [u64; 512], work: &[u64], d: Date, s: Block)
+    requires { ⌜ Span (now work) d s × (512 ≤ length (now best)) ⌝ }
     ensures { λ _. ⌜ Held (keyAt (now (work .entry)) d s) (now (best .exit)) (s .n) (triedBelow d s 0) ⌝ }
 {
     let at = keys::place(d, s.w, s.from);
@@ -84,7 +91,7 @@ fn free_block(best: &mut [u64; 256], work: &[u64], d: Date, s: Block)
 
 // The best of withdrawing further than m, for n states that have the same m: read off the row below.
 fn further_run(
-    best: &mut [u64; 256],
+    best: &mut [u64; 512],
     work: &[u64],
     d: Date,
     s: Block,
@@ -112,7 +119,7 @@ fn further_run(
 }
 
 // Up to the level m is the guarantee itself.
-fn further_few(best: &mut [u64; 256], work: &[u64], d: Date, s: Block)
+fn further_few(best: &mut [u64; 512], work: &[u64], d: Date, s: Block)
     requires { ⌜
         Span (now work) d s
         × Furthered (now work) d (s .w)
@@ -130,7 +137,7 @@ fn further_few(best: &mut [u64; 256], work: &[u64], d: Date, s: Block)
 }
 
 // The amounts above m where the account is not below the guarantee: account and guarantee fall alike.
-fn further_block(best: &mut [u64; 256], work: &[u64], d: Date, s: Block)
+fn further_block(best: &mut [u64; 512], work: &[u64], d: Date, s: Block)
     requires { ⌜
         Span (now work) d s
         × Furthered (now work) d (s .w)
@@ -154,10 +161,10 @@ fn lesser(x: u64, y: u64) -> u64
     if x < y { x } else { y }
 }
 
-// No more than any of n keys from state `low` on.
-fn least(best: &[u64; 256], low: usize, n: usize) -> u64
-    requires { ⌜ low + n ≤ 256 ⌝ }
-    ensures { λ r. ⌜ ((i : ℕ) → i < n → r ≤ getD (now (best .entry)) (low + i) 0) ⌝ }
+// The least of n keys from state `low` on.
+fn least(best: &[u64; 512], low: usize, n: usize) -> u64
+    requires { ⌜ (n ≤ 512) × ((i : ℕ) → i < n → low + i < 512) ⌝ }
+    ensures { λ r. ⌜ r ≡ leastOf (λ (i : ℕ). getD (now (best .entry)) (low + i) 0) n ⌝ }
 {
     let mut r: u64 = 18446744073709551615;
     for i in 0..n {
@@ -166,8 +173,9 @@ fn least(best: &[u64; 256], low: usize, n: usize) -> u64
     r
 }
 
-// Where an amount leads: the row of its balance, the step by which what is left of a guarantee grows, the key of its cash.
+// Where amount t leads: the row of its balance, the step by which what is left of a guarantee grows, the key of its cash.
 struct Way {
+    t: usize,
     at: usize,
     step: usize,
     add: u64,
@@ -182,10 +190,12 @@ fn lead(d: Date, w: usize, inverse: usize, t: usize) -> Way
         × (t ≤ w)
         × (w ≤ topMost)
         × (d .rate ≤ 10000)
+        × (inverse ≡ inverseOf w)
         ⌝ }
-    ensures { λ r. ⌜ Shared d w inverse t r ⌝ }
+    ensures { λ r. ⌜ (r .t ≡ t) × Shared d w r ⌝ }
 {
     Way {
+        t,
         at: d.base + (w - t) * d.stride,
         step: (w - t) * inverse,
         add: keys::key(date::cash(d.rate, d.level, t), t),
@@ -194,23 +204,27 @@ fn lead(d: Date, w: usize, inverse: usize, t: usize) -> Way
 
 // .. and where the next amount leads: by a step, since products cost more than the rest of an amount that is passed over.
 fn step_on(to: Way, d: Date, inverse: usize) -> Way
-    requires { ⌜ (d .stride ≤ to .at) × (1 ≤ to .add) × (to .add < 2 ^ 59) × (d .rate ≤ 10000) ⌝ }
-    ensures { λ r. ⌜
-        (r .at ≡ to .at - d .stride)
-        × (r .step ≡ to .step - inverse)
-        × (r .add ≡ to .add + 8192 * (10000 - d .rate) - 1)
+    requires { ⌜
+        (to .t < topMost)
+        × (d .stride ≤ to .at)
+        × (inverse ≤ to .step)
+        × (1 ≤ to .add)
+        × (to .add < 2 ^ 59)
+        × (d .rate ≤ 10000)
         ⌝ }
+    ensures { λ r. ⌜ Stepped d inverse to r ⌝ }
 {
     Way {
+        t: to.t + 1,
         at: to.at - d.stride,
-        step: date::less(to.step, inverse),
+        step: to.step - inverse,
         add: to.add + (8192 * (10000 - d.rate)) as u64 - 1,
     }
 }
 
 // As `raise`, for a loop that is not widened: an amount seldom gains, so that a branch costs less than a store.
-fn raise_one(best: &mut [u64; 256], j: usize, work: &[u64], k: usize, add: u64)
-    requires { ⌜ (j < 256) × (k < length (now work)) × (getD (now work) k 0 + add < 2 ^ 63) ⌝ }
+fn raise_one(best: &mut [u64; 512], j: usize, work: &[u64], k: usize, add: u64)
+    requires { ⌜ (j < 512) × (k < length (now work)) × (getD (now work) k 0 + add < 2 ^ 63) ⌝ }
     ensures { λ _. ⌜
         now (best .exit) ≡ set (now (best .entry)) j (max (getD (now (best .entry)) j 0) (getD (now (work .entry)) k 0 + add))
         ⌝ }
@@ -223,68 +237,137 @@ fn raise_one(best: &mut [u64; 256], j: usize, work: &[u64], k: usize, add: u64)
 
 // An amount where the guarantee falls in proportion, for n states from state `low` on, the first with guarantee `first`. The
 // loop looks up single entries.
-fn offer_share(best: &mut [u64; 256], low: usize, n: usize, work: &[u64], first: usize, r: Way)
+fn offer_share(best: &mut [u64; 512], low: usize, n: usize, work: &[u64], first: usize, r: Way)
     requires { ⌜ Sharing (now work) low n first r ⌝ }
     ensures { λ _. ⌜
         now (best .exit)
-        ≡ stored (now (best .entry)) low
-        (λ (i : ℕ). max (getD (now (best .entry)) (low + i) 0) (getD (now (work .entry)) (r .at + left (r .step) (first + i)) 0 + r .add)) n
+        ≡ raisedTo (now (best .entry)) low (λ (i : ℕ). getD (now (work .entry)) (r .at + left (r .step) (first + i)) 0 + r .add) n
         ⌝ }
 {
+    let mut product = first * r.step;
     for i in 0..n {
-        raise_one(
-            best,
-            low + i,
-            work,
-            r.at + (first + i) * r.step / 1099511627776,
-            r.add,
-        );
+        raise_one(best, low + i, work, r.at + product / 1099511627776, r.add);
+        product += r.step;
     }
 }
 
-// The states from `low` to `end`, none of which holds less than `bound`.
+// The states from `low` to `end`. Where `bound` is not 0, the rows rise with the guarantee and none of the states holds less.
 struct Run {
     low: usize,
     end: usize,
-    inverse: usize,
     bound: u64,
-    rising: bool,
 }
 
-// Whether an amount gains for no state of a run: where the rows rise with the guarantee and the last state does not gain.
-fn passed_over(work: &[u64], r: Run, last: usize, s: Way) -> bool
-    requires { ⌜ (last * s .step < 18446744073709551616) × (s .at + left (s .step) last < length (now work))
-        × (getD (now work) (s .at + left (s .step) last) 0 + s .add < 18446744073709551616) ⌝ }
-    ensures { λ p. ⌜ (p ≡ true → (r .rising ≡ true) × (getD (now (work .entry)) (s .at + left (s .step) last) 0 + s .add ≤ r .bound)) ⌝ }
+// The key of an amount for the state of guarantee a.
+fn offered(work: &[u64], a: usize, to: Way) -> u64
+    requires { ⌜
+        (a * to .step < 18446744073709551616)
+        × (to .at + left (to .step) a < length (now work))
+        × (getD (now work) (to .at + left (to .step) a) 0 + to .add < 18446744073709551616)
+        ⌝ }
+    ensures { λ r. ⌜ r ≡ getD (now (work .entry)) (to .at + left (to .step) a) 0 + to .add ⌝ }
 {
-    if r.rising {
-        let at = s.at;
-        return work[at + last * s.step / 1099511627776] + s.add <= r.bound;
-    }
-    false
+    work[to.at + a * to.step / 1099511627776] + to.add
 }
 
-// Amount t, for the states of a run.
-fn share_amount(best: &mut [u64; 256], work: &[u64], d: Date, s: Block, r: Run, t: usize, to: Way)
+// An amount above m, for the states of a run, if any: passed over where the last of them does not gain.
+fn share_few(best: &mut [u64; 512], work: &[u64], d: Date, s: Block, r: Run, to: Way)
     requires { ⌜
         Span (now work) d s
-        × Running (now work) d s r
-        × Held (keyAt (now work) d s) (now best) (s .n) (triedRun d s (r .low) (r .end) t)
-        × (d .level < t)
-        × (t ≤ s .w)
-        × Shared d (s .w) (r .inverse) t to
+        × Running d s r
+        × Bounded (now work) d s (λ (j : ℕ). getD (now best) j 0) r
+        × Leading d s to
+        × (512 ≤ length (now best))
         ⌝ }
-    ensures { λ _. ⌜ Held (keyAt (now (work .entry)) d s) (now (best .exit)) (s .n) (triedRun d s (r .low) (r .end) (t + 1)) ⌝ }
+    ensures { λ _. ⌜
+        now (best .exit)
+        ≡ raisedTo (now (best .entry)) (r .low) (λ (i : ℕ). keyAt (now (work .entry)) d s (r .low + i) (to .t)) (r .end - r .low)
+        ⌝ }
 {
-    if passed_over(work, r, s.from + r.end - 1, to) {
-        return;
+    if r.low < r.end {
+        let last = s.from + r.end - 1;
+        if r.bound < offered(work, last, to) {
+            offer_share(best, r.low, r.end - r.low, work, s.from + r.low, to);
+        }
     }
-    offer_share(best, r.low, r.end - r.low, work, s.from + r.low, to);
 }
 
-// The amounts above m, for 16 states from state `low` on. Gives the state after them.
+// Part p of a run: 8 states, with a bound of their own.
+fn part(r: Run, p: usize, bound: u64) -> Run
+    requires { ⌜ (p < 4) × (r .low ≤ 512) ⌝ }
+    ensures { λ q. ⌜ (q .low ≡ r .low + 8 * p) × (q .end ≡ min (r .end) (r .low + 8 * p + 8)) × (q .bound ≡ bound) ⌝ }
+{
+    let low = r.low + 8 * p;
+    Run {
+        low,
+        end: date::smaller(r.end, low + 8),
+        bound,
+    }
+}
+
+// .. for a run of up to 32 states: passed over for all of them, or 8 at a time.
+fn share_amount(
+    best: &mut [u64; 512],
+    work: &[u64],
+    d: Date,
+    s: Block,
+    r: Run,
+    bounds: &[u64; 4],
+    to: Way,
+)
+    requires { ⌜
+        Span (now work) d s
+        × Running d s r
+        × (r .low < r .end)
+        × Bounds (now work) d s (λ (j : ℕ). getD (now best) j 0) r (now bounds)
+        × Leading d s to
+        × (512 ≤ length (now best))
+        ⌝ }
+    ensures { λ _. ⌜
+        now (best .exit)
+        ≡ raisedTo (now (best .entry)) (r .low) (λ (i : ℕ). keyAt (now (work .entry)) d s (r .low + i) (to .t)) (r .end - r .low)
+        ⌝ }
+{
+    if r.bound < offered(work, s.from + r.end - 1, to) {
+        for p in 0..4 {
+            share_few(best, work, d, s, part(r, p, bounds[p]), to);
+        }
+    }
+}
+
+// A number that no state from `low` to `end` holds less than, among the first 8 of them; 0 where the rows may fall.
+fn bound_from(best: &[u64; 512], low: usize, end: usize, rising: bool) -> u64
+    requires { ⌜ (low ≤ 1024) × (end ≤ 512) ⌝ }
+    ensures { λ r. ⌜ r ≡ boundOf rising (now (best .entry)) low end ⌝ }
+{
+    if rising {
+        return least(best, low, date::less(date::smaller(end, low + 8), low));
+    }
+    0
+}
+
+fn fill_bounds(bounds: &mut [u64; 4], best: &[u64; 512], low: usize, end: usize, rising: bool)
+    requires { ⌜ (low ≤ 512) × (end ≤ 512) ⌝ }
+    ensures { λ _. ⌜ now (bounds .exit) ≡ stored (now (bounds .entry)) 0 (λ (p : ℕ). boundOf rising (now (best .entry)) (low + 8 * p) end) 4 ⌝ }
+{
+    for p in 0..4 {
+        bounds[p] = bound_from(best, low + 8 * p, end, rising);
+    }
+}
+
+fn least_bound(bounds: &[u64; 4]) -> u64
+    ensures { λ r. ⌜
+        r
+        ≡ min (min (getD (now (bounds .entry)) 0 0) (getD (now (bounds .entry)) 1 0))
+        (min (getD (now (bounds .entry)) 2 0) (getD (now (bounds .entry)) 3 0))
+        ⌝ }
+{
+    lesser(lesser(bounds[0], bounds[1]), lesser(bounds[2], bounds[3]))
+}
+
+// The amounts above m, for 32 states from state `low` on. Gives the state after them.
 fn share_run(
-    best: &mut [u64; 256],
+    best: &mut [u64; 512],
     work: &[u64],
     d: Date,
     s: Block,
@@ -300,30 +383,26 @@ fn share_run(
         × (d .level < s .w)
         ⌝ }
     ensures { λ r. ⌜
-        (r ≡ min (s .n) (low + 16))
-        × Held (keyAt (now (work .entry)) d s) (now (best .exit)) (s .n) (triedBelow d s (min (s .n) (low + 16)))
+        (r ≡ min (s .n) (low + 32))
+        × Held (keyAt (now (work .entry)) d s) (now (best .exit)) (s .n) (triedBelow d s (min (s .n) (low + 32)))
         ⌝ }
 {
-    let end = date::smaller(s.n, low + 16);
-    let bound = least(best, low, end - low);
-    let r = Run {
-        low,
-        end,
-        inverse: (1099511627776 + s.w - 1) / s.w,
-        bound,
-        rising,
-    };
-    let mut to = lead(d, s.w, r.inverse, d.level + 1);
-    let last = s.w + 1;
-    for t in d.level + 1..last {
-        share_amount(best, work, d, s, r, t, to);
-        to = step_on(to, d, r.inverse);
+    let end = date::smaller(s.n, low + 32);
+    let mut bounds = [0u64; 4];
+    fill_bounds(&mut bounds, best, low, end, rising);
+    let bound = least_bound(&bounds);
+    let r = Run { low, end, bound };
+    let inverse = (1099511627776 + s.w - 1) / s.w;
+    let mut to = lead(d, s.w, inverse, d.level);
+    while to.t < s.w {
+        to = step_on(to, d, inverse);
+        share_amount(best, work, d, s, r, &bounds, to);
     }
     end
 }
 
 // The amounts above m where the account is below the guarantee.
-fn share_block(best: &mut [u64; 256], work: &[u64], d: Date, s: Block, rising: bool)
+fn share_block(best: &mut [u64; 512], work: &[u64], d: Date, s: Block, rising: bool)
     requires { ⌜
         Span (now work) d s
         × Held (keyAt (now work) d s) (now best) (s .n) (triedBelow d s (min (s .n) (s .w + 1 - s .from)))
@@ -340,8 +419,8 @@ fn share_block(best: &mut [u64; 256], work: &[u64], d: Date, s: Block, rising: b
 }
 
 // Every amount from 0 to the larger of w and m.
-pub fn decide_block(best: &mut [u64; 256], work: &[u64], d: Date, s: Block, rising: bool)
-    requires { ⌜ Span (now work) d s × Row (now work) d (s .w) rising × (256 ≤ length (now best)) ⌝ }
+pub fn decide_block(best: &mut [u64; 512], work: &[u64], d: Date, s: Block, rising: bool)
+    requires { ⌜ Span (now work) d s × Row (now work) d (s .w) rising × (512 ≤ length (now best)) ⌝ }
     ensures { λ _. ⌜ Keys dynamic (sums (now (work .entry)) d) d s (now (best .exit)) ⌝ }
 {
     free_block(best, work, d, s);
@@ -349,20 +428,25 @@ pub fn decide_block(best: &mut [u64; 256], work: &[u64], d: Date, s: Block, risi
     share_block(best, work, d, s, rising);
 }
 
-// 1 where the next entry is smaller.
+// 1 where the next entry is smaller, by the sign of the difference.
 fn falls_at(work: &[u64], k: usize) -> u64
-    requires { ⌜ k + 1 < length (now work) ⌝ }
-    ensures { λ r. ⌜ (r ≤ 1) × (r ≡ 0 → getD (now (work .entry)) k 0 ≤ getD (now (work .entry)) (k + 1) 0) ⌝ }
+    requires { ⌜ (k + 1 < length (now work)) × (getD (now work) k 0 < 2 ^ 63) × (getD (now work) (k + 1) 0 < 2 ^ 63) ⌝ }
+    ensures { λ r. ⌜
+        (r ≤ 1)
+        × (r ≡ 0 → getD (now (work .entry)) k 0 ≤ getD (now (work .entry)) (k + 1) 0)
+        × (getD (now (work .entry)) k 0 ≤ getD (now (work .entry)) (k + 1) 0 → r ≡ 0)
+        ⌝ }
 {
-    if work[k + 1] < work[k] { 1 } else { 0 }
+    std::num::wrapping_sub_u64(work[k + 1], work[k]) / 9223372036854775808
 }
 
 // How often a row falls, counted so that the loop can be widened.
 fn falls(work: &[u64], at: usize, n: usize) -> u64
-    requires { ⌜ (n ≤ topMost) × ((i : ℕ) → i < n → at + i + 1 < length (now work)) ⌝ }
+    requires { ⌜ (n ≤ topMost) × ((i : ℕ) → i < n + 1 → (at + i < length (now work)) × (getD (now work) (at + i) 0 < 2 ^ 63)) ⌝ }
     ensures { λ r. ⌜
         (r ≤ n)
-        × (r ≡ 0 → (i : ℕ) → i < n → getD (now (work .entry)) (at + i) 0 ≤ getD (now (work .entry)) (at + i + 1) 0)
+        × (r ≡ 0 → Ascending (now (work .entry)) at n)
+        × (Ascending (now (work .entry)) at n → r ≡ 0)
         ⌝ }
 {
     let mut r: u64 = 0;
@@ -375,7 +459,10 @@ fn falls(work: &[u64], at: usize, n: usize) -> u64
 // Whether each of n rows rises with the guarantee. The rules do not say so, so it is tested.
 pub fn rises(work: &[u64], d: Date, n: usize) -> bool
     requires { ⌜ Sums (now work) d n ⌝ }
-    ensures { λ r. ⌜ (r ≡ true → Rising (cells (now (work .entry)) (d .base) (d .stride)) (d .stride) n) ⌝ }
+    ensures { λ r. ⌜
+        (r ≡ true → Rising (cells (now (work .entry)) (d .base) (d .stride)) (d .stride) n)
+        × (Rising (cells (now (work .entry)) (d .base) (d .stride)) (d .stride) n → r ≡ true)
+        ⌝ }
 {
     let stride = d.stride;
     let steps = date::less(stride, 1);

@@ -89,7 +89,7 @@ filled l f n e fits k h = ap (λ (z : List ℕ). getD z k 0) e ∙ stored-first 
 
 -- the first n entries stored
 pub summed : {work starts weights sums' : List ℕ} {from n k j : ℕ} (sums : List ℕ)
-    → sums' ≡ stored sums 0 (λ i. sum (term work starts weights (from + i)) k) j → j ≡ n → n ≤ 256 → 256 ≤ length sums
+    → sums' ≡ stored sums 0 (λ i. sum (term work starts weights (from + i)) k) j → j ≡ n → n ≤ 512 → 512 ≤ length sums
     → Summed work starts weights sums' from n k
 summed {j = j} sums e all short long = record {
   long = let l = ap length e ∙ length-stored sums 0 _ j in omega arith;
@@ -137,7 +137,7 @@ module _ {work starts weights : List ℕ} {count discount most to stride : ℕ} 
   }
 
 -- the last n guarantees of a row
-pub row-run : {work starts weights : List ℕ} {count discount most to : ℕ} (from n : ℕ) → Row work starts weights count discount most to (from + n) → n ≤ 256
+pub row-run : {work starts weights : List ℕ} {count discount most to : ℕ} (from n : ℕ) → Row work starts weights count discount most to (from + n) → n ≤ 512
     → Run work starts weights count most from n
 row-run from n r h = record {
   few = r .few;
@@ -147,9 +147,9 @@ row-run from n r h = record {
 }
 
 -- no returns yet
-pub summed-none : {work starts weights : List ℕ} (from n : ℕ) → n ≤ 256 → Summed work starts weights (replicate 256 0) from n 0
+pub summed-none : {work starts weights : List ℕ} (from n : ℕ) → n ≤ 512 → Summed work starts weights (replicate 512 0) from n 0
 unfolding sum
-summed-none from n h = record { long = le-of-eq refl; each = λ j l. getD-replicate 256 j 0 0 (omega arith) }
+summed-none from n h = record { long = le-of-eq refl; each = λ j l. getD-replicate 512 j 0 0 (omega arith) }
 
 -- ---- the row of one balance
 module _ {c : Terms} {work list weights : List ℕ} {count discount most balance stride size : ℕ} (b : Balance c work list weights count discount most balance stride size) where

@@ -42,13 +42,13 @@ pub record Reached (work starts weights : List ℕ) (most a k : ℕ) : Type 0 wh
 -- n guarantees, from `from` on
 pub record Run (work starts weights : List ℕ) (count most from n : ℕ) : Type 0 where
   pub few : count ≤ returnsMost
-  pub short : n ≤ 256
+  pub short : n ≤ 512
   pub most-is : most ≤ entryMost
   pub reached : (k j : ℕ) → k < count → j < n → Reached work starts weights most (from + j) k
 
 -- .. and their sums over the first k returns
 pub record Summed (work starts weights sums : List ℕ) (from n k : ℕ) : Type 0 where
-  pub long : 256 ≤ length sums
+  pub long : 512 ≤ length sums
   pub each : (j : ℕ) → j < n → getD sums j 0 ≡ sum (term work starts weights (from + j)) k
 
 -- a row to be filled at `to`, from rows that lie before it

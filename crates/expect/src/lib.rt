@@ -95,7 +95,7 @@ fn reached_sum(
 
 // Return k, for n guarantees.
 fn add_one(
-    sums: &mut [usize; 256],
+    sums: &mut [usize; 512],
     work: &[u64],
     starts: &[usize; 64],
     weights: &[u32; 64],
@@ -116,7 +116,7 @@ fn add_one(
 
 // Eight returns at once: one load and one store of a sum for eight products.
 fn add_eight(
-    sums: &mut [usize; 256],
+    sums: &mut [usize; 512],
     work: &[u64],
     starts: &[usize; 64],
     weights: &[u32; 64],
@@ -137,14 +137,14 @@ fn add_eight(
 
 // The first eight: their sums are stored, whatever stood there, so that no zeros need be written and read before.
 fn set_eight(
-    sums: &mut [usize; 256],
+    sums: &mut [usize; 512],
     work: &[u64],
     starts: &[usize; 64],
     weights: &[u32; 64],
     from: usize,
     n: usize,
 )
-    requires { ⌜ Run (now work) (now starts) (now weights) 8 4294967295 from n × (256 ≤ length (now sums)) ⌝ }
+    requires { ⌜ Run (now work) (now starts) (now weights) 8 4294967295 from n × (512 ≤ length (now sums)) ⌝ }
     ensures { λ _. ⌜ Summed (now (work .entry)) (now (starts .entry)) (now (weights .entry)) (now (sums .exit)) from n 8 ⌝ }
 {
     for j in 0..n {
@@ -155,7 +155,7 @@ fn set_eight(
 // The sums of the first eight returns, or of none where there are fewer or a value has more than 32 bits. Gives the number of the
 // return after them.
 fn set_first(
-    sums: &mut [usize; 256],
+    sums: &mut [usize; 512],
     work: &[u64],
     starts: &[usize; 64],
     weights: &[u32; 64],
@@ -165,7 +165,7 @@ fn set_first(
 ) -> usize
     requires { ⌜
         Run (now work) (now starts) (now weights) (average .count) (average .most) from n
-        × (256 ≤ length (now sums))
+        × (512 ≤ length (now sums))
         ⌝ }
     ensures { λ r. ⌜
         Summed (now (work .entry)) (now (starts .entry)) (now (weights .entry)) (now (sums .exit)) from n r
@@ -176,13 +176,13 @@ fn set_first(
         set_eight(sums, work, starts, weights, from, n);
         return 8;
     }
-    *sums = [0usize; 256];
+    *sums = [0usize; 512];
     0
 }
 
 // The next eight returns, or one where fewer are left or a value has more than 32 bits. Gives the number of the return after them.
 fn add_next(
-    sums: &mut [usize; 256],
+    sums: &mut [usize; 512],
     work: &[u64],
     starts: &[usize; 64],
     weights: &[u32; 64],
@@ -212,7 +212,7 @@ fn add_next(
 
 // The sums of n guarantees, from `from` on, whatever stood in `sums`.
 fn add_all(
-    sums: &mut [usize; 256],
+    sums: &mut [usize; 512],
     work: &[u64],
     starts: &[usize; 64],
     weights: &[u32; 64],
@@ -222,7 +222,7 @@ fn add_all(
 )
     requires { ⌜
         Run (now work) (now starts) (now weights) (average .count) (average .most) from n
-        × (256 ≤ length (now sums))
+        × (512 ≤ length (now sums))
         ⌝ }
     ensures { λ _. ⌜ Summed (now (work .entry)) (now (starts .entry)) (now (weights .entry)) (now (sums .exit)) from n (average .count) ⌝ }
 {
@@ -248,10 +248,10 @@ fn scaled_sum(low: bool, discount: usize, sum: usize) -> u64
 }
 
 // The sums, discounted and times 8,192.
-fn store_sums(work: &mut [u64], sums: &[usize; 256], average: Average, to: usize, n: usize)
+fn store_sums(work: &mut [u64], sums: &[usize; 512], average: Average, to: usize, n: usize)
     requires { ⌜
         (average .discount ≤ discountMost)
-        × (n ≤ 256)
+        × (n ≤ 512)
         × (to + n ≤ length (now work))
         × (average .most ≤ entryMost)
         × ((j : ℕ) → j < n → getD (now sums) j 0 ≤ weightTotal * average .most)
@@ -277,7 +277,7 @@ struct Part {
 // The discounted sums of a part of a row, times 8,192. What stood in `sums` does not matter.
 fn expect_run(
     work: &mut [u64],
-    sums: &mut [usize; 256],
+    sums: &mut [usize; 512],
     starts: &[usize; 64],
     weights: &[u32; 64],
     average: Average,
@@ -285,8 +285,8 @@ fn expect_run(
 )
     requires { ⌜
         Row (now work) (now starts) (now weights) (average .count) (average .discount) (average .most) (p .to) (p .from + p .n)
-        × (p .n ≤ 256)
-        × (256 ≤ length (now sums))
+        × (p .n ≤ 512)
+        × (512 ≤ length (now sums))
         ⌝ }
     ensures { λ _. ⌜
         (now (work .exit)
@@ -296,17 +296,17 @@ fn expect_run(
         * discounted (average .discount)
         (sum (term (now (work .entry)) (now (starts .entry)) (now (weights .entry)) (p .from + j)) (average .count)))
         (p .n))
-        × (256 ≤ length (now (sums .exit)))
+        × (512 ≤ length (now (sums .exit)))
         ⌝ }
 {
     add_all(sums, &work[..], starts, weights, average, p.from, p.n);
     store_sums(work, sums, average, p.to + p.from, p.n);
 }
 
-// The row at `to`: the discounted sum of each guarantee, times 8,192, 256 at a time.
+// The row at `to`: the discounted sum of each guarantee, times 8,192, 512 at a time.
 fn expect_row(
     work: &mut [u64],
-    sums: &mut [usize; 256],
+    sums: &mut [usize; 512],
     starts: &[usize; 64],
     weights: &[u32; 64],
     average: Average,
@@ -315,7 +315,7 @@ fn expect_row(
 )
     requires { ⌜
         Row (now work) (now starts) (now weights) (average .count) (average .discount) (average .most) to stride
-        × (256 ≤ length (now sums))
+        × (512 ≤ length (now sums))
         ⌝ }
     ensures { λ _. ⌜
         (now (work .exit)
@@ -325,12 +325,12 @@ fn expect_row(
         * discounted (average .discount)
         (sum (term (now (work .entry)) (now (starts .entry)) (now (weights .entry)) a) (average .count)))
         stride)
-        × (256 ≤ length (now (sums .exit)))
+        × (512 ≤ length (now (sums .exit)))
         ⌝ }
 {
     let mut from: usize = 0;
     while from < stride {
-        let n = date::smaller(256, stride - from);
+        let n = date::smaller(512, stride - from);
         expect_run(work, sums, starts, weights, average, Part { to, from, n });
         from += n;
     }
@@ -366,7 +366,7 @@ fn fill_starts(
 // The row of one balance in the second layer.
 fn expect_balance(
     work: &mut [u64],
-    sums: &mut [usize; 256],
+    sums: &mut [usize; 512],
     list: &[u8],
     weights: &[u32; 64],
     average: Average,
@@ -376,14 +376,14 @@ fn expect_balance(
     requires { ⌜
         Balance (termsIn c) (now work) (now list) (now weights) (average .count) (average .discount) (average .most) balance
         (c .premium + 1) ((c .top + 1) * (c .premium + 1))
-        × (256 ≤ length (now sums))
+        × (512 ≤ length (now sums))
         ⌝ }
     ensures { λ _. ⌜
         (now (work .exit)
         ≡ stored (now (work .entry)) ((c .top + 1) * (c .premium + 1) + balance * (c .premium + 1))
         (scaled (expected (termsIn c) (returnsOf (now (list .entry))) (cells (now (work .entry)) 0 (c .premium + 1))) balance)
         (c .premium + 1))
-        × (256 ≤ length (now (sums .exit)))
+        × (512 ≤ length (now (sums .exit)))
         ⌝ }
 {
     let stride = c.premium + 1;
@@ -447,7 +447,7 @@ pub fn expect_layer(work: &mut [u64], list: &[u8], count: usize, c: Contract)
         most: most(&work[..], size, c),
     };
     // One array for all balances: what a balance leaves there does not matter to the next, and clearing it for each takes time.
-    let mut sums = [0usize; 256];
+    let mut sums = [0usize; 512];
     let end = c.top + 1;
     for balance in 0..end {
         expect_balance(work, &mut sums, list, &weights, average, c, balance);

@@ -30,12 +30,12 @@ pub record Sums (work : List ℕ) (d : Date) (n : ℕ) : Type 0 where
 -- n states of account w, from guarantee `from` on
 pub record Span (work : List ℕ) (d : Date) (s : Block) : Type 0 where
   pub layers : Sums work d (s .w + 1)
-  pub short : s .n ≤ 256
+  pub short : s .n ≤ 512
   pub columns : s .from + s .n ≤ d .stride
 
 -- n numbers from `at` on, each with `add` more, for the states from `low` on
 pub record Copying (work : List ℕ) (low at n add : ℕ) : Type 0 where
-  pub within : low + n ≤ 256
+  pub within : low + n ≤ 512
   pub room : at + n ≤ length work
   pub more : add < 2 ^ 62
   pub small : (i : ℕ) → i < n → getD work (at + i) 0 < 2 ^ 62

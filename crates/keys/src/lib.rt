@@ -49,15 +49,15 @@ pub fn place(d: Date, x: usize, y: usize) -> usize
 }
 
 // The number at k with `add` more, for state j.
-fn put(best: &mut [u64; 256], j: usize, work: &[u64], k: usize, add: u64)
-    requires { ⌜ (j < 256) × (k < length (now work)) × (getD (now work) k 0 + add < 2 ^ 63) ⌝ }
+fn put(best: &mut [u64; 512], j: usize, work: &[u64], k: usize, add: u64)
+    requires { ⌜ (j < 512) × (k < length (now work)) × (getD (now work) k 0 + add < 2 ^ 63) ⌝ }
     ensures { λ _. ⌜ now (best .exit) ≡ set (now (best .entry)) j (getD (now (work .entry)) k 0 + add) ⌝ }
 {
     best[j] = work[k] + add;
 }
 
 // .. for n states from state `low` on.
-pub fn copy(best: &mut [u64; 256], low: usize, work: &[u64], at: usize, n: usize, add: u64)
+pub fn copy(best: &mut [u64; 512], low: usize, work: &[u64], at: usize, n: usize, add: u64)
     requires { ⌜ Copying (now work) low at n add ⌝ }
     ensures { λ _. ⌜
         now (best .exit) ≡ stored (now (best .entry)) low (λ (i : ℕ). getD (now (work .entry)) (at + i) 0 + add) n

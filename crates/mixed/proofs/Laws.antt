@@ -113,8 +113,8 @@ module _ {work : List ℕ} {d : Date} {s : Block} (b : Span work d s) {x y at lo
     }
 
 -- ---- the two parts of a block
-pub both-parts : {d : Date} {s : Block} {e : ℕ → ℕ → ℕ} (behaviour : ℕ) (best best₁ best₂ : List ℕ) (low : ℕ) → low ≤ s .n → s .n ≤ 256
-    → 256 ≤ length best
+pub both-parts : {d : Date} {s : Block} {e : ℕ → ℕ → ℕ} (behaviour : ℕ) (best best₁ best₂ : List ℕ) (low : ℕ) → low ≤ s .n → s .n ≤ 512
+    → 512 ≤ length best
     → best₁ ≡ stored best 0 (λ j. rowKey behaviour d (s .w) e (s .from + j)) low
     → best₂ ≡ stored best₁ low (λ i. rowKey behaviour d (s .w) e (s .from + (low + i))) (s .n - low)
     → Keys (behaviourOf behaviour) e d s best₂

@@ -1,4 +1,4 @@
-// The states of an account under the static and the mixed behaviour, a block of up to 256 guarantees at a time: the key of each
+// The states of an account under the static and the mixed behaviour, a block of up to 512 guarantees at a time: the key of each
 // one's value and recorded amount.
 ghost use mathlib.Core.Path.{_≡_};
 ghost use Prim.Native.Nat.{ℕ, _+_, _-_, _^_, _≤_, _<_, max, min};
@@ -39,7 +39,7 @@ fn state_key(behaviour: usize, work: &[u64], d: Date, w: usize, a: usize) -> u64
 }
 
 // Below the level m is the guarantee itself, and each state leads to another row.
-fn below_level(behaviour: usize, best: &mut [u64; 256], work: &[u64], d: Date, s: Block, n: usize)
+fn below_level(behaviour: usize, best: &mut [u64; 512], work: &[u64], d: Date, s: Block, n: usize)
     requires { ⌜ (behaviour ≤ 1) × Span (now work) d s × (n ≤ s .n) ⌝ }
     ensures { λ _. ⌜
         now (best .exit)
@@ -53,8 +53,8 @@ fn below_level(behaviour: usize, best: &mut [u64; 256], work: &[u64], d: Date, s
 }
 
 // The number at k with `add` more, for state j; no less than `other`.
-fn put_larger(best: &mut [u64; 256], j: usize, work: &[u64], k: usize, add: u64, other: u64)
-    requires { ⌜ (j < 256) × (k < length (now work)) × (getD (now work) k 0 + add < 2 ^ 63) × (other < 2 ^ 63) ⌝ }
+fn put_larger(best: &mut [u64; 512], j: usize, work: &[u64], k: usize, add: u64, other: u64)
+    requires { ⌜ (j < 512) × (k < length (now work)) × (getD (now work) k 0 + add < 2 ^ 63) × (other < 2 ^ 63) ⌝ }
     ensures { λ _. ⌜ now (best .exit) ≡ set (now (best .entry)) j (max (getD (now (work .entry)) k 0 + add) other) ⌝ }
 {
     best[j] = keys::larger(work[k] + add, other);
@@ -62,7 +62,7 @@ fn put_larger(best: &mut [u64; 256], j: usize, work: &[u64], k: usize, add: u64,
 
 // .. for n states from state `low` on.
 fn copy_larger(
-    best: &mut [u64; 256],
+    best: &mut [u64; 512],
     low: usize,
     work: &[u64],
     at: usize,
@@ -81,7 +81,7 @@ fn copy_larger(
 }
 
 // From the level on m is the level, and the states lead to one row.
-fn from_level(behaviour: usize, best: &mut [u64; 256], work: &[u64], d: Date, s: Block, low: usize)
+fn from_level(behaviour: usize, best: &mut [u64; 512], work: &[u64], d: Date, s: Block, low: usize)
     requires { ⌜ (behaviour ≤ 1) × Span (now work) d s × (low ≡ min (s .n) (d .level - s .from)) ⌝ }
     ensures { λ _. ⌜
         now (best .exit)
@@ -114,8 +114,8 @@ fn from_level(behaviour: usize, best: &mut [u64; 256], work: &[u64], d: Date, s:
 }
 
 // The states of a block under behaviour 0 static, 1 mixed.
-pub fn decide_block(behaviour: usize, best: &mut [u64; 256], work: &[u64], d: Date, s: Block)
-    requires { ⌜ (behaviour ≤ 1) × Span (now work) d s × (256 ≤ length (now best)) ⌝ }
+pub fn decide_block(behaviour: usize, best: &mut [u64; 512], work: &[u64], d: Date, s: Block)
+    requires { ⌜ (behaviour ≤ 1) × Span (now work) d s × (512 ≤ length (now best)) ⌝ }
     ensures { λ _. ⌜ Keys (behaviourOf behaviour) (sums (now (work .entry)) d) d s (now (best .exit)) ⌝ }
 {
     let low = date::smaller(s.n, date::less(d.level, s.from));

@@ -28,8 +28,9 @@ sums-left work work' d kept = sums-as work work' d (second-kept work work' d kep
 -- ---- what the dynamic behaviour reads
 pub prepared-further : {behaviour : ℕ} {work work' : List ℕ} {d : Date} {n : ℕ} {rising : Bool} → Sums work d n
     → work' ≡ stored work 0 (flat (d .stride) (furtherKey (cells work (d .base) (d .stride)) (8192 * (10000 - d .rate)))) (n * d .stride)
-    → (rising ≡ true → Rising (cells work (d .base) (d .stride)) (d .stride) n) → Prepared behaviour work work' d n rising
-prepared-further {work = work} {d = d} {n = n} s e rises =
+    → (rising ≡ true → Rising (cells work (d .base) (d .stride)) (d .stride) n)
+    × (Rising (cells work (d .base) (d .stride)) (d .stride) n → rising ≡ true) → Prepared behaviour work work' d n rising
+prepared-further {work = work} {d = d} {n = n} s e told =
     let step = 8192 * (10000 - d .rate) in
     let same = ap (λ (xs : List ℕ). cells xs (d .base) (d .stride)) e
     ∙ cells-kept work 0 (n * d .stride) (d .base) (d .stride) _ (omega (arith, s .apart)) in record {
@@ -42,7 +43,8 @@ prepared-further {work = work} {d = d} {n = n} s e rises =
             (omega (arith, s .apart, s .room)) .cell b a p q
             ∙ ap (λ (f : ℕ → ℕ → ℕ). furtherKey f step b a) (sym same);
       };
-      rises = rises;
+      rises = told .0;
+      tested = λ two. told .1;
     }
 
 pub prepared-not : {behaviour : ℕ} {work : List ℕ} {d : Date} {n : ℕ} → (behaviour ≡ 2 → ⊥) → Prepared behaviour work work d n false
@@ -51,6 +53,7 @@ prepared-not h = record {
   kept = λ i l. refl;
   furthered = λ two. absurd (h two);
   rises = λ e. let z : _≡_ {A = ℕ} 0 1 = cc in absurd (omega arith);
+  tested = λ two. absurd (h two);
 }
 
 module _ {behaviour : ℕ} {work work' : List ℕ} {d : Date} {n : ℕ} {rising : Bool} (s : Sums work d n)

@@ -32,6 +32,7 @@ pub record Prepared (behaviour : ℕ) (work work' : List ℕ) (d : Date) (n : �
   pub kept : (i : ℕ) → n * d .stride ≤ i → getD work' i 0 ≡ getD work i 0
   pub furthered : behaviour ≡ 2 → Furthered work' d n
   pub rises : rising ≡ true → Rising (cells work (d .base) (d .stride)) (d .stride) n
+  pub tested : behaviour ≡ 2 → Rising (cells work (d .base) (d .stride)) (d .stride) n → rising ≡ true
 
 -- the entries from `low` to `end` are decided over the sums e: values in the first layer, amounts as far as the table goes
 pub record Decided (b : Behaviour) (e : ℕ → ℕ → ℕ) (work table work' table' : List ℕ) (d : Date) (low end : ℕ) : Type 0 where

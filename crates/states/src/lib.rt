@@ -13,8 +13,8 @@ use keys::Block;
 use keys::Date;
 
 // The amounts of n keys, to the entries from `at` on.
-fn take_amounts(best: &[u64; 256], table: &mut [u16], at: usize, n: usize)
-    requires { ⌜ (n ≤ 256) × (at + n ≤ length (now table)) ⌝ }
+fn take_amounts(best: &[u64; 512], table: &mut [u16], at: usize, n: usize)
+    requires { ⌜ (n ≤ 512) × (at + n ≤ length (now table)) ⌝ }
     ensures { λ _. ⌜
         now (table .exit) ≡ stored (now (table .entry)) at (λ (j : ℕ). 8191 - getD (now (best .entry)) j 0 % 8192) n
         ⌝ }
@@ -25,8 +25,8 @@ fn take_amounts(best: &[u64; 256], table: &mut [u16], at: usize, n: usize)
 }
 
 // .. and their values.
-fn take_values(best: &[u64; 256], work: &mut [u64], at: usize, n: usize)
-    requires { ⌜ (n ≤ 256) × (at + n ≤ length (now work)) ⌝ }
+fn take_values(best: &[u64; 512], work: &mut [u64], at: usize, n: usize)
+    requires { ⌜ (n ≤ 512) × (at + n ≤ length (now work)) ⌝ }
     ensures { λ _. ⌜ now (work .exit) ≡ stored (now (work .entry)) at (λ (j : ℕ). getD (now (best .entry)) j 0 / 8192) n ⌝ }
 {
     for j in 0..n {
@@ -37,13 +37,13 @@ fn take_values(best: &[u64; 256], work: &mut [u64], at: usize, n: usize)
 // The keys of a block, whatever was there.
 fn decide_keys(
     behaviour: usize,
-    best: &mut [u64; 256],
+    best: &mut [u64; 512],
     work: &[u64],
     d: Date,
     s: Block,
     rising: bool,
 )
-    requires { ⌜ Deciding behaviour (now work) d s rising × (256 ≤ length (now best)) ⌝ }
+    requires { ⌜ Deciding behaviour (now work) d s rising × (512 ≤ length (now best)) ⌝ }
     ensures { λ _. ⌜ Keys (behaviourOf behaviour) (sums (now (work .entry)) d) d s (now (best .exit)) ⌝ }
 {
     if behaviour == 2 {
@@ -56,18 +56,18 @@ fn decide_keys(
 // The states of a block, each key taken apart: the amounts as far as the table goes.
 fn decide_block(
     behaviour: usize,
-    best: &mut [u64; 256],
+    best: &mut [u64; 512],
     work: &mut [u64],
     table: &mut [u16],
     d: Date,
     s: Block,
     rising: bool,
 )
-    requires { ⌜ Deciding behaviour (now work) d s rising × (256 ≤ length (now best)) ⌝ }
+    requires { ⌜ Deciding behaviour (now work) d s rising × (512 ≤ length (now best)) ⌝ }
     ensures { λ _. ⌜
         Decided (behaviourOf behaviour) (sums (now (work .entry)) d) (now (work .entry)) (now (table .entry)) (now (work .exit))
         (now (table .exit)) d (s .w * d .stride + s .from) (s .w * d .stride + s .from + s .n)
-        × (256 ≤ length (now (best .exit)))
+        × (512 ≤ length (now (best .exit)))
         ⌝ }
 {
     decide_keys(behaviour, best, &work[..], d, s, rising);
@@ -115,30 +115,30 @@ fn static_block(work: &mut [u64], table: &mut [u16], d: Date, s: Block)
 // A block that starts at `from`: under the static behaviour none goes over the level.
 fn block_length(behaviour: usize, d: Date, from: usize) -> usize
     requires { ⌜ (from < d .stride) × (d .level < d .stride) ⌝ }
-    ensures { λ r. ⌜ (0 < r) × (r ≤ 256) × (from + r ≤ d .stride) ⌝ }
+    ensures { λ r. ⌜ (0 < r) × (r ≤ 512) × (from + r ≤ d .stride) ⌝ }
 {
     if behaviour == 0 {
         if from < d.level {
-            return date::smaller(256, d.level - from);
+            return date::smaller(512, d.level - from);
         }
     }
-    date::smaller(256, d.stride - from)
+    date::smaller(512, d.stride - from)
 }
 
 fn decide_next(
     behaviour: usize,
-    best: &mut [u64; 256],
+    best: &mut [u64; 512],
     work: &mut [u64],
     table: &mut [u16],
     d: Date,
     s: Block,
     rising: bool,
 )
-    requires { ⌜ Deciding behaviour (now work) d s rising × (256 ≤ length (now best)) ⌝ }
+    requires { ⌜ Deciding behaviour (now work) d s rising × (512 ≤ length (now best)) ⌝ }
     ensures { λ _. ⌜
         Decided (behaviourOf behaviour) (sums (now (work .entry)) d) (now (work .entry)) (now (table .entry)) (now (work .exit))
         (now (table .exit)) d (s .w * d .stride + s .from) (s .w * d .stride + s .from + s .n)
-        × (256 ≤ length (now (best .exit)))
+        × (512 ≤ length (now (best .exit)))
         ⌝ }
 {
     if behaviour == 0 {
@@ -150,21 +150,21 @@ fn decide_next(
     decide_block(behaviour, best, work, table, d, s, rising);
 }
 
-// The states of account w, 256 at a time.
+// The states of account w, 512 at a time.
 fn decide_row(
     behaviour: usize,
-    best: &mut [u64; 256],
+    best: &mut [u64; 512],
     work: &mut [u64],
     table: &mut [u16],
     d: Date,
     w: usize,
     rising: bool,
 )
-    requires { ⌜ Ready behaviour (now work) d w rising × (256 ≤ length (now best)) ⌝ }
+    requires { ⌜ Ready behaviour (now work) d w rising × (512 ≤ length (now best)) ⌝ }
     ensures { λ _. ⌜
         Decided (behaviourOf behaviour) (sums (now (work .entry)) d) (now (work .entry)) (now (table .entry)) (now (work .exit))
         (now (table .exit)) d (w * d .stride) (w * d .stride + d .stride)
-        × (256 ≤ length (now (best .exit)))
+        × (512 ≤ length (now (best .exit)))
         ⌝ }
 {
     let stride = d.stride;
@@ -199,7 +199,7 @@ pub fn decide_layer(behaviour: usize, work: &mut [u64], table: &mut [u16], d: Da
         ⌝ }
 {
     let rising = prepare(behaviour, work, d, n);
-    let mut best = [0u64; 256];
+    let mut best = [0u64; 512];
     let mut w = n;
     while 0 < w {
         w -= 1;

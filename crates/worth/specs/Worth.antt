@@ -34,7 +34,7 @@ bestKey b e rate level w a = key (bestValue b e rate level w a) (bestAmount b e 
 
 -- the states of a block hold them
 pub record Keys (b : Behaviour) (e : ℕ → ℕ → ℕ) (d : Date) (s : Block) (best : List ℕ) : Type 0 where
-  pub long : 256 ≤ length best
+  pub long : 512 ≤ length best
   pub each : (j : ℕ) → j < s .n → getD best j 0 ≡ bestKey b e (d .rate) (d .level) (s .w) (s .from + j)
 
 -- the key of amount t

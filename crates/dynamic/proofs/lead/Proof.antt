@@ -2,6 +2,7 @@
 use borrow.Author.Needs.{needs}
 use mathlib.Core.Path.{refl, ap, _∙_}
 use native.Mathlib.Omega.{arith}
+use Prim.Native.Nat.{ℕ, _-_, _*_}
 use Rattle.keys.specs.Key.{key}
 use Rattle.dynamic.proofs.lead.Statement.{statement}
 use Rattle.dynamic.proofs.lead.Tie as tie
@@ -28,12 +29,16 @@ key-requires : tie.Need-key-requires
 key-requires c κs = search needs
 
 returns : tie.Need-returns
-returns c = record {
-  at-is = refl;
-  step-is = refl;
-  add-is = c .key .ensures .0 ∙ ap (λ x. key x (c .before .before .before .before .args .t)) (c .before .cash .ensures .0);
-  add-small = omega (arith, c .key .ensures .1);
-}
+returns c =
+    let args = c .before .before .before .before .args in (
+      refl,
+      record {
+        at-is = refl;
+        step-is = ap (λ (x : ℕ). (args .w - args .t) * x) (c .before .before .before .before .pre .5);
+        add-is = c .key .ensures .0 ∙ ap (λ x. key x (args .t)) (c .before .cash .ensures .0);
+        add-small = omega (arith, c .key .ensures .1);
+      },
+    )
 
 pub lead-spec : {M : Type 1} → statement M
 lead-spec =

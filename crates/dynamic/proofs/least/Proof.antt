@@ -1,30 +1,31 @@
 -- `dynamic::least` meets its contract. Assumes nothing.
 use borrow.Author.Needs.{needs}
 use lib.ListN.{getD}
-use mathlib.Core.Path.{_≡_}
+use mathlib.Core.Path.{_≡_, ap, _∙_}
 use native.Mathlib.Omega.{arith}
-use Prim.Native.Nat.{ℕ, _+_, _-_, _≤_, _<_}
-use Rattle.dynamic.proofs.Rising.{least-next}
+use Prim.Native.Nat.{ℕ, _+_, _-_, _≤_, min}
+use Rattle.dynamic.proofs.Bounds.{least-none, least-next}
+use Rattle.dynamic.specs.Block.{leastOf}
 use Rattle.dynamic.proofs.least.Statement.{statement}
 use Rattle.dynamic.proofs.least.Tie as tie
 
 abbrev Inv-loop : tie.InvT-loop
-Inv-loop best low n r₀ i₀ r i = (i ≤ n) × ((k : ℕ) → k < i → r ≤ getD best (low + k) 0)
+Inv-loop best low n r₀ i₀ r i = (i ≤ n) × (r ≡ leastOf (λ k. getD best (low + k) 0) i)
 
 abbrev μ-loop : tie.MeasureT-loop
 μ-loop best low n r₀ i₀ r i = n - i
 
 loop-holds : tie.Need-loop-holds Inv-loop μ-loop
-loop-holds c = (omega arith, λ k l. absurd (omega arith))
+loop-holds c = (omega arith, least-none _)
 
 add-lesser : tie.Need-add-lesser Inv-loop μ-loop
-add-lesser c = omega arith
+add-lesser c = let k = c .before .before .pre .1 (c .before .loop .i) (c .loop-test .taken) in omega arith
 
 mul-lesser : tie.Need-mul-lesser Inv-loop μ-loop
-mul-lesser c = omega arith
+mul-lesser c = let k = c .before .before .pre .1 (c .before .loop .i) (c .loop-test .taken) in omega arith
 
 element-copy-out-lesser : tie.Need-element-copy-out-lesser Inv-loop μ-loop
-element-copy-out-lesser c = omega arith
+element-copy-out-lesser c = c .before .before .pre .1 (c .before .loop .i) (c .loop-test .taken)
 
 lesser-requires : tie.Need-lesser-requires Inv-loop μ-loop
 lesser-requires c κs = search needs
@@ -39,10 +40,13 @@ loop-again : tie.Need-loop-again Inv-loop μ-loop
 loop-again c =
     let args = c .before .before .before .before .args in
     let loop = c .before .before .before .loop in
-    (omega arith, least-next (λ k. getD (args .best .now) (args .low + k) 0) (loop .i) (loop .r) (c .lesser .ensures) (loop .inv .1))
+    let f : ℕ → ℕ = λ k. getD (args .best .now) (args .low + k) 0 in
+    (omega arith, c .lesser .ensures ∙ ap (min (f (loop .i))) (loop .inv .1) ∙ least-next f (loop .i))
 
 returns : tie.Need-returns Inv-loop μ-loop
-returns c = λ k l. c .before .loop .inv .1 k (omega arith)
+returns c =
+    let args = c .before .before .args in
+    c .before .loop .inv .1 ∙ ap (leastOf (λ k. getD (args .best .now) (args .low + k) 0)) (omega arith)
 
 pub least-spec : {M : Type 1} → statement M
 least-spec =

@@ -1,62 +1,110 @@
 -- `dynamic::share_amount` meets its contract. Assumes nothing.
-use borrow.Author.Needs.{needs}
-use mathlib.Core.Path.{_≡_, refl}
+use lib.ListN.{length, getD}
+use mathlib.Core.Path.{_≡_, refl, ap, sym, _∙_}
 use native.Mathlib.Omega.{arith}
-use Prim.Native.Nat.{_+_, _-_, _≤_, _<_}
-use Rattle.dynamic.proofs.Share.{way-in, way-small, way-product, way-sharing, way-offered, way-passed}
+use Prim.Native.Nat.{ℕ, _+_, _-_, _*_, _≤_, min}
+use Rattle.dynamic.proofs.Bounds.{bounds-all}
+use Rattle.dynamic.proofs.Parts.{part-bounded, part-raised, part-running, raised-none}
+use Rattle.dynamic.proofs.Share.{way-last, way-passed}
+use Rattle.dynamic.specs.Block.{keyAt, raisedTo}
+use Rattle.slices.specs.Stored.{length-stored}
 use Rattle.dynamic.proofs.share_amount.Statement.{statement}
 use Rattle.dynamic.proofs.share_amount.Tie as tie
 
-add-passed-over : tie.Need-add-passed-over
-add-passed-over c = search needs
+abbrev Inv-loop : tie.InvT-loop
+Inv-loop best₀ work d s r bounds to p₀ best p =
+    (p ≤ 4) × (best ≡ raisedTo best₀ (r .low) (λ i. keyAt work d s (r .low + i) (to .t)) (min (8 * p) (r .end - r .low)))
 
-sub-passed-over : tie.Need-sub-passed-over
-sub-passed-over c = search needs
+abbrev μ-loop : tie.MeasureT-loop
+μ-loop best₀ work d s r bounds to p₀ best p = 4 - p
 
-passed-over-requires : tie.Need-passed-over-requires
-passed-over-requires c κs =
-    let c3 = c .before .before .before in
-    let pre = c3 .pre in
-    let r = c3 .args .r in
-    let x = pre .1 in
-    let last-is : c3 .args .s .from + r .end - 1 ≡ c3 .args .s .from + (r .end - 1) = omega (arith, x .some) in
-    let low : r .low ≤ r .end - 1 = omega (arith, x .some) in
-    let end : r .end - 1 < r .end = omega (arith, x .some) in
-    let p = way-product (pre .0) x (pre .3) (pre .4) (pre .5) (r .end - 1) last-is low end in
-    let q = way-small (pre .0) x (pre .3) (pre .4) (pre .5) (r .end - 1) last-is low end in
-    (omega arith, way-in (pre .0) x (pre .3) (pre .4) (pre .5) (r .end - 1) last-is low end, omega (arith, pre .5 .add-small))
+add-offered : tie.Need-add-offered Inv-loop μ-loop
+add-offered c = let pre = c .before .before .before .pre in omega (arith, pre .0 .short, pre .0 .columns, pre .0 .layers .width, pre .1 .within)
 
-returns : tie.Need-returns
-returns c =
-    let pre = c .before .before .before .before .before .pre in
-    let passed = c .before .passed-over .ensures (c .if1 .taken) in
-    way-passed (pre .0) (pre .1) (pre .3) (pre .4) (pre .5) (pre .2) refl (pre .1 .rises (passed .0)) (passed .1)
+sub-offered : tie.Need-sub-offered Inv-loop μ-loop
+sub-offered c = omega (arith, c .before .before .before .pre .2)
 
-sub-offer-share : tie.Need-sub-offer-share
-sub-offer-share c = search needs
+offered-requires : tie.Need-offered-requires Inv-loop μ-loop
+offered-requires c κs =
+    let pre = c .before .before .before .pre in
+    way-last (pre .0) (pre .4) (pre .1) (pre .2)
 
-add-offer-share : tie.Need-add-offer-share
-add-offer-share c = search needs
+loop-holds : tie.Need-loop-holds Inv-loop μ-loop
+loop-holds c = (omega arith, sym (raised-none _ _ _ (omega arith)))
 
-offer-share-requires : tie.Need-offer-share-requires
-offer-share-requires c κs =
-    let pre = c .before .before .before .before .before .before .before .before .before .pre in
-    way-sharing (pre .0) (pre .1) (pre .3) (pre .4) (pre .5) (pre .2)
+mul-part : tie.Need-mul-part Inv-loop μ-loop
+mul-part c = omega arith
 
-returns-2 : tie.Need-returns-2
-returns-2 c =
+element-copy-out-part : tie.Need-element-copy-out-part Inv-loop μ-loop
+element-copy-out-part c = omega arith
+
+part-requires : tie.Need-part-requires Inv-loop μ-loop
+part-requires c κs =
     let pre = c .before .before .before .before .before .before .before .before .before .before .pre in
-    way-offered (pre .0) (pre .1) (pre .3) (pre .4) (pre .5) (pre .2) (c .offer-share .ensures)
+    (omega arith, omega (arith, pre .0 .short, pre .1 .within, pre .2))
+
+share-few-requires : tie.Need-share-few-requires Inv-loop μ-loop
+share-few-requires c κs =
+    let c4 = c .before .before .before .before in
+    let c11 = c4 .before .before .before .before .before .before .before in
+    let pre = c11 .pre in
+    let told = c .part .ensures in
+    let e = c4 .loop .inv .1 in
+    let args = c11 .args in
+    let keys : ℕ → ℕ = λ j. keyAt (args .work .now) (args .d) (args .s) j (args .to .t) in
+    let few = c .before .before .before .loop-test .taken in (
+      pre .0,
+      part-running (c4 .loop .p) (pre .1) (told .0) (told .1),
+      part-bounded (args .r) (c .part .result) (c4 .loop .p) (told .0) (told .1) keys _ e (pre .3) few (told .2),
+      pre .4,
+      omega (arith, ap length e ∙ length-stored _ _ _ _, pre .5),
+    )
+
+add-p : tie.Need-add-p Inv-loop μ-loop
+add-p c = omega arith
+
+loop-less : tie.Need-loop-less Inv-loop μ-loop
+loop-less c = omega arith
+
+loop-again : tie.Need-loop-again Inv-loop μ-loop
+loop-again c =
+    let c5 = c .before .before .before .before .before in
+    let args = c5 .before .before .before .before .before .before .before .args in
+    let told = c .before .part .ensures in
+    let keys : ℕ → ℕ = λ j. keyAt (args .work .now) (args .d) (args .s) j (args .to .t) in (
+      omega arith,
+      part-raised (args .r) (c .before .part .result) (c5 .loop .p) (told .0) (told .1) keys _ (c5 .loop .inv .1)
+          (c .share-few .ensures),
+    )
+
+returns : tie.Need-returns Inv-loop μ-loop
+returns c =
+    let c8 = c .before .before .before .before .before .before .before .before in
+    let r = c8 .args .r in
+    let all : min (8 * c .before .loop .p) (r .end - r .low) ≡ r .end - r .low = omega (arith, c8 .pre .3 .few) in
+    rw (sym all) (c .before .loop .inv .1)
+
+returns-2 : tie.Need-returns-2 Inv-loop μ-loop
+returns-2 c =
+    let pre = c .before .before .before .before .before .before .pre in
+    way-passed (pre .0) (pre .4) (pre .1) (pre .2) (pre .5) (bounds-all (pre .3)) (omega (arith, c .before .before .offered .ensures))
 
 pub share-amount-spec : {M : Type 1} → statement M
 share-amount-spec =
     tie.close
     (tie.spec
-    add-passed-over
-    sub-passed-over
-    passed-over-requires
+    Inv-loop
+    μ-loop
+    add-offered
+    sub-offered
+    offered-requires
+    loop-holds
+    mul-part
+    element-copy-out-part
+    part-requires
+    share-few-requires
+    add-p
+    loop-less
+    loop-again
     returns
-    sub-offer-share
-    add-offer-share
-    offer-share-requires
     returns-2)

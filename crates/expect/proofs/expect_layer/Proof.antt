@@ -20,7 +20,7 @@ Inv-loop work₀ list count c stride size weights average sums₀ end balance₀
     (balance ≤ end)
     × (work
     ≡ stored work₀ size (flat stride (scaled (expected (termsIn c) (returnsOf list) (cells work₀ 0 stride)))) (balance * stride))
-    × (256 ≤ length sums)
+    × (512 ≤ length sums)
 
 abbrev μ-loop : tie.MeasureT-loop
 μ-loop work₀ list count c stride size weights average sums₀ end balance₀ work sums balance = end - balance

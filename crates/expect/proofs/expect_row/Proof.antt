@@ -17,7 +17,7 @@ abbrev Inv-loop : tie.InvT-loop
 Inv-loop work₀ sums₀ starts weights average to stride from₀ work sums from =
     (from ≤ stride)
     × (work ≡ stored work₀ to (λ x. 8192 * discounted (average .discount) (sum (term work₀ starts weights x) (average .count))) from)
-    × (256 ≤ length sums)
+    × (512 ≤ length sums)
 
 abbrev μ-loop : tie.MeasureT-loop
 μ-loop work₀ sums₀ starts weights average to stride from₀ work sums from = stride - from

@@ -17,7 +17,7 @@ use Rattle.states.proofs.decide_layer.Tie as tie
 abbrev Inv-loop : tie.InvT-loop
 Inv-loop behaviour work₀ table₀ d n rising best₀ w₀ work table best w =
     (w ≤ n) × Decided (behaviourOf behaviour) (sums work₀ d) work₀ table₀ work table d (w * d .stride) (n * d .stride)
-    × (256 ≤ length best)
+    × (512 ≤ length best)
 
 abbrev μ-loop : tie.MeasureT-loop
 μ-loop behaviour work₀ table₀ d n rising best₀ w₀ work table best w = w

@@ -15,7 +15,7 @@ use Rattle.states.proofs.decide_row.Tie as tie
 abbrev Inv-loop : tie.InvT-loop
 Inv-loop behaviour best₀ work₀ table₀ d w rising stride from₀ best work table from =
     (from ≤ d .stride) × Decided (behaviourOf behaviour) (sums work₀ d) work₀ table₀ work table d (w * d .stride) (w * d .stride + from)
-    × (256 ≤ length best)
+    × (512 ≤ length best)
 
 abbrev μ-loop : tie.MeasureT-loop
 μ-loop behaviour best₀ work₀ table₀ d w rising stride from₀ best work table from = d .stride - from
