@@ -536,7 +536,8 @@ fn least_keys(run: &[u64], rising: bool) -> [u64; RUN / PART] {
     leasts
 }
 
-/// Offers the parts of a run an amount, from guarantee `low` on.
+/// Offers the parts of a run an amount, from guarantee `low` on. There are always as many parts,
+/// so that the loop is unrolled and each one's branch is foreseen by itself.
 fn offer_parts(
     run: &mut [u64],
     leasts: &[u64; RUN / PART],
@@ -545,13 +546,14 @@ fn offer_parts(
     low: u64,
     share: u64,
 ) {
-    let mut low = low;
-    for (part, least) in run.chunks_mut(PART).zip(leasts) {
-        let end = low + part.len() as u64;
-        if key + kept[quotient((end - 1) * share)] > *least {
-            offer_shares(part, kept, key, low, share);
+    for (p, least) in leasts.iter().enumerate() {
+        let from = p * PART;
+        if from < run.len() {
+            let end = run.len().min(from + PART);
+            if key + kept[quotient((low + end as u64 - 1) * share)] > *least {
+                offer_shares(&mut run[from..end], kept, key, low + from as u64, share);
+            }
         }
-        low = end;
     }
 }
 

@@ -157,16 +157,13 @@ module _ {c : Terms} {work list weights : List ℕ} {count discount most balance
   reached-within : (x : ℕ) → x ≤ c .top → x * stride + stride ≤ size
   reached-within x l = let m = rows-le stride (x + 1) (c .top + 1) (omega arith) in omega (arith, rows-step stride x, b .size-is)
 
-  pub balance-room : size + balance * stride + stride ≤ length work
+  balance-room : size + balance * stride + stride ≤ length work
   unfolding layerSize
   balance-room =
       let l = reached-within balance (b .balance-is) in
       let s : (c .top + 1) * (c .premium + 1) ≡ size = rw (sym (b .stride-is)) (sym (b .size-is)) in
       let r = b .layers .room in
       omega arith
-
-  pub stride-small : stride ≤ 4001
-  stride-small = omega (arith, b .stride-is, b .layers .valid .premium, b .layers .valid .top)
 
   module _ (starts : List ℕ)
       (starts-are : (k : ℕ) → k < count → getD starts k 0 ≡ nextAccount (c .fee) (c .top) balance (returnsOf list .factor k) * stride)
@@ -216,12 +213,34 @@ start-balance h v w = record {
   size-is = refl;
 }
 
--- the first layer stays as the second is filled
-pub within-kept : (c : Terms) (work : List ℕ) {most : ℕ} (work' : List ℕ) (f : ℕ → ℕ) (n : ℕ) → Within c work most
-    → work' ≡ stored work ((c .top + 1) * (c .premium + 1)) f n → Within c work' most
-within-kept c work work' f n small e w a h l =
-    let i = within-rows (c .premium + 1) (c .top + 1) w a (omega arith) (omega arith) in
-    rw (ap (λ (xs : List ℕ). cells xs 0 (c .premium + 1) w a) e ∙ stored-out work _ f n _ (inl (omega arith))) (small w a h l)
+-- the row of any other
+pub row-room : {c : Terms} {work : List ℕ} (b : ℕ) → Values c work → b ≤ c .top
+    → (c .top + 1) * (c .premium + 1) + b * (c .premium + 1) + (c .premium + 1) ≤ length work
+unfolding layerSize
+row-room {c} b v top =
+    let l = rows-le (c .premium + 1) (b + 1) (c .top + 1) (omega arith) in omega (arith, rows-step (c .premium + 1) b, v .layers .room)
+
+-- .. the first layer stays as the second is filled
+pub layer-balance : {c : Terms} {work list weights : List ℕ} {count most : ℕ} (work' : List ℕ) (f : ℕ → ℕ) (n b : ℕ) → Listing list count
+    → Values c work → most ≤ valueMost c → Within c work most → ((k : ℕ) → k < count → getD weights k 0 ≡ returnsOf list .weight k)
+    → work' ≡ stored work ((c .top + 1) * (c .premium + 1)) f n → b ≤ c .top
+    → Balance c work' list weights count (c .discount) most b (c .premium + 1) ((c .top + 1) * (c .premium + 1))
+layer-balance {c = c} {work = work} {most = most} work' f n b h v few small w e top = record {
+  listing = h;
+  layers = record { valid = v .layers .valid; room = omega (arith, v .layers .room, ap length e ∙ length-stored _ _ _ _) };
+  discount-is = refl;
+  most-is = le-trans few (value-most (v .layers .valid));
+  small = kept-within;
+  weights-are = w;
+  balance-is = top;
+  stride-is = refl;
+  size-is = refl;
+}
+  where
+    kept-within : Within c work' most
+    kept-within w a h l =
+        let i = within-rows (c .premium + 1) (c .top + 1) w a (omega arith) (omega arith) in
+        rw (ap (λ (xs : List ℕ). cells xs 0 (c .premium + 1) w a) e ∙ stored-out work _ f n _ (inl (omega arith))) (small w a h l)
 
 -- ---- row after row
 module _ (c : Terms) (rs : Returns) (work : List ℕ) (stride size : ℕ) (size-is : size ≡ (c .top + 1) * stride) where

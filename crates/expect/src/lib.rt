@@ -12,7 +12,7 @@ ghost use Rattle.rules.specs.Date.{nextAccount, discounted};
 ghost use Rattle.rules.specs.FixedTerm.{layerSize};
 ghost use Rattle.laws.specs.Accepted.{Valid};
 ghost use Rattle.contract.specs.Reading.{termsIn};
-ghost use Rattle.expect.specs.Expected.{term, productMost, Largest, Reached, Run, Summed, Row, Listing, Values, Within, Balance};
+ghost use Rattle.expect.specs.Expected.{term, productMost, Largest, Reached, Run, Summed, Row, Listing, Values, Within};
 ghost use Rattle.expect.specs.Expected.{expected, scaled};
 use contract::Contract;
 
@@ -363,44 +363,6 @@ fn fill_starts(
     }
 }
 
-// The row of one balance in the second layer.
-fn expect_balance(
-    work: &mut [u64],
-    sums: &mut [usize; 512],
-    list: &[u8],
-    weights: &[u32; 64],
-    average: Average,
-    c: Contract,
-    balance: usize,
-)
-    requires { ⌜
-        Balance (termsIn c) (now work) (now list) (now weights) (average .count) (average .discount) (average .most) balance
-        (c .premium + 1) ((c .top + 1) * (c .premium + 1))
-        × (512 ≤ length (now sums))
-        ⌝ }
-    ensures { λ _. ⌜
-        (now (work .exit)
-        ≡ stored (now (work .entry)) ((c .top + 1) * (c .premium + 1) + balance * (c .premium + 1))
-        (scaled (expected (termsIn c) (returnsOf (now (list .entry))) (cells (now (work .entry)) 0 (c .premium + 1))) balance)
-        (c .premium + 1))
-        × (512 ≤ length (now (sums .exit)))
-        ⌝ }
-{
-    let stride = c.premium + 1;
-    let size = (c.top + 1) * stride;
-    let mut starts = [0usize; 64];
-    fill_starts(&mut starts, list, average.count, c, balance, stride);
-    expect_row(
-        work,
-        sums,
-        &starts,
-        weights,
-        average,
-        size + balance * stride,
-        stride,
-    );
-}
-
 // The largest of the first n entries, 0 where there are none.
 fn largest(work: &[u64], n: usize) -> usize
     requires { ⌜ n ≤ length (now work) ⌝ }
@@ -446,11 +408,14 @@ pub fn expect_layer(work: &mut [u64], list: &[u8], count: usize, c: Contract)
         discount: c.discount,
         most: most(&work[..], size, c),
     };
-    // One array for all balances: what a balance leaves there does not matter to the next, and clearing it for each takes time.
+    // One array of each kind for all balances: what a balance leaves there does not matter to the next, and clearing takes time.
     let mut sums = [0usize; 512];
+    let mut starts = [0usize; 64];
     let end = c.top + 1;
     for balance in 0..end {
-        expect_balance(work, &mut sums, list, &weights, average, c, balance);
+        fill_starts(&mut starts, list, count, c, balance, stride);
+        let to = size + balance * stride;
+        expect_row(work, &mut sums, &starts, &weights, average, to, stride);
     }
 }
 

@@ -26,17 +26,17 @@ pub sums-left : (work work' : List ℕ) (d : Date) → ((i : ℕ) → d .base �
 sums-left work work' d kept = sums-as work work' d (second-kept work work' d kept)
 
 -- ---- what the dynamic behaviour reads
-pub prepared-further : {behaviour : ℕ} {work work' : List ℕ} {d : Date} {n : ℕ} {rising : Bool} → Sums work d n
+pub prepared-further : {work work' : List ℕ} {d : Date} {n : ℕ} {rising : Bool} → Sums work d n
     → work' ≡ stored work 0 (flat (d .stride) (furtherKey (cells work (d .base) (d .stride)) (8192 * (10000 - d .rate)))) (n * d .stride)
     → (rising ≡ true → Rising (cells work (d .base) (d .stride)) (d .stride) n)
-    × (Rising (cells work (d .base) (d .stride)) (d .stride) n → rising ≡ true) → Prepared behaviour work work' d n rising
+    × (Rising (cells work (d .base) (d .stride)) (d .stride) n → rising ≡ true) → Prepared work work' d n rising
 prepared-further {work = work} {d = d} {n = n} s e told =
     let step = 8192 * (10000 - d .rate) in
     let same = ap (λ (xs : List ℕ). cells xs (d .base) (d .stride)) e
     ∙ cells-kept work 0 (n * d .stride) (d .base) (d .stride) _ (omega (arith, s .apart)) in record {
       long = ap length e ∙ length-stored work 0 _ _;
       kept = λ i h. ap (λ (xs : List ℕ). getD xs i 0) e ∙ stored-out work 0 _ _ i (inr (omega arith));
-      furthered = λ two. record {
+      furthered = record {
         each = λ b a p q.
             ap (λ (xs : List ℕ). cells xs 0 (d .stride) b a) e
             ∙ layer-stored work 0 (d .stride) n (furtherKey (cells work (d .base) (d .stride)) step)
@@ -44,38 +44,43 @@ prepared-further {work = work} {d = d} {n = n} s e told =
             ∙ ap (λ (f : ℕ → ℕ → ℕ). furtherKey f step b a) (sym same);
       };
       rises = told .0;
-      tested = λ two. told .1;
+      tested = told .1;
     }
 
-pub prepared-not : {behaviour : ℕ} {work : List ℕ} {d : Date} {n : ℕ} → (behaviour ≡ 2 → ⊥) → Prepared behaviour work work d n false
-prepared-not h = record {
-  long = refl;
-  kept = λ i l. refl;
-  furthered = λ two. absurd (h two);
-  rises = λ e. let z : _≡_ {A = ℕ} 0 1 = cc in absurd (omega arith);
-  tested = λ two. absurd (h two);
-}
-
-module _ {behaviour : ℕ} {work work' : List ℕ} {d : Date} {n : ℕ} {rising : Bool} (s : Sums work d n)
-    (p : Prepared behaviour work work' d n rising) where
+module _ {work work' : List ℕ} {d : Date} {n : ℕ} {rising : Bool} (s : Sums work d n) (p : Prepared work work' d n rising) where
   same : cells work' (d .base) (d .stride) ≡ cells work (d .base) (d .stride)
   same = second-kept work work' d (λ i h. p .kept i (le-trans (s .apart) h))
 
-  pub prepared-sums : sums work' d ≡ sums work d
+  prepared-sums : sums work' d ≡ sums work d
   prepared-sums = sums-as work work' d same
 
+  pub prepared-layers : Sums work' d n
+  prepared-layers = sums-moved s (p .long) same
+
   -- every row is ready
-  pub rows-ready : behaviour ≤ 2 → (w : ℕ) → w < n → Ready behaviour work' d w rising
-  rows-ready known w h = record {
-    known = known;
-    layers = sums-less (sums-moved s (p .long) same) (w + 1) (omega arith);
-    row = λ two. record {
-      furthered = record { each = λ b a i l. p .furthered two .each b a (omega arith) l };
-      rises = λ z.
-          let up = subst (λ (e : ℕ → ℕ → ℕ). Rising e (d .stride) n) (sym same) (p .rises z) in
-          record { step = λ x y i l. up .step x y (omega arith) l };
-    };
+  pub prepared-row : (w : ℕ) → w < n → Row work' d w rising
+  prepared-row w h = record {
+    furthered = record { each = λ b a i l. p .furthered .each b a (omega arith) l };
+    rises = λ z.
+        let up = subst (λ (e : ℕ → ℕ → ℕ). Rising e (d .stride) n) (sym same) (p .rises z) in
+        record { step = λ x y i l. up .step x y (omega arith) l };
   }
+
+  -- .. and the layer is decided as the call was given it
+  pub decided-all : {b : Behaviour} {table work₁ table₁ : List ℕ} → Decided b (sums work' d) work' table work₁ table₁ d 0 (n * d .stride)
+      → Decided b (sums work d) work table work₁ table₁ d 0 (n * d .stride)
+  decided-all {b = b} x = record {
+    long = x .long ∙ p .long;
+    long-table = x .long-table;
+    values = λ i h l. x .values i h l ∙ ap (λ (e : ℕ → ℕ → ℕ). flat (d .stride) (bestValue b e (d .rate) (d .level)) i) prepared-sums;
+    amounts = λ i h l t. x .amounts i h l t ∙ ap (λ (e : ℕ → ℕ → ℕ). flat (d .stride) (bestAmount b e (d .rate) (d .level)) i) prepared-sums;
+    rest = λ i o. x .rest i o ∙ p .kept i (behind i o);
+    rest-table = x .rest-table;
+  }
+    where
+      behind : (i : ℕ) → (i < 0) ⊎ (n * d .stride ≤ i) → n * d .stride ≤ i
+      behind i (inl h) = absurd (omega arith)
+      behind i (inr h) = h
 
 -- .. and stays so while what it reads stays
 pub ready-kept : {behaviour : ℕ} {work work' : List ℕ} {d : Date} {w : ℕ} {rising : Bool} → Ready behaviour work d w rising
@@ -97,27 +102,14 @@ ready-kept {work = work} {work' = work'} {d = d} {w = w} r long below behind =
           };
     }
 
--- ---- the whole layer, as the call was given it
-pub decided-all : {behaviour : ℕ} {b : Behaviour} {work₀ work table work₁ table₁ : List ℕ} {d : Date} {n low : ℕ} {rising : Bool}
-    → Sums work₀ d n
-    → Prepared behaviour work₀ work d n rising → low ≡ 0 → Decided b (sums work d) work table work₁ table₁ d low (n * d .stride)
-    → Decided b (sums work₀ d) work₀ table work₁ table₁ d 0 (n * d .stride)
-decided-all {b = b} {work₀ = work₀} {work = work} {table = table} {work₁ = work₁} {table₁ = table₁} {d = d} {n = n} s p z x =
-    go (subst (λ (y : ℕ). Decided b (sums work d) work table work₁ table₁ d y (n * d .stride)) z x)
-  where
-    behind : (i : ℕ) → (i < 0) ⊎ (n * d .stride ≤ i) → n * d .stride ≤ i
-    behind i (inl h) = absurd (omega arith)
-    behind i (inr h) = h
+-- the rows from the last one down, and from the first one up
+pub ready-down : {work : List ℕ} {d : Date} {n w : ℕ} {rising : Bool} → Sums work d n → w < n → Row work d w rising → Ready 2 work d w rising
+ready-down {w = w} s h row = record { known = omega arith; layers = sums-less s (w + 1) (omega arith); row = λ two. row }
 
-    go : Decided b (sums work d) work table work₁ table₁ d 0 (n * d .stride)
-        → Decided b (sums work₀ d) work₀ table work₁ table₁ d 0 (n * d .stride)
-    go x = record {
-      long = x .long ∙ p .long;
-      long-table = x .long-table;
-      values = λ i h l. x .values i h l ∙ ap (λ (e : ℕ → ℕ → ℕ). flat (d .stride) (bestValue b e (d .rate) (d .level)) i)
-          (prepared-sums s p);
-      amounts = λ i h l t. x .amounts i h l t ∙ ap (λ (e : ℕ → ℕ → ℕ). flat (d .stride) (bestAmount b e (d .rate) (d .level)) i)
-          (prepared-sums s p);
-      rest = λ i o. x .rest i o ∙ p .kept i (behind i o);
-      rest-table = x .rest-table;
-    }
+pub ready-up : {behaviour : ℕ} {work work' : List ℕ} {d : Date} {n w : ℕ} → behaviour ≤ 1 → Sums work d n → w < n → length work' ≡ length work
+    → ((i : ℕ) → d .base ≤ i → getD work' i 0 ≡ getD work i 0) → Ready behaviour work' d w false
+ready-up {work = work} {work' = work'} {d = d} {w = w} few s h long behind = record {
+  known = omega arith;
+  layers = sums-less (sums-moved s long (second-kept work work' d behind)) (w + 1) (omega arith);
+  row = λ two. absurd (omega arith);
+}

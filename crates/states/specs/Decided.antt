@@ -26,13 +26,13 @@ pub record Deciding (behaviour : ℕ) (work : List ℕ) (d : Date) (s : Block) (
   pub span : Span work d s
   pub row : behaviour ≡ 2 → Row work d (s .w) rising
 
--- what the dynamic behaviour reads beside the sums of n rows
-pub record Prepared (behaviour : ℕ) (work work' : List ℕ) (d : Date) (n : ℕ) (rising : Bool) : Type 0 where
+-- what the dynamic behaviour reads beside the sums of n rows, and whether these rise
+pub record Prepared (work work' : List ℕ) (d : Date) (n : ℕ) (rising : Bool) : Type 0 where
   pub long : length work' ≡ length work
   pub kept : (i : ℕ) → n * d .stride ≤ i → getD work' i 0 ≡ getD work i 0
-  pub furthered : behaviour ≡ 2 → Furthered work' d n
+  pub furthered : Furthered work' d n
   pub rises : rising ≡ true → Rising (cells work (d .base) (d .stride)) (d .stride) n
-  pub tested : behaviour ≡ 2 → Rising (cells work (d .base) (d .stride)) (d .stride) n → rising ≡ true
+  pub tested : Rising (cells work (d .base) (d .stride)) (d .stride) n → rising ≡ true
 
 -- the entries from `low` to `end` are decided over the sums e: values in the first layer, amounts as far as the table goes
 pub record Decided (b : Behaviour) (e : ℕ → ℕ → ℕ) (work table work' table' : List ℕ) (d : Date) (low end : ℕ) : Type 0 where

@@ -8,6 +8,7 @@ ghost use Rattle.rules.specs.Date.{static};
 ghost use Rattle.rules.specs.Operations.{behaviourOf};
 ghost use Rattle.keys.specs.Sums.{Sums, Span, sums};
 ghost use Rattle.worth.specs.Worth.{Keys};
+ghost use Rattle.dynamic.specs.Block.{Row};
 ghost use Rattle.states.specs.Decided.{Ready, Deciding, Prepared, Decided};
 use keys::Block;
 use keys::Date;
@@ -178,19 +179,62 @@ fn decide_row(
 }
 
 // What the dynamic behaviour reads beside the sums, and whether it may pass amounts over.
-fn prepare(behaviour: usize, work: &mut [u64], d: Date, n: usize) -> bool
+fn prepare(work: &mut [u64], d: Date, n: usize) -> bool
     requires { ⌜ Sums (now work) d n ⌝ }
-    ensures { λ r. ⌜ Prepared behaviour (now (work .entry)) (now (work .exit)) d n r ⌝ }
+    ensures { λ r. ⌜ Prepared (now (work .entry)) (now (work .exit)) d n r ⌝ }
 {
-    if behaviour == 2 {
-        let rising = dynamic::rises(&work[..], d, n);
-        further::further_layer(work, d, n);
-        return rising;
-    }
-    false
+    let rising = dynamic::rises(&work[..], d, n);
+    further::further_layer(work, d, n);
+    rising
 }
 
-// The states of the accounts below n, from the last one down: each reads only the rows below its own.
+// The states of the accounts below n under the dynamic behaviour, from the last one down: each reads the rows below its own.
+fn decide_down(
+    best: &mut [u64; 512],
+    work: &mut [u64],
+    table: &mut [u16],
+    d: Date,
+    n: usize,
+    rising: bool,
+)
+    requires { ⌜
+        Sums (now work) d n
+        × ((w : ℕ) → w < n → Row (now work) d w rising)
+        × (512 ≤ length (now best))
+        ⌝ }
+    ensures { λ _. ⌜
+        Decided (behaviourOf 2) (sums (now (work .entry)) d) (now (work .entry)) (now (table .entry)) (now (work .exit))
+        (now (table .exit)) d 0 (n * d .stride)
+        ⌝ }
+{
+    let mut w = n;
+    while 0 < w {
+        w -= 1;
+        decide_row(2, best, work, table, d, w, rising);
+    }
+}
+
+// .. under the others, which read the sums alone: from the first one up, since rows are fetched ahead in that order.
+fn decide_up(
+    behaviour: usize,
+    best: &mut [u64; 512],
+    work: &mut [u64],
+    table: &mut [u16],
+    d: Date,
+    n: usize,
+)
+    requires { ⌜ (behaviour ≤ 1) × Sums (now work) d n × (512 ≤ length (now best)) ⌝ }
+    ensures { λ _. ⌜
+        Decided (behaviourOf behaviour) (sums (now (work .entry)) d) (now (work .entry)) (now (table .entry)) (now (work .exit))
+        (now (table .exit)) d 0 (n * d .stride)
+        ⌝ }
+{
+    for w in 0..n {
+        decide_row(behaviour, best, work, table, d, w, false);
+    }
+}
+
+// The states of the accounts below n.
 pub fn decide_layer(behaviour: usize, work: &mut [u64], table: &mut [u16], d: Date, n: usize)
     requires { ⌜ (behaviour ≤ 2) × Sums (now work) d n ⌝ }
     ensures { λ _. ⌜
@@ -198,11 +242,11 @@ pub fn decide_layer(behaviour: usize, work: &mut [u64], table: &mut [u16], d: Da
         (now (table .exit)) d 0 (n * d .stride)
         ⌝ }
 {
-    let rising = prepare(behaviour, work, d, n);
     let mut best = [0u64; 512];
-    let mut w = n;
-    while 0 < w {
-        w -= 1;
-        decide_row(behaviour, &mut best, work, table, d, w, rising);
+    if behaviour == 2 {
+        let rising = prepare(work, d, n);
+        decide_down(&mut best, work, table, d, n, rising);
+        return;
     }
+    decide_up(behaviour, &mut best, work, table, d, n);
 }

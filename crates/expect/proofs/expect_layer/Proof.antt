@@ -1,29 +1,29 @@
 -- `expect::expect_layer` meets its contract. Assumes nothing.
 use Prim.Native.Nat.{ℕ, _+_, _*_, _-_, _≤_}
 use lib.ListN.{length}
-use mathlib.Core.Path.{_≡_, refl, ap, _∙_}
+use mathlib.Core.Path.{_≡_, refl, ap, sym, _∙_}
 use native.Mathlib.Nat.{le-trans, le-of-eq}
 use native.Mathlib.Omega.{arith}
 use Rattle.contract.specs.Reading.{termsIn}
 use Rattle.expect.specs.Expected.{expected, scaled}
-use Rattle.laws.specs.Bounds.{value-most}
 use Rattle.rules.specs.Contract.{returnsOf}
 use Rattle.rules.specs.FixedTerm.{layerSize}
 use Rattle.slices.specs.Rows.{cells, flat}
-use Rattle.slices.specs.Stored.{stored, stored-none, length-stored}
-use Rattle.expect.proofs.Laws.{filled, within-kept, expect-step}
+use Rattle.slices.specs.Stored.{stored, stored-eq, stored-none, length-stored}
+use Rattle.expect.proofs.Laws.{filled, layer-balance, row-room, balance-row, balance-cells, expect-step}
 use Rattle.expect.proofs.expect_layer.Statement.{statement}
 use Rattle.expect.proofs.expect_layer.Tie as tie
 
 abbrev Inv-loop : tie.InvT-loop
-Inv-loop work₀ list count c stride size weights average sums₀ end balance₀ work sums balance =
+Inv-loop work₀ list count c stride size weights average sums₀ starts₀ end balance₀ work sums starts balance =
     (balance ≤ end)
     × (work
     ≡ stored work₀ size (flat stride (scaled (expected (termsIn c) (returnsOf list) (cells work₀ 0 stride)))) (balance * stride))
     × (512 ≤ length sums)
+    × (64 ≤ length starts)
 
 abbrev μ-loop : tie.MeasureT-loop
-μ-loop work₀ list count c stride size weights average sums₀ end balance₀ work sums balance = end - balance
+μ-loop work₀ list count c stride size weights average sums₀ starts₀ end balance₀ work sums starts balance = end - balance
 
 add-stride : tie.Need-add-stride Inv-loop μ-loop
 add-stride c =
@@ -45,58 +45,67 @@ unfolding layerSize
 most-requires c κs = (c .before .before .before .before .before .before .before .pre .1, refl)
 
 add-end : tie.Need-add-end Inv-loop μ-loop
-add-end c =
-    let pre = c .before .before .before .before .before .before .before .before .before .pre in
-    omega (arith, pre .1 .layers .valid .top)
+add-end c = omega (arith, c .before .before .before .before .before .before .before .before .before .pre .1 .layers .valid .top)
 
 loop-holds : tie.Need-loop-holds Inv-loop μ-loop
-loop-holds c = (omega arith, stored-none _ _ _ _, le-of-eq refl)
+loop-holds c = (omega arith, stored-none _ _ _ _, le-of-eq refl, le-of-eq refl)
 
-expect-balance-requires : tie.Need-expect-balance-requires Inv-loop μ-loop
-unfolding layerSize
-expect-balance-requires c κs =
-    let start = c .before .before .before .before .before .before .before .before .before .before .before .before .before .before in
-    let pre = start .pre in
-    let work₀ = start .args .work .now in
-    let fill-weights = c .before .before .before .before .before .before .before .before .fill-weights in
-    let most = c .before .before .before .before .before .before .most in
-    let loop = c .before .before .before .before .loop in
-    let e : length (loop .work) ≡ length work₀ = ap length (loop .inv .1) ∙ length-stored _ _ _ _ in (
-      record {
-        listing = pre .0;
-        layers = record { valid = pre .1 .layers .valid; room = omega (arith, pre .1 .layers .room) };
-        discount-is = refl;
-        most-is = le-trans (most .ensures .0) (value-most (pre .1 .layers .valid));
-        small = within-kept (termsIn (start .args .c)) work₀ (loop .work) _ _ (most .ensures .1) (loop .inv .1);
-        weights-are = filled _ _ _ (fill-weights .ensures) (pre .0 .few);
-        balance-is = omega arith;
-        stride-is = refl;
-        size-is = refl;
-      },
-      loop .inv .2,
-    )
+fill-starts-requires : tie.Need-fill-starts-requires Inv-loop μ-loop
+fill-starts-requires c κs =
+    let start = c .before .before .before .before .before .before .before .before .before .before .before .before in
+    let valid = start .pre .1 .layers .valid in
+    (start .pre .0, valid, omega (arith, c .before .loop-test .taken, valid .top), omega (arith, valid .premium, valid .top))
+
+mul-to : tie.Need-mul-to Inv-loop μ-loop
+mul-to c =
+    let start = c .before .before .before .before .before .before .before .before .before .before .before .before .before in
+    let r = row-room (c .before .before .before .loop .balance) (start .pre .1) (omega (arith, c .before .before .loop-test .taken)) in
+    omega arith
+
+add-to : tie.Need-add-to Inv-loop μ-loop
+add-to c =
+    let start = c .before .before .before .before .before .before .before .before .before .before .before .before .before in
+    let r = row-room (c .before .before .before .loop .balance) (start .pre .1) (omega (arith, c .before .before .loop-test .taken)) in
+    omega arith
+
+expect-row-requires : tie.Need-expect-row-requires Inv-loop μ-loop
+expect-row-requires c κs =
+    let loop = c .before .before .before .before .before .before .before in
+    let most = loop .before .before in
+    let start = most .before .before .before .before .before .before .before .before in
+    let b = layer-balance (loop .loop .work) _ _ (loop .loop .balance) (start .pre .0) (start .pre .1) (most .most .ensures .0) (most .most .ensures .1)
+    (filled _ _ _ (most .before .before .fill-weights .ensures) (start .pre .0 .few)) (loop .loop .inv .1)
+    (omega (arith, c .before .before .before .before .before .before .loop-test .taken)) in
+    let told = c .before .before .before .before .fill-starts .ensures in
+    (balance-row b _ (filled _ _ _ told (le-trans (start .pre .0 .few) (loop .loop .inv .3))), loop .loop .inv .2)
 
 add-balance : tie.Need-add-balance Inv-loop μ-loop
 add-balance c =
-    let turn = c .before .before .before .before .before .before in
-    omega (arith, turn .before .before .before .before .before .before .before .before .before .before .before .pre .1 .layers .valid .top)
+    let loop = c .before .before .before .before .before .before .before .before .before .before in
+    omega (arith, loop .before .before .before .before .before .before .before .before .before .before .pre .1 .layers .valid .top)
 
 loop-less : tie.Need-loop-less Inv-loop μ-loop
 loop-less c = omega arith
 
 loop-again : tie.Need-loop-again Inv-loop μ-loop
 loop-again c =
-    let turn = c .before .before .before .before .before .before in
-    let args = turn .before .before .before .before .before .before .before .before .before .before .before .args in
-    let loop = turn .before .loop in
-    let expect-balance = c .before .before .expect-balance in
-    let c₀ = args .c in
-    let step =
-    expect-step (termsIn c₀) (returnsOf (args .list .now)) (args .work .now) (c₀ .premium + 1) ((c₀ .top + 1) * (c₀ .premium + 1)) refl
-    in (
-      omega arith,
-      expect-balance .ensures .0 ∙ step (loop .balance) (loop .work) (loop .inv .1),
-      expect-balance .ensures .1,
+    let loop = c .before .before .before .before .before .before .before .before .before .before in
+    let most = loop .before .before in
+    let start = most .before .before .before .before .before .before .before .before in
+    let b = layer-balance {weights = most .before .before .fill-weights .last .0} (loop .loop .work) _ _ (loop .loop .balance) (start .pre .0) (start .pre .1) (most .most .ensures .0) (most .most .ensures .1)
+    (filled _ _ _ (most .before .before .fill-weights .ensures) (start .pre .0 .few)) (loop .loop .inv .1)
+    (omega (arith, c .before .before .before .before .before .before .before .before .before .loop-test .taken)) in
+    let row = c .before .before .expect-row in
+    let starts = c .before .before .before .before .before .before .before .fill-starts in
+    let told = starts .ensures in
+    let c₀ = start .args .c in
+    let is = balance-cells b (starts .last .0) (filled _ _ _ told (le-trans (start .pre .0 .few) (loop .loop .inv .3))) in
+    let step = expect-step (termsIn c₀) (returnsOf (start .args .list .now)) (start .args .work .now) (c₀ .premium + 1)
+    ((c₀ .top + 1) * (c₀ .premium + 1)) refl in (
+      omega (arith, c .before .before .before .before .before .before .before .before .before .loop-test .taken),
+      row .ensures .0 ∙ stored-eq _ _ _ _ _ (λ k l. ap (λ (x : ℕ). 8192 * x) (is k)) ∙ step (loop .loop .balance) (loop .loop .work) (loop .loop .inv .1),
+      row .ensures .1,
+      le-trans (loop .loop .inv .3) (le-of-eq (sym (ap length told ∙ length-stored _ _ _ _))),
     )
 
 same-length : tie.Need-same-length Inv-loop μ-loop
@@ -127,7 +136,10 @@ expect-layer-spec =
     most-requires
     add-end
     loop-holds
-    expect-balance-requires
+    fill-starts-requires
+    mul-to
+    add-to
+    expect-row-requires
     add-balance
     loop-less
     loop-again

@@ -1,6 +1,6 @@
 -- `states::prepare` meets its contract. Assumes nothing.
 use borrow.Author.Needs.{needs}
-use Rattle.states.proofs.Layer.{prepared-further, prepared-not}
+use Rattle.states.proofs.Layer.{prepared-further}
 use Rattle.states.proofs.prepare.Statement.{statement}
 use Rattle.states.proofs.prepare.Tie as tie
 
@@ -15,13 +15,8 @@ same-length c = search needs
 
 returns : tie.Need-returns
 returns c =
-    let c4 = c .before .before .before .before in
-    let c8 = c4 .before .before .before .before in
-    prepared-further (c8 .pre) (c .before .before .further-layer .ensures) (c4 .rises .ensures)
-
-returns-2 : tie.Need-returns-2
-returns-2 c = prepared-not (c .if1 .left)
+    prepared-further (c .before .before .before .before .before .before .before .pre) (c .before .before .further-layer .ensures)
+    (c .before .before .before .before .rises .ensures)
 
 pub prepare-spec : {M : Type 1} → statement M
-prepare-spec =
-    tie.close (tie.spec rises-requires further-layer-requires same-length returns returns-2)
+prepare-spec = tie.close (tie.spec rises-requires further-layer-requires same-length returns)
