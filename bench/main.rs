@@ -17,9 +17,9 @@ use std::thread;
 /// About a minute of the plain program; it is left out above that.
 const MOST_PLAIN_STEPS: u64 = 25_000_000_000;
 
-/// A program is run until it has had this many seconds or runs.
-const SECONDS: f64 = 3.0;
-const MOST_RUNS: usize = 40;
+/// A program is run until it has had this many seconds, or these runs and a second.
+const SECONDS: f64 = 8.0;
+const ENOUGH_RUNS: usize = 40;
 
 /// The size of the second row of `TIMED` at other penalty rates.
 const fn at_penalty(penalty: u16) -> Size {
@@ -118,7 +118,7 @@ impl Timing {
     }
 
     fn is_done(&self) -> bool {
-        self.spent >= SECONDS || self.runs >= MOST_RUNS
+        self.spent >= SECONDS || self.spent >= 1.0 && self.runs >= ENOUGH_RUNS
     }
 
     fn run_again(&mut self, input: &Input) {

@@ -7,4 +7,5 @@ pub mod Inverse
 pub mod Bounds
 pub mod Parts
 pub mod Share
+pub mod Amount
 pub mod Step

@@ -1,9 +1,8 @@
 -- The amounts above m where the account is below the guarantee, for a run of states. Assumes nothing.
 use mathlib.Core.List.{List}
-use mathlib.Core.Logic.{_⊎_, inl, inr}
 use mathlib.Core.Path.{_≡_, refl, ap, ap₂, sym, _∙_}
-use Prim.Native.Nat.{ℕ, _+_, _-_, _*_, _/_, _^_, _≤_, _<_, min, max}
-use native.Mathlib.Nat.{le-trans, le-of-eq, sub-le, max-eq-left}
+use Prim.Native.Nat.{ℕ, _+_, _-_, _*_, _/_, _^_, _≤_, _<_, max}
+use native.Mathlib.Nat.{le-trans, sub-le, max-eq-left}
 use native.Mathlib.Omega.{arith}
 use lib.ListN.{length, getD}
 use Rattle.slices.specs.Stored.{is-stored, stored-eq}
@@ -12,15 +11,11 @@ use Rattle.rules.specs.Date.{freeAmount, cash}
 use Rattle.keys.specs.declared.Block.{Block}
 use Rattle.keys.specs.declared.Date.{Date}
 use Rattle.keys.specs.Key.{key, key-add}
-use Rattle.keys.specs.Most.{most, most-le, most-next}
 use Rattle.keys.specs.Sums.{Span, sums, sum-in, sum-small}
 use Rattle.worth.specs.Laws.{above-is}
 use Rattle.dynamic.specs.declared.Run.{Run}
 use Rattle.dynamic.specs.declared.Way.{Way}
-use Rattle.dynamic.specs.Block.{Held, Leading, Sharing, Running, Bounded, raisedTo, inverseOf, left, freeOf, keyAt, keyMost}
-use Rattle.dynamic.specs.Block.{triedBelow, triedRun}
-use Rattle.dynamic.proofs.Offers.{offered}
-use Rattle.dynamic.proofs.Tried.{below-free, run-in, run-out}
+use Rattle.dynamic.specs.Block.{Leading, Sharing, Running, Bounded, raisedTo, inverseOf, left, freeOf, keyAt, keyMost}
 use Rattle.dynamic.proofs.Inverse.{share-is, share-le, share-rises, share-small, step-small}
 use Rattle.dynamic.proofs.Rising.{rising-le}
 
@@ -89,8 +84,8 @@ module _ {work : List ℕ} {d : Date} {s : Block} (b : Span work d s) where
           ap₂ (λ (y z : ℕ). y + z) (sum-is ∙ b .layers .scaled (s .w - t) _ (omega arith) inside) (way .shared .add-is)
           ∙ sym (key-add (cash (d .rate) (d .level) t) (sums work d (s .w - t) (a * (s .w - t) / s .w)) t)
           ∙ ap₂ (λ (y z : ℕ). key (cash (d .rate) y t + sums work d (s .w - t) (z * (s .w - t) / s .w)) t) (sym m) a-is
-          ∙ ap (λ (v : ℕ). key v t) (sym (above-is (sums work d) (d .rate) (freeOf d s j) (s .w) (s .from + j) t (omega (arith, m, way .above))
-          (way .upto) (omega arith)))
+          ∙ ap (λ (v : ℕ). key v t) (sym (above-is (sums work d) (d .rate) (freeOf d s j) (s .w) (s .from + j) t
+          (omega (arith, m, way .above)) (way .upto) (omega arith)))
 
     -- ---- the states of a run
     module _ {r : Run} (x : Running d s r) (nonempty : r .low < r .end) where
@@ -158,56 +153,10 @@ module _ {work : List ℕ} {d : Date} {s : Block} (b : Span work d s) where
               let a = s .from + r .low + i in
               let last = s .from + r .end - 1 in
               let here = way-key (r .low + i) (first-is i) (above-is' i) (omega (arith, x .within)) in
-              let up = rising-le (bounded .rises (some-bound (s .w) t _ (to .add) _ (way .upto) account (way .shared .add-is) small)) (s .w - t)
+              let rises = bounded .rises (some-bound (s .w) t _ (to .add) _ (way .upto) account (way .shared .add-is) small) in
+              let up = rising-le rises (s .w - t)
               (a * (s .w - t) / s .w) (last * (s .w - t) / s .w) (omega arith)
               (share-rises a last (s .w - t) (s .w) some (omega arith)) (inside (r .end - 1) last-is last-above last-end) in
               let low = sum-is (r .low + i) (first-is i) (above-is' i) (omega (arith, x .within)) in
               let high = sum-is (r .end - 1) last-is last-above last-end in
               omega arith
-
--- ---- a run, from the amounts up to m to all of them
--- each of its states withdraws the level without penalty
-pub level-free : (d : Date) (s : Block) (low : ℕ) → s .w < s .from + low → d .level < s .w → (j : ℕ) → low ≤ j → freeOf d s j ≡ d .level
-level-free d s low above level j h = free-level (d .level) (s .from + j) (omega arith)
-
-module _ {work : List ℕ} {d : Date} {s : Block} (b : Span work d s) {r : Run} (x : Running d s r) (nonempty : r .low < r .end) where
-  -- one amount more
-  pub amount-tried : {to : Way} {best best' : List ℕ} → Leading d s to
-      → Held (keyAt work d s) best (s .n) (triedRun d s (r .low) (r .end) (to .t))
-      → best' ≡ raisedTo best (r .low) (λ i. keyAt work d s (r .low + i) (to .t)) (r .end - r .low)
-      → Held (keyAt work d s) best' (s .n) (triedRun d s (r .low) (r .end) (to .t + 1))
-  amount-tried {to} way h e =
-      offered (triedRun d s (r .low) (r .end) (to .t + 1)) _ h e (b .short) (omega (arith, x .within)) (way-few b way x nonempty) joins else
-    where
-      joins : (i : ℕ) → i < r .end - r .low
-          → max (most (keyAt work d s (r .low + i)) (triedRun d s (r .low) (r .end) (to .t) (r .low + i))) (keyAt work d s (r .low + i) (to .t))
-          ≡ most (keyAt work d s (r .low + i)) (triedRun d s (r .low) (r .end) (to .t + 1) (r .low + i))
-      joins i l =
-          ap (λ (y : ℕ). max (most (keyAt work d s (r .low + i)) y) (keyAt work d s (r .low + i) (to .t)))
-          (run-in d s (r .low) (r .end) (to .t) (r .low + i) (omega arith) (omega arith))
-          ∙ most-next (keyAt work d s (r .low + i)) (to .t)
-          ∙ ap (most (keyAt work d s (r .low + i)))
-          (sym (run-in d s (r .low) (r .end) (to .t + 1) (r .low + i) (omega arith) (omega arith)))
-
-      else : (j : ℕ) → (j < r .low) ⊎ (r .low + (r .end - r .low) ≤ j) → j < s .n
-          → triedRun d s (r .low) (r .end) (to .t) j ≡ triedRun d s (r .low) (r .end) (to .t + 1) j
-      else j (inl l) k = run-out d s (r .low) (r .end) (to .t) (to .t + 1) j (omega (arith)) (inl l)
-      else j (inr l) k = run-out d s (r .low) (r .end) (to .t) (to .t + 1) j (omega (arith)) (inr (omega (arith)))
-
-  -- what its states hold at first stays a bound
-  pub held-more : {best best₀ : List ℕ} {t : ℕ} → Held (keyAt work d s) best₀ (s .n) (triedBelow d s (r .low))
-      → Held (keyAt work d s) best (s .n) (triedRun d s (r .low) (r .end) t) → d .level < t
-      → (j : ℕ) → r .low ≤ j → j < r .end → getD best₀ j 0 ≤ getD best j 0
-  held-more {t = t} h₀ h more j p l =
-      le-trans (le-of-eq (h₀ .each j (omega (arith, x .within)) ∙ ap (most (keyAt work d s j)) (below-free d s (r .low) j p)))
-      (le-trans (most-le (keyAt work d s j) _ t (omega (arith, level-free d s (r .low) (x .above) (x .level-is) j p)))
-      (le-of-eq (sym (h .each j (omega (arith, x .within)) ∙ ap (most (keyAt work d s j)) (run-in d s (r .low) (r .end) t j p l)))))
-
--- the states from the first one whose guarantee is above the account
-pub above-from : (n w from low : ℕ) → min n (w + 1 - from) ≤ low → low < n → w < from + low
-above-from n w from low h l = omega arith
-
--- .. have nothing above m where m is not below the account
-pub none-above : (n level w from j : ℕ) → min n (w + 1 - from) ≤ j → j < n → w ≤ level → w ≤ freeAmount level (from + j)
-unfolding freeAmount
-none-above n level w from j h l k = let a = above-from n w from j h l in omega arith

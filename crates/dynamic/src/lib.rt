@@ -348,7 +348,10 @@ fn bound_from(best: &[u64; 512], low: usize, end: usize, rising: bool) -> u64
 
 fn fill_bounds(bounds: &mut [u64; 4], best: &[u64; 512], low: usize, end: usize, rising: bool)
     requires { ⌜ (low ≤ 512) × (end ≤ 512) ⌝ }
-    ensures { λ _. ⌜ now (bounds .exit) ≡ stored (now (bounds .entry)) 0 (λ (p : ℕ). boundOf rising (now (best .entry)) (low + 8 * p) end) 4 ⌝ }
+    ensures { λ _. ⌜
+        now (bounds .exit)
+        ≡ stored (now (bounds .entry)) 0 (λ (p : ℕ). boundOf rising (now (best .entry)) (low + 8 * p) end) 4
+        ⌝ }
 {
     for p in 0..4 {
         bounds[p] = bound_from(best, low + 8 * p, end, rising);

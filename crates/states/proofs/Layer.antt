@@ -73,7 +73,8 @@ module _ {work work' : List ℕ} {d : Date} {n : ℕ} {rising : Bool} (s : Sums 
     long = x .long ∙ p .long;
     long-table = x .long-table;
     values = λ i h l. x .values i h l ∙ ap (λ (e : ℕ → ℕ → ℕ). flat (d .stride) (bestValue b e (d .rate) (d .level)) i) prepared-sums;
-    amounts = λ i h l t. x .amounts i h l t ∙ ap (λ (e : ℕ → ℕ → ℕ). flat (d .stride) (bestAmount b e (d .rate) (d .level)) i) prepared-sums;
+    amounts = λ i h l t. x .amounts i h l t
+        ∙ ap (λ (e : ℕ → ℕ → ℕ). flat (d .stride) (bestAmount b e (d .rate) (d .level)) i) prepared-sums;
     rest = λ i o. x .rest i o ∙ p .kept i (behind i o);
     rest-table = x .rest-table;
   }
@@ -103,10 +104,12 @@ ready-kept {work = work} {work' = work'} {d = d} {w = w} r long below behind =
     }
 
 -- the rows from the last one down, and from the first one up
-pub ready-down : {work : List ℕ} {d : Date} {n w : ℕ} {rising : Bool} → Sums work d n → w < n → Row work d w rising → Ready 2 work d w rising
+pub ready-down : {work : List ℕ} {d : Date} {n w : ℕ} {rising : Bool} → Sums work d n → w < n → Row work d w rising
+    → Ready 2 work d w rising
 ready-down {w = w} s h row = record { known = omega arith; layers = sums-less s (w + 1) (omega arith); row = λ two. row }
 
-pub ready-up : {behaviour : ℕ} {work work' : List ℕ} {d : Date} {n w : ℕ} → behaviour ≤ 1 → Sums work d n → w < n → length work' ≡ length work
+pub ready-up : {behaviour : ℕ} {work work' : List ℕ} {d : Date} {n w : ℕ} → behaviour ≤ 1 → Sums work d n → w < n
+    → length work' ≡ length work
     → ((i : ℕ) → d .base ≤ i → getD work' i 0 ≡ getD work i 0) → Ready behaviour work' d w false
 ready-up {work = work} {work' = work'} {d = d} {w = w} few s h long behind = record {
   known = omega arith;

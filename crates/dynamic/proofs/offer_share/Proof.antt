@@ -73,7 +73,8 @@ loop-again c =
     let at = ap (λ (z : ℕ). getD (args .work .now) (r .at + z / 1099511627776) 0 + r .add) (c5 .loop .inv .1) in (
       omega arith,
       omega arith,
-      c .before .raise-one .ensures ∙ raised _ _ _ _ (c5 .loop .inv .2) _ (ap (max (getD (args .best .now) (args .low + c5 .loop .i) 0)) at),
+      c .before .raise-one .ensures
+          ∙ raised _ _ _ _ (c5 .loop .inv .2) _ (ap (max (getD (args .best .now) (args .low + c5 .loop .i) 0)) at),
     )
 
 returns : tie.Need-returns Inv-loop μ-loop

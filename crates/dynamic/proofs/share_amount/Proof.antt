@@ -19,7 +19,9 @@ abbrev μ-loop : tie.MeasureT-loop
 μ-loop best₀ work d s r bounds to p₀ best p = 4 - p
 
 add-offered : tie.Need-add-offered Inv-loop μ-loop
-add-offered c = let pre = c .before .before .before .pre in omega (arith, pre .0 .short, pre .0 .columns, pre .0 .layers .width, pre .1 .within)
+add-offered c =
+    let pre = c .before .before .before .pre in
+    omega (arith, pre .0 .columns, pre .0 .layers .width, pre .1 .within)
 
 sub-offered : tie.Need-sub-offered Inv-loop μ-loop
 sub-offered c = omega (arith, c .before .before .before .pre .2)

@@ -5,7 +5,7 @@ use native.Mathlib.Nat.{max-eq-right}
 use native.Mathlib.Omega.{arith}
 use Prim.Native.Nat.{ℕ, _+_, _-_, _≤_, min}
 use Rattle.dynamic.proofs.Offers.{held-as}
-use Rattle.dynamic.proofs.Share.{above-from, none-above}
+use Rattle.dynamic.proofs.Amount.{above-from, none-above}
 use Rattle.dynamic.proofs.Tried.{below-all, below-same}
 use Rattle.dynamic.specs.Block.{Held, keyAt, triedBelow}
 use Rattle.dynamic.proofs.share_block.Statement.{statement}

@@ -6,7 +6,8 @@ use native.Mathlib.Omega.{arith}
 use Prim.Native.Nat.{ℕ, _+_, _-_, _≤_, _<_}
 use Rattle.dynamic.proofs.Bounds.{bounds-are, bounds-le}
 use Rattle.dynamic.proofs.Offers.{held-as}
-use Rattle.dynamic.proofs.Share.{amount-tried, held-more, level-free, way-room, way-step}
+use Rattle.dynamic.proofs.Amount.{amount-tried, held-more, level-free}
+use Rattle.dynamic.proofs.Share.{way-room, way-step}
 use Rattle.dynamic.proofs.Step.{shared-on, shared-some}
 use Rattle.dynamic.proofs.Tried.{run-start, run-end}
 use Rattle.dynamic.specs.declared.Run.{Run}
@@ -52,7 +53,8 @@ lead-requires c κs =
     let s = c9 .args .s in
     let upto : d .level ≤ s .w = omega (arith, pre .5) in
     let room = way-room (pre .0) upto in
-    (omega arith, way-step (pre .0) (d .level) (omega (arith, pre .5)), upto, omega (arith, pre .0 .layers .few), pre .0 .layers .rate-is, refl)
+    let step = way-step (pre .0) (d .level) (omega (arith, pre .5)) in
+    (omega arith, step, upto, omega (arith, pre .0 .layers .few), pre .0 .layers .rate-is, refl)
 
 loop-holds : tie.Need-loop-holds Inv-loop μ-loop
 loop-holds c =
@@ -117,7 +119,8 @@ loop-again c =
       way .upto,
       way .shared,
       amount-tried (pre .0) run (omega (arith, pre .4)) way
-          (held-as _ (inv .3) (λ j l. ap (λ (t : ℕ). triedRun (args .d) (args .s) (args .low) (r .end) t j) (sym (told .0)))) (c .share-amount .ensures),
+          (held-as _ (inv .3) (λ j l. ap (λ (t : ℕ). triedRun (args .d) (args .s) (args .low) (r .end) t j) (sym (told .0))))
+          (c .share-amount .ensures),
     )
 
 returns : tie.Need-returns Inv-loop μ-loop

@@ -92,7 +92,8 @@ copy-larger-requires c κs =
     let c7 = c6 .before in
     let c9 = c7 .before .before in
     let c11 = c9 .before .before in (
-      copying (c11 .pre .1) (c11 .pre .2) (c9 .less .ensures) (c7 .less2 .ensures) (c6 .place .ensures) (omega (arith, c5 .key .ensures .1)),
+      copying (c11 .pre .1) (c11 .pre .2) (c9 .less .ensures) (c7 .less2 .ensures) (c6 .place .ensures)
+          (omega (arith, c5 .key .ensures .1)),
       c .surrender-key .ensures .1,
     )
 

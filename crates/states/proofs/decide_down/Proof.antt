@@ -70,7 +70,8 @@ returns c =
     let d = args .d in
     let none : c .before .loop .w ≡ 0 = omega arith in
     subst (λ (x : ℕ). Decided (behaviourOf 2) (sums (args .work .now) d) (args .work .now) (args .table .now) (c .before .loop .work)
-    (c .before .loop .table) d x (args .n * d .stride)) (ap (λ (x : ℕ). x * d .stride) none ∙ zero-mul (d .stride)) (c .before .loop .inv .1)
+    (c .before .loop .table) d x (args .n * d .stride)) (ap (λ (x : ℕ). x * d .stride) none ∙ zero-mul (d .stride))
+    (c .before .loop .inv .1)
 
 pub decide-down-spec : {M : Type 1} → statement M
 decide-down-spec =
