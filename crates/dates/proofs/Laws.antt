@@ -23,7 +23,7 @@ use Rattle.keys.specs.Sums.{Sums, sums}
 use Rattle.worth.specs.Worth.{bestValue, bestAmount, value-same, amount-same}
 use Rattle.states.specs.Decided.{Decided}
 use Rattle.dates.specs.Dated.{OneDate, dateOf, Summed, Dated}
-use Rattle.dates.specs.Layer.{DateLayer, LentLayer, entry-within, layer-long}
+use Rattle.dates.specs.Layer.{LentLayer, entry-within}
 use Rattle.dates.specs.Back.{at, valuesOn, values-most, value-back, amount-back, maturity-is, Valued, Starting}
 
 -- ---- the sums of a date
@@ -100,8 +100,8 @@ dated {b} {c} {rs} {rate} {work} {table} {work₁} {work'} {table'} is s x =
           x .values _ (omega arith) (entry-in c h l)
           ∙ entry-flat c (bestValue b (sums work₁ (dateOf c rate)) rate (c .level)) w a l
           ∙ value-same b _ _ rate (c .level) w a (λ y z p q. s .sums-are y z (le-trans p h) (le-trans q l));
-      amounts = λ room w a h l.
-          x .amounts _ (omega arith) (entry-in c h l) (let e = entry-within c h l in omega arith)
+      amounts = λ w a h l room.
+          x .amounts _ (omega arith) (entry-in c h l) (omega arith)
           ∙ entry-flat c (bestAmount b (sums work₁ (dateOf c rate)) rate (c .level)) w a l
           ∙ amount-same b _ _ rate (c .level) w a (λ y z p q. s .sums-are y z (le-trans p h) (le-trans q l));
       rest = λ i h. x .rest i (inr (first-end c h)) ∙ s .rest i h;
@@ -126,8 +126,14 @@ module _ {behaviour : ℕ} {c : Terms} {count : ℕ} {work₀ table₀ list work
     module _ {from to : ℕ} (p : LentLayer c i (length table) from to) (some : 0 < i) (before : i < c .dates) (work₁ part₁ : List ℕ)
         (d : Dated (behaviourOf behaviour) c (returnsOf list) (rateIn c i) work (midOf from (to - from) table) work₁ part₁)
       where
+        starts : from ≤ to
+        starts = omega (arith, p .start, p .end)
+
+        ends : to ≤ length table
+        ends = omega (arith, p .end)
+
         part-long : length part₁ ≡ to - from
-        part-long = d .long-table ∙ mid-len from to table (p .ends)
+        part-long = d .long-table ∙ mid-len from to table ends
 
         up : suc (i - 1) ≡ i
         up = omega arith
@@ -145,46 +151,47 @@ module _ {behaviour : ℕ} {c : Terms} {count : ℕ} {work₀ table₀ list work
             ∙ value-same (behaviourOf behaviour) _ _ (rateIn c i) (c .level) w a (λ x y p q. sums-are x y (le-trans q k))
             ∙ value-back c (returnsOf list) (behaviourOf behaviour) i w a before
 
-        -- a table with room for all dates has this one's layer
-        module _ (all : tableSize c ≤ length table₀) where
-          here : DateLayer c i from to
-          here = p .whole (omega (arith, v .long-table))
+        amount-is : (w a : ℕ) → w ≤ c .top → a ≤ c .premium → w * (c .premium + 1) + a < to - from
+            → cells part₁ 0 (c .premium + 1) w a ≡ recordedAmount (fixedTerm c (returnsOf list)) (behaviourOf behaviour) i (at w a)
+        amount-is w a h k l =
+            d .amounts w a h k (omega (arith, mid-len from to table ends))
+            ∙ amount-same (behaviourOf behaviour) _ _ (rateIn c i) (c .level) w a (λ x y p q. sums-are x y (le-trans q k))
+            ∙ amount-back c (returnsOf list) (behaviourOf behaviour) i w a
 
-          amount-is : (w a : ℕ) → w ≤ c .top → a ≤ c .premium
-              → cells part₁ 0 (c .premium + 1) w a ≡ recordedAmount (fixedTerm c (returnsOf list)) (behaviourOf behaviour) i (at w a)
-          amount-is w a h k =
-              d .amounts (le-of-eq (sym (layer-long here table (omega (arith, v .long-table))))) w a h k
-              ∙ amount-same (behaviourOf behaviour) _ _ (rateIn c i) (c .level) w a (λ x y p q. sums-are x y (le-trans q k))
-              ∙ amount-back c (returnsOf list) (behaviourOf behaviour) i w a
+        -- entries behind the layer
+        behind : (x n : ℕ) → i ≤ n → n * layerSize c ≤ x → getD (putMid from (to - from) table part₁) x 0 ≡ getD table x 0
+        behind x n k h =
+            let e = rows-before (layerSize c) i some in
+            let l = rows-le (layerSize c) i n k in
+            put-above from to table part₁ starts ends part-long x (omega (arith, p .end))
 
-          -- entries behind the layer
-          behind : (x n : ℕ) → i ≤ n → n * layerSize c ≤ x → getD (putMid from (to - from) table part₁) x 0 ≡ getD table x 0
-          behind x n k h =
-              let e = rows-before (layerSize c) i some in
-              let l = rows-le (layerSize c) i n k in
-              put-above from to table part₁ (p .starts) (p .ends) part-long x (omega (arith, here .start, here .end))
-
-          amount-at : (j w a : ℕ) → j < c .dates → w ≤ c .top → a ≤ c .premium → Dec (i + 1 ≤ j) → i ≤ j
-              → getD (putMid from (to - from) table part₁) ((j - 1) * layerSize c + (w * (c .premium + 1) + a)) 0
-              ≡ recordedAmount (fixedTerm c (returnsOf list)) (behaviourOf behaviour) j (at w a)
-          amount-at j w a q h k (yes y) m = behind _ (j - 1) (omega arith) (omega arith) ∙ v .amounts all j w a (omega arith) q h k
-          amount-at j w a q h k (no y) m =
-              let e : j ≡ i = omega arith in
-              let l = entry-within c h k in
-              rw (e, sym (here .start))
-              (put-in from to table part₁ (p .starts) (p .ends) part-long (w * (c .premium + 1) + a) (omega (arith, here .end))
-              ∙ ap (λ (x : ℕ). getD part₁ x 0) (sym (zero-add (w * (c .premium + 1) + a)))
-              ∙ amount-is w a h k)
+        amount-at : (j w a : ℕ) → j < c .dates → w ≤ c .top → a ≤ c .premium → Dec (i + 1 ≤ j) → i ≤ j
+            → (j - 1) * layerSize c + (w * (c .premium + 1) + a) < length table
+            → getD (putMid from (to - from) table part₁) ((j - 1) * layerSize c + (w * (c .premium + 1) + a)) 0
+            ≡ recordedAmount (fixedTerm c (returnsOf list)) (behaviourOf behaviour) j (at w a)
+        amount-at j w a q h k (yes y) m room =
+            behind _ (j - 1) (omega arith) (omega arith) ∙ v .amounts j w a (omega arith) q h k (omega (arith, v .long-table))
+        amount-at j w a q h k (no y) m room =
+            let e : j ≡ i = omega arith in
+            let same : (j - 1) * layerSize c ≡ (i - 1) * layerSize c = ap (λ (n : ℕ). (n - 1) * layerSize c) e in
+            let here : (j - 1) * layerSize c ≡ from = omega (arith, p .start) in
+            let l = entry-within c h k in
+            let inside : w * (c .premium + 1) + a < to - from = omega (arith, p .end, p .start) in
+            ap (λ (x : ℕ). getD (putMid from (to - from) table part₁) (x + (w * (c .premium + 1) + a)) 0) here
+            ∙ put-in from to table part₁ starts ends part-long (w * (c .premium + 1) + a) inside
+            ∙ ap (λ (x : ℕ). getD part₁ x 0) (sym (zero-add (w * (c .premium + 1) + a)))
+            ∙ amount-is w a h k inside
+            ∙ ap (λ (n : ℕ). recordedAmount (fixedTerm c (returnsOf list)) (behaviourOf behaviour) n (at w a)) (sym e)
 
         pub valued-before :
             Valued (behaviourOf behaviour) c (returnsOf list) work₀ table₀ work₁ (putMid from (to - from) table part₁) (i - 1)
         valued-before = record {
           long = d .long ∙ v .long;
-          long-table = put-long from to table part₁ (p .starts) (p .ends) part-long ∙ v .long-table;
+          long-table = put-long from to table part₁ starts ends part-long ∙ v .long-table;
           values = λ w a h k. value-is w a h k ∙ ap (λ (n : ℕ). valuesOn c (returnsOf list) (behaviourOf behaviour) n w a) (sym up);
-          amounts = λ all j w a p q h k. amount-at all j w a q h k (decLe (i + 1) j) (omega arith);
+          amounts = λ j w a p q h k room. amount-at j w a q h k (decLe (i + 1) j) (omega arith) (omega (arith, v .long-table));
           rest = λ x h. d .rest x h ∙ v .rest x h;
-          rest-table = λ all x h. behind all x (c .dates - 1) (omega arith) h ∙ v .rest-table all x h;
+          rest-table = λ x h. behind x (c .dates - 1) (omega arith) h ∙ v .rest-table x h;
         }
 
 -- before the first of them, the last date is valued
@@ -199,7 +206,7 @@ valued-none {behaviour} {c} {count} {work} {table} {list} s =
           s .mature w a h k
           ∙ sym (maturity-is c (returnsOf list) (behaviourOf behaviour) w a)
           ∙ ap (λ (n : ℕ). valuesOn c (returnsOf list) (behaviourOf behaviour) n w a) (sym last);
-      amounts = λ all j w a p q h k. absurd (omega arith);
+      amounts = λ j w a p q h k room. absurd (omega arith);
       rest = λ x h. refl;
-      rest-table = λ all x h. refl;
+      rest-table = λ x h. refl;
     }

@@ -13,7 +13,6 @@ use Rattle.rules.specs.Product.{stateValue, recordedAmount}
 use Rattle.laws.specs.Accepted.{Valid, ValidReturns}
 use Rattle.laws.specs.Bounds.{valueMost, state-value-most}
 use Rattle.rules.specs.FixedTerm.{State, freeIn, admissibleIn, limitIn, rateIn, cashIn, afterIn, reachBy, expectOver, processOf, layerSize, fixedTerm}
-use Rattle.rules.specs.Operations.{tableSize}
 use Rattle.expect.specs.Expected.{reachedSum, expected, Listing, Layers}
 use Rattle.worth.specs.Worth.{worthOver, bestValue, bestAmount}
 
@@ -45,15 +44,16 @@ pub values-most : (c : Terms) (rs : Returns) (b : Behaviour) → Valid c → Val
     → (i w a : ℕ) → w ≤ c .top → a ≤ c .premium → valuesOn c rs b i w a ≤ valueMost c
 values-most c rs b v u i w a h k = state-value-most c rs v u b i (at w a) (record { account = h; guarantee = k })
 
--- ---- what the loop over the dates holds: the dates above i are valued, and recorded where the table has room for all dates
+-- ---- what the loop over the dates holds: the dates above i are valued, and recorded as far as the table goes
 pub record Valued (b : Behaviour) (c : Terms) (rs : Returns) (work table work' table' : List ℕ) (i : ℕ) : Type 0 where
   pub long : length work' ≡ length work
   pub long-table : length table' ≡ length table
   pub values : (w a : ℕ) → w ≤ c .top → a ≤ c .premium → cells work' 0 (c .premium + 1) w a ≡ valuesOn c rs b (suc i) w a
-  pub amounts : tableSize c ≤ length table → (j w a : ℕ) → i < j → j < c .dates → w ≤ c .top → a ≤ c .premium
+  pub amounts : (j w a : ℕ) → i < j → j < c .dates → w ≤ c .top → a ≤ c .premium
+      → (j - 1) * layerSize c + (w * (c .premium + 1) + a) < length table
       → getD table' ((j - 1) * layerSize c + (w * (c .premium + 1) + a)) 0 ≡ recordedAmount (fixedTerm c rs) b j (at w a)
   pub rest : (x : ℕ) → layerSize c + layerSize c ≤ x → getD work' x 0 ≡ getD work x 0
-  pub rest-table : tableSize c ≤ length table → (x : ℕ) → (c .dates - 1) * layerSize c ≤ x → getD table' x 0 ≡ getD table x 0
+  pub rest-table : (x : ℕ) → (c .dates - 1) * layerSize c ≤ x → getD table' x 0 ≡ getD table x 0
 
 pub record Starting (behaviour : ℕ) (c : Terms) (count : ℕ) (work list : List ℕ) : Type 0 where
   pub known : behaviour ≤ 2

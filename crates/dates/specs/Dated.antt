@@ -37,6 +37,6 @@ pub record Dated (b : Behaviour) (c : Terms) (rs : Returns) (rate : ℕ) (work t
   pub long-table : length table' ≡ length table
   pub values : (w a : ℕ) → w ≤ c .top → a ≤ c .premium
       → cells work' 0 (c .premium + 1) w a ≡ bestValue b (expected c rs (cells work 0 (c .premium + 1))) rate (c .level) w a
-  pub amounts : layerSize c ≤ length table → (w a : ℕ) → w ≤ c .top → a ≤ c .premium
+  pub amounts : (w a : ℕ) → w ≤ c .top → a ≤ c .premium → w * (c .premium + 1) + a < length table
       → cells table' 0 (c .premium + 1) w a ≡ bestAmount b (expected c rs (cells work 0 (c .premium + 1))) rate (c .level) w a
   pub rest : (i : ℕ) → layerSize c + layerSize c ≤ i → getD work' i 0 ≡ getD work i 0

@@ -1,7 +1,7 @@
 -- Where the layer of a date stands in the table. Assumes nothing.
 use mathlib.Core.List.{List}
 use mathlib.Core.Path.{_≡_, refl, ap, _∙_}
-use Prim.Native.Nat.{ℕ, _+_, _-_, _*_, _≤_, _<_}
+use Prim.Native.Nat.{ℕ, _+_, _-_, _*_, _≤_, _<_, min}
 use native.Mathlib.Nat.{le-trans}
 use native.Mathlib.Omega.{arith}
 use lib.ListN.{length, getD}
@@ -27,11 +27,10 @@ date-layer c {i} some before =
     let l = rows-le (layerSize c) i (c .dates - 1) (omega arith) in
     record { start = refl; end = refl; within = omega arith }
 
--- what of it is lent: all of it where the table has room for all dates
+-- what of it is lent, where a table has `lent` entries
 pub record LentLayer (c : Terms) (i lent from to : ℕ) : Type 0 where
-  pub starts : from ≤ to
-  pub ends : to ≤ lent
-  pub whole : tableSize c ≤ lent → DateLayer c i from to
+  pub start : from ≡ min ((i - 1) * layerSize c) lent
+  pub end : to ≡ min ((i - 1) * layerSize c + layerSize c) lent
 
 -- the entry of a state stands in a layer
 pub entry-within : (c : Terms) {w a : ℕ} → w ≤ c .top → a ≤ c .premium → w * (c .premium + 1) + a < layerSize c

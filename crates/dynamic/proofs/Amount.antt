@@ -7,6 +7,7 @@ use native.Mathlib.Nat.{le-trans, le-of-eq}
 use native.Mathlib.Omega.{arith}
 use lib.ListN.{getD}
 use Rattle.rules.specs.Date.{freeAmount}
+use Rattle.laws.specs.Date.{free-level}
 use Rattle.keys.specs.declared.Block.{Block}
 use Rattle.keys.specs.declared.Date.{Date}
 use Rattle.keys.specs.Most.{most, most-le, most-next}
@@ -15,7 +16,7 @@ use Rattle.dynamic.specs.declared.Run.{Run}
 use Rattle.dynamic.specs.declared.Way.{Way}
 use Rattle.dynamic.specs.Block.{Held, Leading, Running, raisedTo, freeOf, keyAt, triedBelow, triedRun}
 use Rattle.dynamic.proofs.Offers.{offered}
-use Rattle.dynamic.proofs.Share.{free-level, way-few}
+use Rattle.dynamic.proofs.Share.{way-few}
 use Rattle.dynamic.proofs.Tried.{below-free, run-in, run-out}
 
 -- a state whose guarantee is above the account withdraws the level without penalty

@@ -7,7 +7,8 @@ use native.Mathlib.Omega.{arith}
 use lib.ListN.{length, getD}
 use Rattle.slices.specs.Stored.{is-stored, stored-eq}
 use Rattle.slices.specs.Rows.{cells}
-use Rattle.rules.specs.Date.{freeAmount, cash}
+use Rattle.rules.specs.Date.{cash}
+use Rattle.laws.specs.Date.{free-level}
 use Rattle.keys.specs.declared.Block.{Block}
 use Rattle.keys.specs.declared.Date.{Date}
 use Rattle.keys.specs.Key.{key, key-add}
@@ -18,11 +19,6 @@ use Rattle.dynamic.specs.declared.Way.{Way}
 use Rattle.dynamic.specs.Block.{Leading, Sharing, Running, Bounded, raisedTo, inverseOf, left, freeOf, keyAt, keyMost}
 use Rattle.dynamic.proofs.Inverse.{share-is, share-le, share-rises, share-small, step-small}
 use Rattle.dynamic.proofs.Rising.{rising-le}
-
--- a guarantee above the level leaves m at the level
-pub free-level : (level a : ℕ) → level < a → freeAmount level a ≡ level
-unfolding freeAmount
-free-level level a h = omega arith
 
 -- a key is above 0, and so is what bounds it
 some-bound : (w t v add below : ℕ) {bound : ℕ} → t ≤ w → w ≤ 4000 → add ≡ key v t → below + add ≤ bound → 0 < bound

@@ -4,6 +4,7 @@ use mathlib.Core.Path.{_≡_, ap, sym, _∙_}
 use Prim.Native.Nat.{ℕ, _+_, _-_, _*_, _^_, _≤_, _<_}
 use native.Mathlib.Nat.{le-trans, mul-le-mul-right}
 use native.Mathlib.Omega.{arith}
+use Rattle.slices.specs.Rows.{rows-before}
 use Rattle.rules.specs.Contract.{topMost}
 use Rattle.rules.specs.Date.{cash, penalty}
 use Rattle.laws.specs.Bounds.{cash-le}
@@ -27,7 +28,8 @@ unfolding key
 key-next v net t h = omega arith
 
 row-next : (w t x : ℕ) → t < w → (w - t) * x ≡ (w - (t + 1)) * x + x
-row-next w t x h = let e : w - t ≡ w - (t + 1) + 1 = omega arith in ap (λ (z : ℕ). z * x) e ∙ omega arith
+row-next w t x h =
+    let e : w - t - 1 ≡ w - (t + 1) = omega arith in rows-before x (w - t) (omega arith) ∙ ap (λ (z : ℕ). z * x + x) e
 
 shared-next : {d : Date} {w : ℕ} {to to' : Way} → Shared d w to → d .rate ≤ 10000 → d .level ≤ to .t → to .t < w → w ≤ 4000
     → Stepped d (inverseOf w) to to' → Shared d w to'

@@ -16,7 +16,7 @@ use Rattle.rules.specs.FixedTerm.{layerSize}
 use Rattle.laws.specs.Bounds.{valueMost, value-most, entryMost}
 use Rattle.laws.specs.Date.{account-le}
 use Rattle.expect.specs.Expected.{reachedSum, expected, scaled, term, productMost}
-use Rattle.expect.specs.Expected.{Largest, Reached, Run, Summed, Row, Listing, Values, Within, Balance}
+use Rattle.expect.specs.Expected.{Largest, Reached, Run, Summed, Row, Listing, Layers, Values, Within, Balance}
 
 -- ---- sums along the guarantees
 -- a product is small
@@ -151,6 +151,13 @@ pub summed-none : {work starts weights : List ℕ} (from n : ℕ) → n ≤ 512 
 unfolding sum
 summed-none from n h = record { long = le-of-eq refl; each = λ j l. getD-replicate 512 j 0 0 (omega arith) }
 
+-- the row of a balance in the second layer
+pub row-room : {c : Terms} {work : List ℕ} (b : ℕ) → Layers c work → b ≤ c .top
+    → (c .top + 1) * (c .premium + 1) + b * (c .premium + 1) + (c .premium + 1) ≤ length work
+unfolding layerSize
+row-room {c} b v top =
+    let l = rows-le (c .premium + 1) (b + 1) (c .top + 1) (omega arith) in omega (arith, rows-step (c .premium + 1) b, v .room)
+
 -- ---- the row of one balance
 module _ {c : Terms} {work list weights : List ℕ} {count discount most balance stride size : ℕ} (b : Balance c work list weights count discount most balance stride size) where
   -- a row of the first layer ends within it
@@ -158,12 +165,7 @@ module _ {c : Terms} {work list weights : List ℕ} {count discount most balance
   reached-within x l = let m = rows-le stride (x + 1) (c .top + 1) (omega arith) in omega (arith, rows-step stride x, b .size-is)
 
   balance-room : size + balance * stride + stride ≤ length work
-  unfolding layerSize
-  balance-room =
-      let l = reached-within balance (b .balance-is) in
-      let s : (c .top + 1) * (c .premium + 1) ≡ size = rw (sym (b .stride-is)) (sym (b .size-is)) in
-      let r = b .layers .room in
-      omega arith
+  balance-room = rw (b .size-is, b .stride-is) (row-room balance (b .layers) (b .balance-is))
 
   module _ (starts : List ℕ)
       (starts-are : (k : ℕ) → k < count → getD starts k 0 ≡ nextAccount (c .fee) (c .top) balance (returnsOf list .factor k) * stride)
@@ -213,14 +215,7 @@ start-balance h v w = record {
   size-is = refl;
 }
 
--- the row of any other
-pub row-room : {c : Terms} {work : List ℕ} (b : ℕ) → Values c work → b ≤ c .top
-    → (c .top + 1) * (c .premium + 1) + b * (c .premium + 1) + (c .premium + 1) ≤ length work
-unfolding layerSize
-row-room {c} b v top =
-    let l = rows-le (c .premium + 1) (b + 1) (c .top + 1) (omega arith) in omega (arith, rows-step (c .premium + 1) b, v .layers .room)
-
--- .. the first layer stays as the second is filled
+-- .. and of any other: the first layer stays as the second is filled
 pub layer-balance : {c : Terms} {work list weights : List ℕ} {count most : ℕ} (work' : List ℕ) (f : ℕ → ℕ) (n b : ℕ) → Listing list count
     → Values c work → most ≤ valueMost c → Within c work most → ((k : ℕ) → k < count → getD weights k 0 ≡ returnsOf list .weight k)
     → work' ≡ stored work ((c .top + 1) * (c .premium + 1)) f n → b ≤ c .top

@@ -63,6 +63,11 @@ admits-within static m w t p = dynamic-is m w t (mixed-dynamic m w t (static-mix
 admits-within mixed m w t p = dynamic-is m w t (mixed-dynamic m w t p)
 admits-within dynamic m w t p = dynamic-is m w t p
 
+-- from the level on m is the level
+pub free-level : (level a : ℕ) → level ≤ a → freeAmount level a ≡ level
+unfolding freeAmount
+free-level level a h = omega arith
+
 -- an amount in the dynamic set is at most what account and guarantee are
 pub amount-most : (level : ℕ) {most w a t : ℕ} → w ≤ most → a ≤ most → t ≤ max w (freeAmount level a) → t ≤ most
 unfolding freeAmount

@@ -9,6 +9,7 @@ use Rattle.slices.specs.Stored.{stored, length-stored, stored-join, stored-firs
 use Rattle.slices.specs.Rows.{cells}
 use Rattle.rules.specs.Date.{freeAmount, cash}
 use Rattle.rules.specs.Operations.{behaviourOf}
+use Rattle.laws.specs.Date.{free-level}
 use Rattle.keys.specs.declared.Date.{Date}
 use Rattle.keys.specs.declared.Block.{Block}
 use Rattle.keys.specs.Key.{key, key-add}
@@ -67,10 +68,9 @@ module _ {work : List ℕ} {d : Date} (w a : ℕ) {m x at k : ℕ} (s : Sums wor
         rw e (ap₂ max stay-is all-is ∙ surrender-key (sums work d) (d .rate) (d .level) w a (omega arith))
 
 -- ---- from the level on
-level-free : (level from low n : ℕ) → low ≡ min n (level - from) → (i : ℕ) → i < n - low
-    → (level ≡ freeAmount level (from + (low + i))) × (from + low - level + i ≡ from + (low + i) - level)
-unfolding freeAmount
-level-free level from low n e i l = (omega arith, omega arith)
+level-from : (level from low n : ℕ) → low ≡ min n (level - from) → (i : ℕ) → i < n - low
+    → (level ≤ from + (low + i)) × (from + low - level + i ≡ from + (low + i) - level)
+level-from level from low n e i l = (omega arith, omega arith)
 
 module _ {work : List ℕ} {d : Date} {s : Block} (b : Span work d s) {x y at low : ℕ} (low-is : low ≡ min (s .n) (d .level - s .from))
     (x-is : x ≡ s .w - d .level) (y-is : y ≡ s .from + low - d .level) (at-is : at ≡ d .base + (x * d .stride + y))
@@ -83,13 +83,13 @@ module _ {work : List ℕ} {d : Date} {s : Block} (b : Span work d s) {x y at lo
       column = omega (arith, b .columns)
 
       place-is : at + i ≡ d .base + (x * d .stride + (s .from + (low + i) - d .level))
-      place-is = let q = level-free (d .level) (s .from) low (s .n) low-is i l .1 in omega arith
+      place-is = let q = level-from (d .level) (s .from) low (s .n) low-is i l .1 in omega arith
 
       rest-small : getD work (at + i) 0 ≤ sumMost
       rest-small = cell-small (b .layers) x (s .from + (low + i) - d .level) (omega arith) (let c = column in omega arith) place-is
 
       free : d .level ≡ freeAmount (d .level) (s .from + (low + i))
-      free = level-free (d .level) (s .from) low (s .n) low-is i l .0
+      free = sym (free-level (d .level) _ (level-from (d .level) (s .from) low (s .n) low-is i l .0))
 
       module _ {k behaviour : ℕ} (k-is : k ≡ key (10000 * d .level) (d .level)) where
         pub rest-static : behaviour ≡ 0 → getD work (at + i) 0 + k ≡ rowKey behaviour d (s .w) (sums work d) (s .from + (low + i))

@@ -12,6 +12,7 @@ use Rattle.decision.specs.Index.{first-is}
 use Rattle.slices.specs.Stored.{stored, length-stored, stored-in, stored-out}
 use Rattle.slices.specs.Rows.{flat, flat-at}
 use Rattle.rules.specs.Date.{Behaviour, static, freeAmount, largestAmount}
+use Rattle.laws.specs.Date.{free-level}
 use Rattle.keys.specs.declared.Date.{Date}
 use Rattle.keys.specs.declared.Block.{Block}
 use Rattle.keys.specs.Key.{key, key-value, key-amount}
@@ -103,8 +104,7 @@ module _ {work : List ℕ} {d : Date} {s : Block} {at : ℕ} (span : Span work d
 
     module _ (j : ℕ) (l : j < s .n) where
       free : d .level ≡ freeAmount (d .level) (s .from + j)
-      unfolding freeAmount
-      free = omega arith
+      free = sym (free-level (d .level) (s .from + j) (omega arith))
 
       static-is : (value : ℕ) → value ≡ 10000 * d .level + getD work (at + j) 0 / 8192
           → key value (d .level) ≡ bestKey static (sums work d) (d .rate) (d .level) (s .w) (s .from + j)

@@ -73,7 +73,7 @@ module _ {b : Behaviour} {c : Terms} {rs : Returns} {work table work' table' : L
     where
       rest : (j : ℕ) → (j < 0) ⊎ (0 + (c .dates - 1) * layerSize c ≤ j) → getD table' j 0 ≡ getD table j 0
       rest j (inl h) = absurd (omega arith)
-      rest j (inr h) = v .rest-table room j (omega arith)
+      rest j (inr h) = v .rest-table j (omega arith)
 
       cell : (e : ℕ) → e < (c .dates - 1) * layerSize c
           → getD table' (0 + e) 0 ≡ recordedAmount (fixedTerm c rs) b (suc (e / layerSize c)) (at (e % layerSize c / (c .premium + 1)) (e % layerSize c % (c .premium + 1)))
@@ -90,7 +90,7 @@ module _ {b : Behaviour} {c : Terms} {rs : Returns} {work table work' table' : L
           let da = mod-lt r p in
           let whole : (suc j - 1) * size + (w * (c .premium + 1) + a) ≡ 0 + e =
           ap (λ (x : ℕ). (suc j - 1) * size + x) (div-add-mod' r (c .premium + 1)) ∙ (let z : suc j - 1 ≡ j = omega arith in rw z (div-add-mod' e size)) ∙ sym (zero-add e) in
-          ap (λ (x : ℕ). getD table' x 0) (sym whole) ∙ v .amounts room (suc j) w a (omega arith) (omega arith) (omega arith) (omega arith)
+          ap (λ (x : ℕ). getD table' x 0) (sym whole) ∙ v .amounts (suc j) w a (omega arith) (omega arith) (omega arith) (omega arith) (omega arith)
 
 -- maturity values put into the first layer change nothing that is kept
 pub from-start : {b : Behaviour} {c : Terms} {rs : Returns} {work work₁ table work' table' : List ℕ} (f : ℕ → ℕ)

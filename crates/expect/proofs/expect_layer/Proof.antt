@@ -59,13 +59,13 @@ fill-starts-requires c κs =
 mul-to : tie.Need-mul-to Inv-loop μ-loop
 mul-to c =
     let start = c .before .before .before .before .before .before .before .before .before .before .before .before .before in
-    let r = row-room (c .before .before .before .loop .balance) (start .pre .1) (omega (arith, c .before .before .loop-test .taken)) in
+    let r = row-room (c .before .before .before .loop .balance) (start .pre .1 .layers) (omega (arith, c .before .before .loop-test .taken)) in
     omega arith
 
 add-to : tie.Need-add-to Inv-loop μ-loop
 add-to c =
     let start = c .before .before .before .before .before .before .before .before .before .before .before .before .before in
-    let r = row-room (c .before .before .before .loop .balance) (start .pre .1) (omega (arith, c .before .before .loop-test .taken)) in
+    let r = row-room (c .before .before .before .loop .balance) (start .pre .1 .layers) (omega (arith, c .before .before .loop-test .taken)) in
     omega arith
 
 expect-row-requires : tie.Need-expect-row-requires Inv-loop μ-loop
