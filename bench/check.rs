@@ -1,5 +1,6 @@
 //! `check`: all programs against the plain one on random small contracts, with ties frequent,
-//! some of them spoilt so that they are refused; without a map of surrender and with one.
+//! many with returns that lift accounts above top, some spoilt so that they are refused; without
+//! a map of surrender and with one.
 
 use crate::inputs::{Input, Return, Terms, DYNAMIC, SPARE};
 use crate::programs::{Program, ENGINE, ENGINE_MAP, PLAIN, PLAIN_MAP, TUNED, TUNED_MAP};
@@ -64,6 +65,15 @@ fn random_returns(draw: &mut Draw) -> Vec<Return> {
     returns
 }
 
+/// Puts the premium near top and lifts most factors.
+fn lift(draw: &mut Draw, terms: &mut Terms, returns: &mut [Return]) {
+    let (top, premium) = (u64::from(terms.top), u64::from(terms.premium));
+    terms.premium = draw.within(premium.max(top - top / 4), top) as u16;
+    for (factor, _) in returns {
+        *factor = draw.one_of(&[(*factor).into(), 20_000, 30_000], 10_000, 30_000) as u16;
+    }
+}
+
 /// Changes one thing. Most of the changes are refused.
 fn spoil(draw: &mut Draw, input: &mut Input) {
     let byte = draw.next() as u8;
@@ -82,8 +92,9 @@ fn spoil(draw: &mut Draw, input: &mut Input) {
     }
 }
 
-/// The highest account, the most dates and the largest factor: values near the largest.
-fn large_values() -> Input {
+/// The highest account, the most dates and the largest factor: values near the largest, where
+/// discount × sum passes 64 bits.
+fn large_values(behaviour: u64) -> Input {
     let terms = Terms {
         premium: 1,
         level: 1,
@@ -94,7 +105,7 @@ fn large_values() -> Input {
         discount: 1_000_000,
         step: 0,
     };
-    terms.input(&[(30_000, 10_000)], DYNAMIC)
+    terms.input(&[(30_000, 10_000)], behaviour)
 }
 
 /// The plain program, then the others, without a map and with one.
@@ -130,8 +141,11 @@ pub fn run() -> bool {
         }
     };
     for k in 0..CONTRACTS {
-        let terms = random_terms(&mut draw, if k % 10 == 0 { 60 } else { 16 });
-        let returns = random_returns(&mut draw);
+        let mut terms = random_terms(&mut draw, if k % 10 == 0 { 60 } else { 16 });
+        let mut returns = random_returns(&mut draw);
+        if k % 3 == 0 {
+            lift(&mut draw, &mut terms, &mut returns);
+        }
         for behaviour in 0..=DYNAMIC {
             let mut input = terms.input(&returns, behaviour);
             let name = format!("contract {k}, behaviour {behaviour}");
@@ -140,7 +154,10 @@ pub fn run() -> bool {
             compare(format!("spoilt {name}"), &input);
         }
     }
-    compare("large values".to_string(), &large_values());
+    for behaviour in 0..=DYNAMIC {
+        let name = format!("large values, behaviour {behaviour}");
+        compare(name, &large_values(behaviour));
+    }
     println!("check: {valued} valued, {refused} refused, {differing} differ");
     differing == 0
 }

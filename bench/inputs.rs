@@ -75,6 +75,8 @@ pub struct Size {
     pub level: u16,
     pub dates: u16,
     pub returns: u16,
+    /// The highest factor.
+    pub highest: u16,
     pub penalty: u16,
     pub step: u16,
 }
@@ -86,6 +88,7 @@ pub const fn size(top: u16, premium: u16, level: u16, dates: u16, returns: u16) 
         level,
         dates,
         returns,
+        highest: 16_000,
         penalty: 500,
         step: 0,
     }
@@ -103,7 +106,7 @@ impl Size {
             discount: 970_000,
             step: self.step,
         };
-        terms.input(&spread(self.returns.into()), behaviour)
+        terms.input(&spread(self.returns.into(), self.highest), behaviour)
     }
 
     /// How many values the plain program looks up: one for each return of each amount of
@@ -123,15 +126,16 @@ impl Size {
     }
 }
 
-/// Returns between 0.6 and 1.6, evenly spread by ratio, so that a fall and a rise of the same
-/// ratio are alike; the weights fall off towards both ends as a parabola.
-fn spread(count: usize) -> Vec<Return> {
+/// Returns from 0.6 to the highest, evenly spread by ratio; the weights fall off towards both
+/// ends as a parabola. Up to 1.6 a fall and a rise of the same ratio are alike; up to 3.0 most
+/// returns rise, and more of them lift a balance above top.
+fn spread(count: usize, highest: u16) -> Vec<Return> {
     let heights: Vec<usize> = (0..count).map(|k| (k + 1) * (count - k)).collect();
     let total: usize = heights.iter().sum();
     let mut below = 0;
     let mut returns = Vec::new();
     for (k, height) in heights.iter().enumerate() {
-        let ratio = (16.0f64 / 6.0).powf(k as f64 / (count - 1) as f64);
+        let ratio = (f64::from(highest) / 6_000.0).powf(k as f64 / (count - 1) as f64);
         // Shares are cut from the running total, so they add to 10,000.
         let weight = 10_000 * (below + height) / total - 10_000 * below / total;
         below += height;

@@ -37,6 +37,14 @@ const fn at_step(step: u16) -> Size {
     }
 }
 
+/// A size with returns up to 3.0.
+const fn lifting(size: Size) -> Size {
+    Size {
+        highest: 30_000,
+        ..size
+    }
+}
+
 /// How much the engine passes over depends on what withdrawing above m costs.
 const PENALTIES: [Size; 5] = [
     at_penalty(0),
@@ -55,13 +63,30 @@ const STEPS: [Size; 5] = [
     at_step(500),
 ];
 
-const TIMED: [(&str, u64, Size); 6] = [
+/// In the last row values could be so large that discount × sum passes 64 bits.
+const TIMED: [(&str, u64, Size); 10] = [
     ("dynamic", DYNAMIC, size(100, 50, 5, 10, 8)),
     ("dynamic", DYNAMIC, size(400, 200, 10, 20, 32)),
     ("dynamic", DYNAMIC, size(400, 400, 20, 20, 32)),
     ("dynamic", DYNAMIC, size(1_000, 500, 25, 20, 32)),
     ("static", STATIC, size(400, 200, 10, 20, 32)),
     ("mixed", MIXED, size(400, 200, 10, 20, 32)),
+    (
+        "dynamic, to 3.0",
+        DYNAMIC,
+        lifting(size(400, 200, 10, 20, 32)),
+    ),
+    (
+        "static, to 3.0",
+        STATIC,
+        lifting(size(400, 200, 10, 20, 32)),
+    ),
+    ("mixed, to 3.0", MIXED, lifting(size(400, 200, 10, 20, 32))),
+    (
+        "dynamic, to 3.0",
+        DYNAMIC,
+        lifting(size(4_000, 40, 4, 40, 32)),
+    ),
 ];
 
 /// Tables of growth: a heading, and sizes of which each doubles one thing.
@@ -166,7 +191,7 @@ fn print_timed(name: &str, s: &Size, seconds: &[f64]) {
     let (engine, tuned, plain) = (seconds[0], seconds[1], seconds.get(2));
     let of_plain = |shown: Option<String>| shown.unwrap_or("-".to_string());
     println!(
-        "{name:<9}{:>6}{:>5}{:>4}{:>4}{:>9}{:>11}{engine:>11.5}{tuned:>11.5}{:>14}{:>14.3}",
+        "{name:<15}{:>6}{:>5}{:>4}{:>4}{:>9}{:>11}{engine:>11.5}{tuned:>11.5}{:>14}{:>14.3}",
         s.top,
         s.premium,
         s.level,
@@ -181,8 +206,9 @@ fn print_timed(name: &str, s: &Size, seconds: &[f64]) {
 /// Engine, plain and tuned at the sizes of `TIMED`.
 fn time_programs() -> bool {
     println!("seconds, best of several runs; '-' where plain would take minutes");
+    println!("returns up to 1.6, where so named up to 3.0: more of them lift a balance above top");
     println!(
-        "behaviour   top    U   G   N  returns      plain     engine      tuned  plain/engine  tuned/engine"
+        "behaviour         top    U   G   N  returns      plain     engine      tuned  plain/engine  tuned/engine"
     );
     let mut right = true;
     for (name, behaviour, size) in &TIMED {

@@ -1,5 +1,6 @@
 //! Times the engine against its last edition with 32-bit values, in one process and on the same
-//! inputs. Exit status 1 if answers, tables or working slices differ.
+//! inputs. That edition drops what a return lifts above top, so no return here does.
+//! Exit status 1 if answers, tables or working slices differ.
 
 // Only sizes are taken from it.
 #[allow(dead_code)]
@@ -11,8 +12,19 @@ use std::time::Instant;
 
 const RUNS: usize = 40;
 
-/// In the second, values could pass 32 bits.
-const SIZES: [Size; 2] = [size(400, 200, 10, 20, 32), size(4_000, 40, 4, 40, 32)];
+/// A size with returns up to 1.0.
+const fn falling(size: Size) -> Size {
+    Size {
+        highest: 10_000,
+        ..size
+    }
+}
+
+/// In the second, values could be so large that discount × sum passes 64 bits.
+const SIZES: [Size; 2] = [
+    falling(size(400, 200, 10, 20, 32)),
+    falling(size(4_000, 40, 4, 40, 32)),
+];
 
 /// All that a call tells and leaves, in numbers of 64 bits.
 #[derive(Debug, PartialEq)]

@@ -12,7 +12,10 @@
 //! maximum decides both; eight rows are summed at once, so that a sum is loaded and stored less
 //! often; and no division but by a power of two stands in a loop over choices.
 //!
-//! A value is at most 40 × 10,000 × 4,000 = 1,600,000,000, below 2^31; a key is below 2^44.
+//! What a return lifts above top is paid whatever the guarantee: one number for a balance, from
+//! which each of its sums starts.
+//!
+//! A value reached is at most 81 × 10,000 × 4,000 = 3,240,000,000, below 2^32; a key is below 2^45.
 
 use crate::gmwb::{Mapped, Valued};
 
@@ -20,6 +23,9 @@ const UNIT: u64 = 10_000;
 
 /// Keys and stored sums hold values times this; every amount is below it.
 const SPAN: u64 = 8_192;
+
+/// A discount of at most 1,000,000 times this is below 2^64.
+const MOST_PLAIN: u64 = 18_000_000_000_000;
 
 /// How many states are passed over at once, and then again how many of them.
 const RUN: usize = 32;
@@ -66,14 +72,28 @@ impl Terms {
         UNIT - self.penalty.saturating_sub((date as u64 - 1) * self.step)
     }
 
-    fn next_account(&self, balance: usize, factor: u64) -> usize {
-        let account = balance as u64 * factor * (UNIT - self.fee) / (UNIT * UNIT);
-        self.top.min(account as usize)
+    /// Where a return lifts a balance to, above top or not.
+    fn lifted(&self, balance: usize, factor: u64) -> usize {
+        (balance as u64 * factor * (UNIT - self.fee) / (UNIT * UNIT)) as usize
     }
 
-    fn discounted(&self, sum: u64) -> u64 {
-        self.discount * sum / 10_000_000_000
+    /// No value of a state passes this where so many decisions lie ahead: maturity pays at most
+    /// 10,000 × top, a decision with the return behind it twice that.
+    fn most(&self, decisions: usize) -> u64 {
+        UNIT * self.top as u64 * (2 * decisions as u64 + 1)
     }
+}
+
+/// discount × sum / 10^10 by one product: for sums up to `MOST_PLAIN`.
+fn discounted_plain(discount: u64, sum: u64) -> u64 {
+    discount * sum / 10_000_000_000
+}
+
+/// The same for any sum, whose product could pass 2^64. It is divided by 2^10 first: that is the
+/// product of the bits above the lowest ten, and what those add.
+fn discounted_any(discount: u64, sum: u64) -> u64 {
+    let divided = discount * (sum >> 10) + (discount * (sum & 1_023) >> 10);
+    divided / 9_765_625
 }
 
 // ---------------------------------------------------------------- Reading
@@ -212,7 +232,8 @@ fn fill_table(
     let layers = table[..terms.entries()].chunks_exact_mut(layer).enumerate();
     for (index, amounts) in layers.rev() {
         let net = terms.net(index + 1);
-        expect_layer(terms, returns, values, expected);
+        let most = terms.most(terms.dates - 2 - index);
+        expect_layer(terms, returns, most, values, expected);
         match behaviour {
             0 => decide_static(terms, values, expected, amounts),
             1 => decide_mixed(terms, net, values, expected, amounts),
@@ -235,32 +256,59 @@ fn fill_maturity(terms: &Terms, values: &mut [u64]) {
 fn value_at_start(terms: &Terms, returns: &[Return], values: &[u64]) -> (u64, i64) {
     let mut sum = 0;
     for r in returns {
-        let account = terms.next_account(terms.premium, r.factor);
-        let reached = values[account * terms.stride() + terms.premium];
-        sum += u64::from(r.weight) * reached;
+        let lifted = terms.lifted(terms.premium, r.factor);
+        let excess = lifted.saturating_sub(terms.top);
+        let value = values[(lifted - excess) * terms.stride() + terms.premium];
+        sum += u64::from(r.weight) * (value + UNIT * excess as u64);
     }
-    let value = terms.discounted(sum);
+    let value = discounted_any(terms.discount, sum);
     let premium = UNIT * terms.premium as u64;
     (value, value as i64 - premium as i64)
 }
 
 // ---------------------------------------------------- Step 1: expectation
 
-/// E(b, a) times `SPAN` for every balance and guarantee, from the values of the next date.
-fn expect_layer(terms: &Terms, returns: &[Return], values: &[u64], expected: &mut [u64]) {
+/// E(b, a) times `SPAN` for every balance and guarantee, from the values of the next date, none
+/// of which passes `most`.
+fn expect_layer(
+    terms: &Terms,
+    returns: &[Return],
+    most: u64,
+    values: &[u64],
+    expected: &mut [u64],
+) {
     let stride = terms.stride();
     let mut sums = vec![0; stride];
     let mut rows = Vec::with_capacity(returns.len());
     for (balance, out) in expected.chunks_exact_mut(stride).enumerate() {
         rows.clear();
+        let mut paid = 0;
         for r in returns {
-            let from = terms.next_account(balance, r.factor) * stride;
-            rows.push((r.weight, &values[from..from + stride]));
+            let mut account = terms.lifted(balance, r.factor);
+            // A branch: below top there is nothing to multiply.
+            if account > terms.top {
+                paid += u64::from(r.weight) * UNIT * (account - terms.top) as u64;
+                account = terms.top;
+            }
+            rows.push((r.weight, &values[account * stride..][..stride]));
         }
-        sum_rows(&rows, &mut sums);
-        for (e, sum) in out.iter_mut().zip(&sums) {
-            *e = SPAN * terms.discounted(*sum);
+        sum_rows(&rows, paid, &mut sums);
+        if UNIT * most + paid <= MOST_PLAIN {
+            discount_row(terms, &sums, out, discounted_plain);
+        } else {
+            discount_row(terms, &sums, out, discounted_any);
         }
+    }
+}
+
+fn discount_row(
+    terms: &Terms,
+    sums: &[u64],
+    out: &mut [u64],
+    discounted: impl Fn(u64, u64) -> u64,
+) {
+    for (e, sum) in out.iter_mut().zip(sums) {
+        *e = SPAN * discounted(terms.discount, *sum);
     }
 }
 
@@ -268,13 +316,14 @@ fn product(weight: u32, value: &u64) -> u64 {
     u64::from(weight) * (value & 0xffff_ffff)
 }
 
-/// The weighted sum of the rows, eight at a time: one load and one store of a sum for eight
-/// products, and no load for the first eight.
-fn sum_rows(rows: &[(u32, &[u64])], sums: &mut [u64]) {
+/// What is paid and the weighted sum of the rows, eight at a time: one load and one store of a
+/// sum for eight products, and no load for the first eight. Paid joins here, where the loop is
+/// widened: at the discount, which is not, it made static withdrawals a tenth slower.
+fn sum_rows(rows: &[(u32, &[u64])], paid: u64, sums: &mut [u64]) {
     let mut eights = rows.chunks_exact(8);
     match eights.next() {
-        Some(eight) => sum_eight(eight, sums, |_, added| added),
-        None => sums.fill(0),
+        Some(eight) => sum_eight(eight, sums, |_, added| paid + added),
+        None => sums.fill(paid),
     }
     for eight in &mut eights {
         sum_eight(eight, sums, |sum, added| sum + added);

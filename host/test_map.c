@@ -171,13 +171,12 @@ static void map_is(uint16_t dates, uint64_t behaviour, uint64_t count, const uin
 static void figures(void)
 {
     static const uint64_t none[4], dynamic[4] = {0x800},
-                          mixed[4] = {UINT64_C(0x0a00a00a00800800), UINT64_C(0x00000000600200a0),
-                                      UINT64_C(0x1801000000000000), UINT64_C(0x00000001f01e01c0)};
+                          mixed[4] = {UINT64_C(0x0a00a00a00800800), 0x600200a0};
     map_is(2, GMWB_STATIC, 0, none);
-    map_is(2, GMWB_MIXED, 28, mixed);
+    map_is(2, GMWB_MIXED, 13, mixed);
     map_is(2, GMWB_DYNAMIC, 1, dynamic);
     map_is(3, GMWB_STATIC, 0, NULL);
-    map_is(3, GMWB_MIXED, 102, NULL);
+    map_is(3, GMWB_MIXED, 36, NULL);
     map_is(3, GMWB_DYNAMIC, 2, NULL);
 }
 

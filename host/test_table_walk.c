@@ -1,7 +1,7 @@
 /*
  * gmwb_value_table and gmwb_walk: their refusals on both sides of each boundary, what is left in the
- * slices, slices that share memory, the value of a table against walks along every path, and random
- * tables and walks against the second program.
+ * slices, returns that lift an account above top, slices that share memory, the value of a table
+ * against walks along every path, and random tables and walks against the second program.
  */
 #include "contracts.h"
 
@@ -233,8 +233,9 @@ static void recorded_tables(void)
 }
 
 /*
- * Close to the largest values there are: an account of 4,000 triples, 2,666 are drawn on each of 39
- * dates, and 4,000 remain. The discounted sum passes 2^63 on the way.
+ * Large values by withdrawals: an account of 4,000 triples, 2,666 are drawn on each of 39 dates,
+ * 1,334 stay and come to 2 more than 4,000, and 4,000 remain. The discounted sum passes 2^63 on the
+ * way.
  */
 static void large_values(void)
 {
@@ -252,7 +253,7 @@ static void large_values(void)
     about("large values");
     same("value_table: number", value_table(&f, &t, &work), GMWB_SUCCESS);
     same("value of (4,000, 0)", ((uint64_t *)start(work))[entry_of(c, 4000, 0)],
-         UINT64_C(39) * 26660000 + 40000000);
+         UINT64_C(39) * (26660000 + 20000) + 40000000);
     take_back(work);
     free(table);
 }
@@ -329,8 +330,9 @@ static void cash_along(struct terms c, const uint16_t *table, const uint16_t *pa
 }
 
 /*
- * P's dynamic table draws 0 at (5, 10) and 1 at (15, 10), where 14 stay and reach 7 or 21, held at
- * 20, beside guarantee 9. With one date there is only the maturity payment.
+ * P's dynamic table draws nothing: 15 come to 7, or to 22 and 2 are paid. With three dates 1 is drawn
+ * at (15, 10) and nothing else: 14 come to 7, or to 21 and 1 is paid; then 20 come to 30. With one
+ * date there is only the maturity payment.
  */
 static void cash_by_hand(void)
 {
@@ -341,8 +343,16 @@ static void cash_by_hand(void)
     uint16_t *table = recorded(&in, GMWB_DYNAMIC, &t, &work);
     cash_along(P, table, (uint16_t[]){0, 0}, (uint64_t[]){0, 100000});
     cash_along(P, table, (uint16_t[]){0, 1}, (uint64_t[]){0, 100000});
-    cash_along(P, table, (uint16_t[]){1, 0}, (uint64_t[]){10000, 90000});
-    cash_along(P, table, (uint16_t[]){1, 1}, (uint64_t[]){10000, 200000});
+    cash_along(P, table, (uint16_t[]){1, 0}, (uint64_t[]){0, 100000});
+    cash_along(P, table, (uint16_t[]){1, 1}, (uint64_t[]){0, 220000});
+    take_back(work);
+    free(table);
+    about("walks of three dates");
+    in = input_of(P3, P_RETURNS, 2);
+    table = recorded(&in, GMWB_DYNAMIC, &t, &work);
+    cash_along(P3, table, (uint16_t[]){1, 1, 1}, (uint64_t[]){10000, 10000, 300000});
+    cash_along(P3, table, (uint16_t[]){1, 0, 1}, (uint64_t[]){10000, 0, 100000});
+    cash_along(P3, table, (uint16_t[]){0, 1, 1}, (uint64_t[]){0, 0, 100000});
     take_back(work);
     free(table);
     about("walks of one date");
@@ -383,8 +393,9 @@ static void falling_rates(void)
 }
 
 /*
- * P's second return leads to (20, 10) on every date from 2 on. There 20 are drawn on date 9, where
- * the rate has fallen to zero; 8 x 8,192 is 0 in 16 bits.
+ * P's second return leads to (20, 10) on every date from 2 on, with an excess of 2 there and of 10
+ * from then on. 20 are drawn on date 9, where the rate has fallen to zero, and nothing is left;
+ * 8 x 8,192 is 0 in 16 bits.
  */
 static void drawn_late(void)
 {
@@ -394,13 +405,105 @@ static void drawn_late(void)
     for (size_t i = 0; i < COUNT(path); i++)
         path[i] = 1;
     table[8 * layer_of(c) + entry_of(c, 20, 10)] = 20;
-    cash[8] = 200000;
+    cash[1] = 20000;
+    for (size_t i = 2; i < 8; i++)
+        cash[i] = 100000;
+    cash[8] = 300000;
     struct followed f = exact(input_of(c, P_RETURNS, 2), table, path);
     about("20 drawn on date 9");
     pays(&f, cash);
     table_answered(&f, GMWB_SUCCESS, 0);
     free(table);
 }
+
+/* ---- Returns that lift an account above top --------------------------------------------------- */
+
+/* P under top 12 with three dates; a return that changes nothing and one that triples. */
+static const struct terms UNDER_12 = {10, 5, 12, 3, 0, 1000, 1000000, 0, 0};
+static const struct fund_return STILL_OR_TRIPLE[2] = {{10000, 5000}, {30000, 5000}};
+
+static void tripled(const uint16_t *table, const uint16_t *path, const uint64_t *expected)
+{
+    struct followed f = exact(input_of(UNDER_12, STILL_OR_TRIPLE, 2), table, path);
+    about("tripled by returns %u, %u, %u", path[0], path[1], path[2]);
+    pays(&f, expected);
+}
+
+/* Nothing is drawn: 10 triple to 30 on the way to date 1 or to date 2, or 12 to 36 after that. */
+static void excess_at_decision_date(void)
+{
+    tripled(ZEROS, (uint16_t[]){1, 0, 0}, (uint64_t[]){180000, 0, 120000});
+    tripled(ZEROS, (uint16_t[]){0, 1, 0}, (uint64_t[]){0, 180000, 120000});
+    tripled(ZEROS, (uint16_t[]){1, 1, 0}, (uint64_t[]){180000, 240000, 120000});
+    /* The eight paths pay 3,400,000 in all. */
+    struct followed f = exact(input_of(UNDER_12, STILL_OR_TRIPLE, 2), ZEROS, FIRST_RETURN);
+    struct told t;
+    struct lent work;
+    about("nothing drawn under top 12");
+    same("value_table: number", value_table(&f, &t, &work), GMWB_SUCCESS);
+    same("value_table: value", t.value, 425000);
+    take_back(work);
+}
+
+/* The last return lifts 10 or 12 above top, beside the maturity payment of top. */
+static void excess_at_maturity(void)
+{
+    tripled(ZEROS, (uint16_t[]){0, 0, 0}, (uint64_t[]){0, 0, 100000});
+    tripled(ZEROS, (uint16_t[]){0, 0, 1}, (uint64_t[]){0, 0, 300000});
+    tripled(ZEROS, (uint16_t[]){1, 0, 1}, (uint64_t[]){180000, 0, 360000});
+    tripled(ZEROS, (uint16_t[]){1, 1, 1}, (uint64_t[]){180000, 240000, 360000});
+}
+
+/* The walk of one date is all maturity: 10 are lifted to top, to one above it and further. */
+static void excess_on_first_return(void)
+{
+    static const uint16_t factors[4] = {12000, 12999, 13000, 30000};
+    static const uint64_t paid[4] = {120000, 120000, 130000, 300000};
+    struct terms c = UNDER_12;
+    c.dates = 1;
+    for (size_t i = 0; i < 4; i++) {
+        const struct fund_return single[1] = {{factors[i], 10000}};
+        struct followed f = exact(input_of(c, single, 1), NULL, FIRST_RETURN);
+        about("10 under top 12, factor %u", (unsigned)factors[i]);
+        pays(&f, &paid[i]);
+    }
+}
+
+/* At (12, 10) 6 are drawn: the penalty falls on 1 above m, and not on the 18 paid on arrival. */
+static void excess_without_penalty(void)
+{
+    uint16_t table[TABLE_ROOM] = {0};
+    table[entry_of(UNDER_12, 12, 10)] = 6;
+    tripled(table, (uint16_t[]){1, 0, 0}, (uint64_t[]){239000, 0, 60000});
+}
+
+/*
+ * Nothing is drawn from 4,000 that triple: 8,000 are paid on each of 39 dates, and values pass 2^31.
+ * A premium of 1 passes 4,000 on date 8, as 6,561.
+ */
+static void largest_payouts(void)
+{
+    const struct terms c = {1, 1, 4000, 40, 0, 1000, 1000000, 0, 0};
+    const struct fund_return triple[1] = {{30000, 10000}};
+    uint16_t *table = allocate(table_of(c) * sizeof *table), path[40] = {0};
+    uint64_t cash[40] = {0};
+    struct followed f = exact(input_of(c, triple, 1), table, path);
+    struct told t;
+    struct lent work;
+    about("largest payouts");
+    same("value_table: number", value_table(&f, &t, &work), GMWB_SUCCESS);
+    same("value of (4,000, 0)", ((uint64_t *)start(work))[entry_of(c, 4000, 0)],
+         UINT64_C(3160000000));
+    take_back(work);
+    cash[7] = 25610000;
+    for (size_t i = 8; i < 39; i++)
+        cash[i] = 80000000;
+    cash[39] = 120000000;
+    pays(&f, cash);
+    free(table);
+}
+
+/* ---- Paths ------------------------------------------------------------------------------------ */
 
 static void path_counts(void)
 {
@@ -577,7 +680,7 @@ static wide weighed(const struct input *in, const uint16_t *path, const uint64_t
  *
  * It is exact here in whole numbers: a chance is a product of 3 weights over 10^12, a discount one of
  * up to 3 discounts over 10^18, and all is kept times 10^30. With accounts up to 30 a walk pays at
- * most 3 x 300,000, so that no sum passes 9 x 10^35, below 2^127.
+ * most 7 x 300,000 (2 x N + 1 tops), so that no sum passes 21 x 10^35, below 2^127.
  */
 static void every_path(const struct input *in, const uint16_t *table)
 {
@@ -663,6 +766,48 @@ static void damage_table(struct terms c, uint16_t *table)
             table[i] = (uint16_t)(table[i] + (one_in(3) ? upto(TOP) : 0));
 }
 
+/* Walks with an excess: random rounds without them would show little. */
+static uint64_t with_excess;
+
+/*
+ * An accepted walk, booking by booking: the cash of a date is the booking's, or the maturity value,
+ * and 10,000 x the excess of the return that led there. "While no amount on a walk passes m, amounts
+ * withdrawn so far plus the guarantee equal the premium": an excess is no withdrawal.
+ */
+static void along_bookings(const struct followed *f, const uint64_t *cash)
+{
+    struct terms c = terms_in(&f->in);
+    struct lent table = lend_table(f), path = lend_path(f);
+    uint64_t balance = c.premium, guarantee = c.premium, drawn = 0, excess = 0;
+    bool within_m = true;
+    for (uint64_t date = 1; date <= c.dates; date++) {
+        size_t number = ((uint16_t *)start(path))[date - 1];
+        uint16_t factor = (uint16_t)get(f->in.list + GMWB_RETURN_BYTES * number, 2);
+        uint64_t lifted = lifted_account(c, balance, factor);
+        uint64_t account = smaller(lifted, c.top), paid = 10000 * larger(account, guarantee);
+        if (date < c.dates) {
+            uint8_t out[GMWB_BOOKING_BYTES];
+            size_t entry = (size_t)(date - 1) * layer_of(c) + entry_of(c, account, guarantee);
+            uint64_t amount = ((uint16_t *)start(table))[entry];
+            same("walk: booking", gmwb_book(f->in.record, f->in.record_len, date, account,
+                                            guarantee, amount, out, sizeof out), GMWB_SUCCESS);
+            within_m = within_m && amount <= free_amount(c, guarantee);
+            paid = get(out, 4);
+            balance = get(out + 8, 2);
+            guarantee = get(out + 10, 2);
+            drawn += amount;
+        }
+        excess += excess_over(c, lifted);
+        same("walk: cash by booking and excess", cash[date - 1],
+             paid + 10000 * excess_over(c, lifted));
+        if (within_m)
+            same("walk: withdrawn and guarantee", drawn + guarantee, c.premium);
+    }
+    with_excess += excess > 0;
+    take_back(table);
+    take_back(path);
+}
+
 static void random_round(uint64_t round, uint64_t *tables, uint64_t *walks)
 {
     uint16_t table[RANDOM_ROOM], path[DATES];
@@ -692,6 +837,8 @@ static void random_round(uint64_t round, uint64_t *tables, uint64_t *walks)
     take_back(work);
     number = walk(&f, &place, &cash);
     tally(walks, number);
+    if (number == 0)
+        along_bookings(&f, start(cash));
     take_back(cash);
 }
 
@@ -707,6 +854,7 @@ static void random_rounds(uint64_t rounds)
     if (rounds >= 2000) {
         all_came(tables, by_table, COUNT(by_table));
         all_came(walks, by_walk, COUNT(by_walk));
+        holds("walks with an excess", with_excess > 200);
     }
 }
 
@@ -726,6 +874,11 @@ int main(int argc, char **argv)
     cash_by_hand();
     falling_rates();
     drawn_late();
+    excess_at_decision_date();
+    excess_at_maturity();
+    excess_on_first_return();
+    excess_without_penalty();
+    largest_payouts();
     path_counts();
     path_numbers();
     bad_entries_met();

@@ -1,6 +1,7 @@
 /*
- * gmwb_value: the marked cases, rates that fall, every refusal on both sides of its boundary, the
- * order of the checks, what is left in the slices, and random contracts against the second program.
+ * gmwb_value: the marked cases, rates that fall, returns that lift an account above top, every
+ * refusal on both sides of its boundary, the order of the checks, what is left in the slices, and
+ * random contracts against the second program.
  */
 #include "valuing.h"
 
@@ -36,9 +37,9 @@ static uint32_t value(const struct valuing *v, struct told *told, struct left *l
 
 /* ---- Marked cases ----------------------------------------------------------------------------- */
 
-static void valued(struct terms c, uint64_t behaviour, uint64_t expected, int64_t margin)
+static void valued_with(struct input in, uint64_t behaviour, uint64_t expected, int64_t margin)
 {
-    struct valuing v = exact(input_of(c, P_RETURNS, 2), behaviour);
+    struct valuing v = exact(in, behaviour);
     struct told t;
     struct left l;
     same("number", value(&v, &t, &l), GMWB_SUCCESS);
@@ -47,12 +48,17 @@ static void valued(struct terms c, uint64_t behaviour, uint64_t expected, int64_
     take_back_left(l);
 }
 
+static void valued(struct terms c, uint64_t behaviour, uint64_t expected, int64_t margin)
+{
+    valued_with(input_of(c, P_RETURNS, 2), behaviour, expected, margin);
+}
+
 static void marked_values(void)
 {
     about("case 1");
     valued(P, GMWB_STATIC, 125000, 25000);
     valued(P, GMWB_MIXED, 125000, 25000);
-    valued(P, GMWB_DYNAMIC, 127500, 27500);
+    valued(P, GMWB_DYNAMIC, 130000, 30000);
     about("case 4");
     const struct terms one_date = {10, 5, 20, 1, 0, 1000, 1000000, 0, 0};
     for (uint64_t behaviour = 0; behaviour <= 2; behaviour++)
@@ -71,26 +77,27 @@ static void marked_values(void)
 
 /*
  * "Bookings, tables and values follow it. A step of zero gives the old figures." Static pays no
- * penalty; with one decision date no rate has fallen yet.
+ * penalty, nor does dynamic without a fee, which draws nothing above m; with one decision date no
+ * rate has fallen yet.
  */
 static void falling_rates(void)
 {
-    static const uint16_t steps[3] = {0, 100, 1000};
-    static const uint64_t values[3][3] = {
-        {122500, 122500, 133500},
-        {122500, 123000, 133650},
-        {122500, 125000, 134375},
+    static const uint16_t fees[6] = {0, 0, 0, 1000, 1000, 1000};
+    static const uint16_t steps[6] = {0, 100, 1000, 0, 100, 1000};
+    static const uint64_t values[6][3] = {
+        {123750, 123750, 139375}, {123750, 123875, 139375}, {123750, 125000, 139375},
+        {107500, 111250, 114750}, {107500, 111375, 115025}, {107500, 112500, 117500},
     };
-    for (size_t i = 0; i < 3; i++) {
-        const struct terms c = {10, 5, 20, 4, 0, 1000, 1000000, steps[i], 0};
-        about("P with N 4, step %u", (unsigned)steps[i]);
+    for (size_t i = 0; i < 6; i++) {
+        const struct terms c = {10, 5, 20, 4, fees[i], 1000, 1000000, steps[i], 0};
+        about("P with N 4, fee %u, step %u", (unsigned)fees[i], (unsigned)steps[i]);
         for (uint64_t behaviour = 0; behaviour <= 2; behaviour++)
             valued(c, behaviour, values[i][behaviour], (int64_t)values[i][behaviour] - 100000);
     }
     const struct terms one_decision = {10, 5, 20, 2, 0, 1000, 1000000, 10000, 0};
     about("P, step 10,000");
     valued(one_decision, GMWB_MIXED, 125000, 25000);
-    valued(one_decision, GMWB_DYNAMIC, 127500, 27500);
+    valued(one_decision, GMWB_DYNAMIC, 130000, 30000);
 }
 
 /* The rate is at zero on the last date, before it or never; 8 x 8,192 is 0 in 16 bits. */
@@ -124,7 +131,7 @@ static void state(struct terms c, uint64_t behaviour, size_t account, size_t gua
 static void marked_states(void)
 {
     about("case 2");
-    state(P, GMWB_DYNAMIC, 15, 10, 155000, 1);
+    state(P, GMWB_DYNAMIC, 15, 10, 160000, 0);
     about("case 3");
     state(P, GMWB_MIXED, 5, 10, 100000, 5);
     state(P, GMWB_DYNAMIC, 5, 10, 100000, 0);
@@ -154,6 +161,104 @@ static void maturity_layer(void)
     take_back_left(l);
 }
 
+/* ---- Returns that lift an account above top --------------------------------------------------- */
+
+/* P with N 1 to 4, then under tops of 12 and 10, where its second return lifts 10 to 15. */
+static void payout_values(void)
+{
+    static const uint16_t tops_dates[][2] = {{20, 1}, {20, 2}, {20, 3}, {20, 4}, {12, 1}, {12, 2},
+                                             {12, 3}, {10, 1}, {10, 2}};
+    static const uint64_t values[][3] = {
+        {125000, 125000, 125000}, {125000, 125000, 130000}, {125000, 125000, 131250},
+        {123750, 123750, 139375}, {125000, 125000, 125000}, {127500, 127500, 135000},
+        {126250, 126250, 140000}, {125000, 125000, 125000}, {130000, 130000, 137500},
+    };
+    for (size_t i = 0; i < COUNT(values); i++) {
+        struct terms c = P;
+        c.top = tops_dates[i][0];
+        c.dates = tops_dates[i][1];
+        about("P under top %u with N %u", (unsigned)c.top, (unsigned)c.dates);
+        for (uint64_t behaviour = 0; behaviour <= 2; behaviour++)
+            valued(c, behaviour, values[i][behaviour], (int64_t)values[i][behaviour] - 100000);
+    }
+}
+
+/* Premium 10, one date and one return: the value is 10,000 x what 10 are lifted to. */
+static void lifted_to(uint16_t top, uint16_t fee, uint16_t factor, uint64_t value)
+{
+    const struct terms c = {10, 5, top, 1, fee, 1000, 1000000, 0, 0};
+    const struct fund_return single[1] = {{factor, 10000}};
+    about("10 under top %u, fee %u, factor %u", (unsigned)top, (unsigned)fee, (unsigned)factor);
+    for (uint64_t behaviour = 0; behaviour <= 2; behaviour++)
+        valued_with(input_of(c, single, 1), behaviour, value, (int64_t)value - 100000);
+}
+
+/* To just below top, to top, to one above it and further. */
+static void excess_on_first_return(void)
+{
+    lifted_to(12, 0, 11999, 110000);
+    lifted_to(12, 0, 12000, 120000);
+    lifted_to(12, 0, 12999, 120000);
+    lifted_to(12, 0, 13000, 130000);
+    lifted_to(12, 0, 30000, 300000);
+    lifted_to(10, 0, 11000, 110000);
+    lifted_to(10, 0, 30000, 300000);
+}
+
+/* 10 come to 12.5 before the fee; what is left above top after it is whole units or nothing. */
+static void fee_down_to_top(void)
+{
+    lifted_to(10, 0, 12500, 120000);
+    lifted_to(10, 400, 12500, 120000);
+    lifted_to(10, 401, 12500, 110000);
+    lifted_to(10, 1200, 12500, 110000);
+    lifted_to(10, 1201, 12500, 100000);
+    lifted_to(10, 2000, 12500, 100000);
+    lifted_to(10, 10000, 12500, 100000);
+}
+
+/* A premium at top that triples each time: 2 x N + 1 times its top, and no value is larger. */
+static void most_a_value_can_be(void)
+{
+    static const uint16_t tops_dates[][2] = {{1, 1}, {7, 1}, {7, 2}, {40, 3}, {40, 40}};
+    const struct fund_return triple[1] = {{30000, 10000}};
+    for (size_t i = 0; i < COUNT(tops_dates); i++) {
+        uint16_t top = tops_dates[i][0], dates = tops_dates[i][1];
+        const struct terms c = {top, 1, top, dates, 0, 1000, 1000000, 0, 0};
+        about("largest value under top %u with N %u", (unsigned)top, (unsigned)dates);
+        uint64_t most = tops(c, 2 * (uint64_t)dates + 1);
+        valued_with(input_of(c, triple, 1), GMWB_DYNAMIC, most, (int64_t)most - 10000 * top);
+    }
+}
+
+/*
+ * 4,000 that triple pay 8,000 on each of 39 dates: values pass 2^31, and discount x sum 2^64. Under
+ * dynamic withdrawals the second program would take long, so that the engine is called alone.
+ */
+static void largest_payouts(void)
+{
+    const struct terms c = {1, 1, 4000, 40, 0, 1000, 1000000, 0, 0};
+    const struct fund_return triple[1] = {{30000, 10000}};
+    size_t entry = entry_of(c, 4000, 0);
+    struct told t = untold();
+    struct left l;
+    about("largest payouts");
+    for (uint64_t behaviour = 0; behaviour <= 2; behaviour++) {
+        struct valuing v = exact(input_of(c, triple, 1), behaviour);
+        if (behaviour == GMWB_DYNAMIC) {
+            l = lend_both(&v);
+            same("number", gmwb_value(v.in.record, v.in.record_len, v.in.list, v.in.list_len,
+                                      behaviour, start(l.work), v.work_len, start(l.table),
+                                      v.table_len, &t.place, &t.value, &t.margin), GMWB_SUCCESS);
+            after_success(c, t, l);
+        } else
+            same("number", value(&v, &t, &l), GMWB_SUCCESS);
+        same("value of (4,000, 0)", ((uint64_t *)start(l.work))[entry], UINT64_C(3160000000));
+        same("amount at (4,000, 0)", ((uint16_t *)start(l.table))[entry], 0);
+        take_back_left(l);
+    }
+}
+
 int main(int argc, char **argv)
 {
     uint64_t rounds = rounds_from(argc, argv, 2000);
@@ -162,6 +267,11 @@ int main(int argc, char **argv)
     falling_rates();
     rates_at_zero();
     maturity_layer();
+    payout_values();
+    excess_on_first_return();
+    fee_down_to_top();
+    most_a_value_can_be();
+    largest_payouts();
     shared_tests(rounds);
     return verdict("value");
 }

@@ -56,13 +56,21 @@ static inline void after_refusal(struct told t, struct left l)
     untouched("table after a refusal", l.table);
 }
 
+/*
+ * Maturity pays at most 10,000 x top, a decision with the return behind it, or the first return, at
+ * most twice that.
+ */
 static inline void after_success(struct terms c, struct told t, struct left l)
 {
     size_t layer = layer_of(c);
     const uint64_t *work = start(l.work);
-    uint64_t rest = 0;
+    uint64_t rest = 0, most = 0;
+    for (size_t i = 0; i < layer; i++)
+        most = larger(most, work[i]);
     for (size_t i = layer; i < 2 * layer; i++)
         rest |= work[i];
+    holds("largest value of a state", most <= tops(c, 2 * (uint64_t)c.dates - 1));
+    holds("largest value of a contract", t.value <= tops(c, 2 * (uint64_t)c.dates + 1));
     same("place after success", t.place, 0);
     same_signed("margin", t.margin, (int64_t)t.value - 10000 * (int64_t)c.premium);
     same("second layer zeros", rest, 0);

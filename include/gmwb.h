@@ -134,7 +134,10 @@ uint32_t gmwb_book(const uint8_t *record, size_t record_len,
  *
  *     start      balance U and guarantee U, then the first return
  *     return     next account = balance x factor x (10,000 - fee) / 100,000,000, rounded down a
- *                single time; a result above top is held at top
+ *                single time; a result above top is held at top, and the excess is paid to the
+ *                holder on arrival, without penalty
+ *     reached    the value reached is that of the next account and the guarantee plus 10,000 x the
+ *                excess, also on the first return and at maturity
  *     maturity   the value is 10,000 x the larger of W and A
  *     before it  an amount is worth its cash plus discount x (sum of weight x value reached) /
  *                10,000,000,000, rounded down once; a state's value is the largest worth among
@@ -144,7 +147,8 @@ uint32_t gmwb_book(const uint8_t *record, size_t record_len,
  * A layer has (top + 1) x (U + 1) entries; the entry of state (W, A) is W x (U + 1) + A.
  *
  * The working slice, work, needs two layers. After success the first holds the values of date 1
- * (for N = 1 those of maturity), the second zeros.
+ * (for N = 1 those of maturity), the second zeros. A state's value counts each excess that may be
+ * paid after its date, and not the one that was paid on arrival in it.
  *
  * The table holds withdrawal amounts and needs N - 1 layers: the layer of date i, from 1 to N - 1,
  * starts at entry (i - 1) x (top + 1) x (U + 1). For N = 1 its length may be 0.
@@ -185,10 +189,10 @@ uint32_t gmwb_value(const uint8_t *record, size_t record_len,
  * For N = 1 that is none, and the map's length may be 0. Bits of the last word that belong to no
  * entry are 0. The map may be longer; words beyond those needed are untouched.
  *
- * Values a contract as gmwb_value does, with the same checks, place, value, margin, working slice
- * and table. Returns 0 with these, the map as above, and count, the number of bits set in the words
- * needed. Else a refusal (1 to 6, 15, 7 to 11, 16) and its place, with value 0, margin 0, count 0,
- * work, table and map untouched.
+ * Values a contract as gmwb_value does, each excess counted, with the same checks, place, value,
+ * margin, working slice and table. Returns 0 with these, the map as above, and count, the number of
+ * bits set in the words needed. Else a refusal (1 to 6, 15, 7 to 11, 16) and its place, with value
+ * 0, margin 0, count 0, work, table and map untouched.
  */
 uint32_t gmwb_value_map(const uint8_t *record, size_t record_len,
                         const uint8_t *list, size_t list_len,
@@ -200,10 +204,11 @@ uint32_t gmwb_value_map(const uint8_t *record, size_t record_len,
 
 /* ---- Valuing a supplied table ----------------------------------------------------------------
  *
- * Values a contract whose holder withdraws what the table says; record, list, work and table as
- * above. Every needed entry of the table is checked against the dynamic set of its state, reachable
- * or not. Returns 0 with value, margin, place 0 and the working slice as gmwb_value does. Else a
- * refusal (1 to 6, 15, 7 to 9, 11, 14) and its place, with value 0, margin 0 and work untouched.
+ * Values a contract whose holder withdraws what the table says, each excess counted; record, list,
+ * work and table as above. Every needed entry of the table is checked against the dynamic set of
+ * its state, reachable or not. Returns 0 with value, margin, place 0 and the working slice as
+ * gmwb_value does. Else a refusal (1 to 6, 15, 7 to 9, 11, 14) and its place, with value 0, margin
+ * 0 and work untouched.
  */
 uint32_t gmwb_value_table(const uint8_t *record, size_t record_len,
                           const uint8_t *list, size_t list_len,
@@ -216,8 +221,11 @@ uint32_t gmwb_value_table(const uint8_t *record, size_t record_len,
  * Follows a table along a path of N return numbers (from 0, by place in the list), the first return
  * first; record, list and table as above. The table needs all N - 1 layers and cash N entries; only
  * the table entries met are checked. Returns 0 with place 0 and cash filled with N amounts in order
- * of date, the last being the maturity payment; entries of cash beyond N are untouched. Else a
- * refusal (1 to 6, 15, 7 to 9, 11, 13, 14) and its place, with cash untouched.
+ * of date, from date 1 to maturity: the cash of the withdrawal, on the last the maturity payment,
+ * plus 10,000 x the excess of the return that led there. Entries of cash beyond N are untouched.
+ * Else a refusal (1 to 6, 15, 7 to 9, 11, 13, 14) and its place, with cash untouched.
+ *
+ * An excess is no withdrawal: it lowers no guarantee, and neither a table nor a booking holds it.
  */
 uint32_t gmwb_walk(const uint8_t *record, size_t record_len,
                    const uint8_t *list, size_t list_len,

@@ -3,8 +3,9 @@
 //! Its parts, each headed in the script by a line that starts with `#`: the cases of
 //! document 01, penalty rates that fall, the ends of every range, every refusal alone and
 //! with the checks behind it failing too, every count of dates, slices of every length
-//! that matters, and random contracts, whole and damaged. Maps of surrender stand last,
-//! in parts of the same kinds, so that the lines before them keep their seeds.
+//! that matters, and random contracts, whole and damaged. Maps of surrender follow, in
+//! parts of the same kinds, then returns that lift an account above top: each behind what
+//! was there before, so that the lines before them keep their seeds.
 //!
 //! The test program has room for records of 64 bytes, lists of 512, 64 return numbers,
 //! 64 bytes of a buffer, 65,536 numbers of a working slice or of cash, 65,536 amounts
@@ -158,6 +159,26 @@ impl Draw {
             let around = 5_000 + self.upto(10_000);
             let factor = self.one(&[around, around, around, self.0 as usize % 30_001, 0, 30_000]);
             returns.push((factor as u16, weight as u16));
+        }
+        returns
+    }
+
+    /// A contract whose premium is near top.
+    fn near_top(&mut self, most_top: usize, most_dates: usize) -> Terms {
+        let terms = self.terms(most_top, most_dates);
+        let near = terms.top - self.upto(usize::from(terms.top) / 3) as u16;
+        Terms {
+            premium: terms.premium.max(near),
+            ..terms
+        }
+    }
+
+    /// Returns of which most lift, up to three times.
+    fn lifting(&mut self, count: usize) -> Vec<Return> {
+        let mut returns = self.returns(count);
+        for (factor, _) in &mut returns {
+            let lift = 10_000 + self.upto(20_000) as u16;
+            *factor = self.one(&[lift, lift, 10_000, 20_000, 30_000, *factor]);
         }
         returns
     }
@@ -910,14 +931,18 @@ fn random_bookings(s: &mut Script) {
     }
 }
 
-/// A table that is filled, supplied back whole and with one entry changed, and walked.
 fn random_contract(s: &mut Script, terms: Terms, most_returns: usize) {
     let count = 1 + s.draw.upto(most_returns - 1);
     let returns = s.draw.returns(count);
-    let (work, dates) = (terms.work(), usize::from(terms.dates));
+    tried(s, terms, &returns);
+}
+
+/// A table that is filled, supplied back whole and with one entry changed, and walked.
+fn tried(s: &mut Script, terms: Terms, returns: &[Return]) {
+    let (work, dates, count) = (terms.work(), usize::from(terms.dates), returns.len());
     s.check(&terms.record());
     for behaviour in 0..3 {
-        s.valued_and_walked(terms, &returns, behaviour);
+        s.valued_and_walked(terms, returns, behaviour);
         if terms.table() == 0 {
             continue;
         }
@@ -925,10 +950,10 @@ fn random_contract(s: &mut Script, terms: Terms, most_returns: usize) {
         let most = terms.largest(entry % terms.layer());
         let inside = s.draw.upto(most);
         let amount = s.draw.one(&[inside, inside, most, most + 1, 65_535]);
-        s.value_table(terms, &returns, work, &format!("={entry}:{amount}"));
+        s.value_table(terms, returns, work, &format!("={entry}:{amount}"));
         let path = s.draw.path(terms.dates, count);
         let cash = dates + s.draw.upto(2);
-        s.walk(terms, &returns, "=", &path, cash);
+        s.walk(terms, returns, "=", &path, cash);
     }
     let table = format!(
         "{}:{}:{}",
@@ -936,9 +961,9 @@ fn random_contract(s: &mut Script, terms: Terms, most_returns: usize) {
         s.draw.upto(65_520),
         1 + s.draw.upto(2)
     );
-    s.value_table(terms, &returns, work, &table);
+    s.value_table(terms, returns, work, &table);
     let path = s.draw.path(terms.dates, count);
-    s.walk(terms, &returns, &table, &path, dates);
+    s.walk(terms, returns, &table, &path, dates);
 }
 
 fn random_tables(s: &mut Script) {
@@ -1131,6 +1156,192 @@ fn random_maps(s: &mut Script) {
     }
 }
 
+// ------------------------------------- Document 02, request (iv): the ceiling pays out
+
+/// Every path of a contract with two returns, by the last table.
+fn every_path(s: &mut Script, terms: Terms, returns: &[Return]) {
+    let dates = usize::from(terms.dates);
+    for path in 0..1_u16 << dates {
+        let numbers: Vec<u16> = (0..dates).rev().map(|place| path >> place & 1).collect();
+        s.walk(terms, returns, "=", &listed(&numbers), dates);
+    }
+}
+
+fn payouts_worked_by_hand(s: &mut Script) {
+    s.part("Document 02, request (iv): P and Q with N 1 to 4, walked along every path, then with a map.");
+    for base in [P, Q] {
+        for dates in 1..=4 {
+            let terms = Terms { dates, ..base };
+            for behaviour in 0..3 {
+                s.value(terms, &P_RETURNS, behaviour, terms.work(), terms.table());
+                s.value_table(terms, &P_RETURNS, terms.work(), "=");
+                every_path(s, terms, &P_RETURNS);
+            }
+            mapped(s, terms, &P_RETURNS, terms.map());
+        }
+    }
+}
+
+/// Factors that lift 10 to below 12, to 12, below 13, to 13 and further; under a top of 12
+/// these are nothing and 1 above it, under one of 10 all are above.
+const LIFTS: [u16; 7] = [11_999, 12_000, 12_999, 13_000, 13_001, 20_000, 30_000];
+
+fn lifts_around_top(s: &mut Script) {
+    s.part("Premiums lifted to just below top, to top, to one above it and further, by one return or one of two.");
+    for (top, dates) in [(12, 1), (12, 2), (12, 3), (10, 1), (10, 2), (10, 4)] {
+        let terms = Terms { top, dates, ..P };
+        for factor in LIFTS {
+            for returns in [
+                vec![(factor, 10_000)],
+                vec![(7_000, 4_000), (factor, 6_000)],
+            ] {
+                let behaviour = s.draw.upto(2) as u64;
+                s.valued_and_walked(terms, &returns, behaviour);
+                s.value_map(terms, &returns, behaviour, terms.work(), terms.map());
+            }
+        }
+    }
+}
+
+/// 10 come to 12.5 before the fee: to 12, 11 or 10 after it.
+fn fees_down_to_top(s: &mut Script) {
+    s.part("Fees that bring a lift down to one above top, to top and below it.");
+    for fee in [
+        0, 399, 400, 401, 1_199, 1_200, 1_201, 1_999, 2_000, 2_001, 9_999, 10_000,
+    ] {
+        for (top, dates) in [(10, 1), (10, 3), (11, 1), (11, 3)] {
+            let terms = Terms {
+                top,
+                dates,
+                fee,
+                ..P
+            };
+            for behaviour in 0..3 {
+                s.valued_and_walked(terms, &[(12_500, 10_000)], behaviour);
+            }
+            mapped(s, terms, &[(12_500, 5_000), (9_000, 5_000)], terms.map());
+        }
+    }
+}
+
+/// A return that changes nothing and one that triples.
+const STILL_OR_TRIPLE: [Return; 2] = [(10_000, 5_000), (30_000, 5_000)];
+
+/// The tables draw nothing, then 5, then 6, of which 1 is above m, in the states that a walk
+/// meets at top.
+fn walks_past_top(s: &mut Script) {
+    s.part("Walks that pass top on date 1, on a date after it, at maturity, on several or on none; 0, 5 and 6 drawn at top.");
+    for dates in [1, 2, 3, 5] {
+        let terms = Terms {
+            top: 12,
+            dates,
+            step: 300,
+            ..P
+        };
+        let (work, layer) = (terms.work(), terms.layer());
+        s.value_table(
+            terms,
+            &STILL_OR_TRIPLE,
+            work,
+            &format!("{}:0:1", terms.table()),
+        );
+        every_path(s, terms, &STILL_OR_TRIPLE);
+        for date in 1..usize::from(dates) {
+            for amount in [5, 6] {
+                // (12, 10), the last entry of the date's layer
+                let table = format!("={}:{amount}", date * layer - 1);
+                s.value_table(terms, &STILL_OR_TRIPLE, work, &table);
+                every_path(s, terms, &STILL_OR_TRIPLE);
+            }
+        }
+    }
+}
+
+fn bookings_at_top(s: &mut Script) {
+    s.part("Bookings at top, on every date: no excess is booked.");
+    for (top, dates) in [(10, 2), (12, 4)] {
+        let terms = Terms {
+            top,
+            dates,
+            step: 100,
+            ..P
+        };
+        for date in 0..=usize::from(dates) {
+            for amount in 0..=usize::from(top) + 1 {
+                s.book(terms, [date, top.into(), 10, amount], 16);
+            }
+            s.book(terms, [date, usize::from(top) + 1, 10, 0], 16);
+        }
+    }
+}
+
+/// As large as there is room for.
+fn large_payouts(s: &mut Script) {
+    s.part("Large payouts: tops of 40, 1,000 and 4,000 that triple.");
+    for (top, premium, dates, behaviours) in [
+        (40, 38, 40, 3),
+        (1_000, 1, 30, 2),
+        (1_000, 30, 2, 2),
+        (4_000, 1, 9, 2),
+        (4_000, 6, 3, 2),
+        (4_000, 1, 2, 3),
+    ] {
+        let terms = Terms {
+            top,
+            premium,
+            level: 1,
+            dates,
+            penalty: 200,
+            ..P
+        };
+        for behaviour in 0..behaviours {
+            s.valued_and_walked(terms, &[(30_000, 10_000)], behaviour);
+            s.value_map(
+                terms,
+                &STILL_OR_TRIPLE,
+                behaviour,
+                terms.work(),
+                terms.map(),
+            );
+        }
+        let zeros = format!("{}:0:1", terms.table());
+        s.value_table(terms, &[(30_000, 10_000)], terms.work(), &zeros);
+        let path = format!("{dates}:0:1");
+        s.walk(terms, &[(30_000, 10_000)], "=", &path, dates.into());
+    }
+}
+
+fn random_payouts(s: &mut Script) {
+    s.part("Random contracts whose returns lift accounts above top.");
+    for _ in 0..60 {
+        let terms = s.draw.near_top(12, 6);
+        let count = 1 + s.draw.upto(3);
+        let returns = s.draw.lifting(count);
+        tried(s, terms, &returns);
+        mapped(s, terms, &returns, terms.map());
+    }
+    s.part("The same with up to 64 returns, then with tops up to 60.");
+    for (most_top, most_dates, most_returns) in [(10, 4, 64), (60, 4, 20)] {
+        for _ in 0..8 {
+            let terms = s.draw.near_top(most_top, most_dates);
+            let count = 1 + s.draw.upto(most_returns - 1);
+            let returns = s.draw.lifting(count);
+            tried(s, terms, &returns);
+            mapped(s, terms, &returns, terms.map());
+        }
+    }
+}
+
+fn payouts(s: &mut Script) {
+    payouts_worked_by_hand(s);
+    lifts_around_top(s);
+    fees_down_to_top(s);
+    walks_past_top(s);
+    bookings_at_top(s);
+    large_payouts(s);
+    random_payouts(s);
+}
+
 /// The whole script.
 pub fn script() -> String {
     let mut s = Script {
@@ -1164,5 +1375,6 @@ pub fn script() -> String {
     lengths_of_maps(&mut s);
     maps_of_every_date(&mut s);
     random_maps(&mut s);
+    payouts(&mut s);
     s.text
 }

@@ -17,6 +17,10 @@ const LEAST_ACCEPTED: u64 = 100;
 const LEAST_FALLEN: u64 = 20;
 const LEAST_MARKED: u64 = 10;
 const LEAST_WIDE: u64 = 20;
+const LEAST_LIFTED: u64 = 50;
+
+/// Tables up to here are also made without payment of an excess.
+const MOST_COMPARED: u64 = 400;
 
 /// The fields of a record.
 struct Fields {
@@ -78,9 +82,14 @@ impl Fields {
         (entry / self.layer() + 1, state / row, state % row)
     }
 
-    fn account_after(&self, balance: u64, factor: u64) -> u64 {
+    /// Where a return lifts a balance to, above top or not.
+    fn lifted(&self, balance: u64, factor: u64) -> u64 {
         let kept = 10_000_u64.saturating_sub(self.fee);
-        (balance * factor * kept / 100_000_000).min(self.top)
+        balance * factor * kept / 100_000_000
+    }
+
+    fn account_after(&self, balance: u64, factor: u64) -> u64 {
+        self.lifted(balance, factor).min(self.top)
     }
 }
 
@@ -117,6 +126,7 @@ fn list_fails(number: u64, list: &[u8]) -> bool {
 }
 
 /// An amount drawn in a state on a date.
+#[derive(Clone, Copy)]
 struct Drawn {
     date: u64,
     account: u64,
@@ -136,6 +146,24 @@ impl Drawn {
     fn surrenders(&self, c: &Fields) -> bool {
         self.amount == self.account && self.above_m(c)
     }
+
+    fn cash(&self, c: &Fields) -> u64 {
+        let penalised = self.amount.saturating_sub(c.m(self.guarantee));
+        10_000 * self.amount - c.rate(self.date) * penalised
+    }
+
+    fn balance_after(&self) -> u64 {
+        self.account.saturating_sub(self.amount)
+    }
+
+    fn guarantee_after(&self, c: &Fields) -> u64 {
+        let (account, guarantee, amount) = (self.account, self.guarantee, self.amount);
+        let after = guarantee.saturating_sub(amount);
+        match self.above_m(c) {
+            true => after.min(guarantee * (account - amount) / account),
+            false => after,
+        }
+    }
 }
 
 /// Every entry of a table, of those the contract needs.
@@ -150,6 +178,17 @@ fn drawn_in_table(c: &Fields, table: &[u16]) -> Vec<Drawn> {
         }
     });
     entries.collect()
+}
+
+/// Where each return of an accepted walk lifts the account to, the last return at maturity.
+fn lifted_on_walk(c: &Fields, list: &[u8], met: &[Drawn], numbers: &[u16]) -> Vec<u64> {
+    let returns = returns(list);
+    let after = met.iter().map(Drawn::balance_after);
+    let balances = std::iter::once(c.premium).chain(after);
+    balances
+        .zip(numbers)
+        .map(|(balance, number)| c.lifted(balance, returns[usize::from(*number)].0))
+        .collect()
 }
 
 /// What a walk meets, as far as it leads; an amount that is not admissible ends it.
@@ -172,17 +211,12 @@ fn drawn_on_walk(c: &Fields, list: &[u8], table: &[u16], numbers: &[u16]) -> Vec
             guarantee,
             amount,
         };
-        let (above_m, ends) = (drawn.above_m(c), drawn.fails(c));
         met.push(drawn);
-        if ends {
+        if drawn.fails(c) {
             break;
         }
-        let mut after = guarantee.saturating_sub(amount);
-        if above_m {
-            after = after.min(guarantee * (account - amount) / account);
-        }
-        balance = account.saturating_sub(amount);
-        guarantee = after;
+        balance = drawn.balance_after();
+        guarantee = drawn.guarantee_after(c);
     }
     met
 }
@@ -486,6 +520,239 @@ fn count_surrendered(tally: &mut Tally, c: &Fields, behaviour: u64, left: &[u16]
     }
 }
 
+/// How a valuation's returns lie about top. The first return leads from the premium; a balance
+/// at top is the one that the others lift most.
+const LIFTED: [&str; 12] = [
+    "a first return above top, N 1",
+    "a first return above top and decision dates",
+    "a first return to top",
+    "a first return to one above top",
+    "a return above top to a decision date",
+    "a return above top to maturity",
+    "a return above top that the first is not",
+    "several returns above top",
+    "a return above top beside one below",
+    "a return above top after a fee",
+    "a fee that brings a return down to top",
+    "no return above top",
+];
+
+fn lifted(name: &str, how: &str) -> String {
+    format!("{name} with {how}")
+}
+
+fn lifted_holds(c: &Fields, list: &[u8]) -> [bool; 12] {
+    let factors: Vec<u64> = returns(list).iter().map(|r| r.0).collect();
+    let from = |balance: u64| factors.iter().map(move |f| c.lifted(balance, *f));
+    let passes = |lifted: u64| lifted > c.top;
+    let (first, above) = (
+        from(c.premium).any(passes),
+        from(c.top).filter(|l| passes(*l)).count(),
+    );
+    let downward = |f: &u64| c.top * f / 10_000 > c.top && c.lifted(c.top, *f) == c.top;
+    [
+        first && c.dates == 1,
+        first && c.dates > 1,
+        from(c.premium).any(|l| l == c.top),
+        from(c.premium).any(|l| l == c.top + 1),
+        above > 0 && c.dates > 2,
+        above > 0 && c.dates > 1,
+        above > 0 && c.dates > 1 && !first,
+        above > 1,
+        above > 0 && above < factors.len(),
+        above > 0 && c.fee > 0,
+        c.fee > 0 && factors.iter().any(downward),
+        above == 0,
+    ]
+}
+
+/// Where a walk passes top, what is drawn there, and how far it passes it.
+const PASSED: [&str; 15] = [
+    "at maturity, N 1",
+    "on date 1",
+    "on a date between",
+    "at maturity",
+    "on date 1 alone",
+    "on a date between alone",
+    "at maturity alone",
+    "on every date",
+    "by 1",
+    "after a fee",
+    "with nothing drawn",
+    "with m drawn",
+    "with a penalty",
+    "nowhere, where it comes to top",
+    "nowhere, where a return of the list would",
+];
+
+fn passed(how: &str) -> String {
+    format!("walk that passes top {how}")
+}
+
+fn passed_holds(c: &Fields, list: &[u8], met: &[Drawn], numbers: &[u16]) -> [bool; 15] {
+    let lifted = lifted_on_walk(c, list, met, numbers);
+    let passes: Vec<bool> = lifted.iter().map(|l| *l > c.top).collect();
+    let last = passes.len() - 1;
+    let alone = passes.iter().filter(|p| **p).count() == 1;
+    let (first, between, maturity) = match last {
+        0 => (false, false, false),
+        _ => (passes[0], passes[1..last].contains(&true), passes[last]),
+    };
+    let drawn = |how: &dyn Fn(&Drawn) -> bool| met.iter().zip(&passes).any(|(d, p)| *p && how(d));
+    let nowhere = !passes.contains(&true);
+    let others = returns(list).iter().any(|r| c.lifted(c.top, r.0) > c.top);
+    [
+        last == 0 && passes[0],
+        first,
+        between,
+        maturity,
+        first && alone,
+        between && alone,
+        maturity && alone,
+        last > 1 && !passes.contains(&false),
+        lifted.contains(&(c.top + 1)),
+        c.fee > 0 && !nowhere,
+        drawn(&|d| d.amount == 0),
+        drawn(&|d| d.amount > 0 && d.amount == c.m(d.guarantee)),
+        drawn(&|d| d.above_m(c) && c.rate(d.date) > 0),
+        nowhere && lifted.contains(&c.top),
+        nowhere && others,
+    ]
+}
+
+/// The amounts open in a state, smallest first.
+fn open(c: &Fields, behaviour: u64, state: &Drawn) -> Vec<u64> {
+    let (w, m) = (state.account, c.m(state.guarantee));
+    match behaviour {
+        0 => vec![m],
+        1 if w > m => vec![m, w],
+        1 => vec![m],
+        _ => (0..=w.max(m)).collect(),
+    }
+}
+
+/// Value and amounts of a contract whose excess is dropped and not paid. The states are those of
+/// the table; `open` gives the amounts to choose from in one, smallest first.
+fn dropped(
+    c: &Fields,
+    list: &[u8],
+    states: &[Drawn],
+    open: impl Fn(&Drawn) -> Vec<u64>,
+) -> (u64, Vec<u16>) {
+    let returns = returns(list);
+    let average = |next: &[u64], balance: u64, guarantee: u64| {
+        let share = |r: &(u64, u64)| {
+            let account = c.account_after(balance, r.0);
+            r.1 * next[(account * (c.premium + 1) + guarantee) as usize]
+        };
+        c.discount * returns.iter().map(share).sum::<u64>() / 10_000_000_000
+    };
+    let matured = |entry: u64| {
+        let (_, account, guarantee) = c.state(entry);
+        10_000 * account.max(guarantee)
+    };
+    let mut next: Vec<u64> = (0..c.layer()).map(matured).collect();
+    let mut amounts = Vec::new();
+    for layer in states.chunks(c.layer() as usize).rev() {
+        let best = |state: &Drawn| {
+            let worth = |amount: &u64| {
+                let amount = *amount;
+                let drawn = Drawn { amount, ..*state };
+                drawn.cash(c) + average(&next, drawn.balance_after(), drawn.guarantee_after(c))
+            };
+            // The last of the largest, so the smallest amount where they go downwards.
+            let amount = open(state).into_iter().rev().max_by_key(worth).unwrap_or(0);
+            (worth(&amount), amount as u16)
+        };
+        let (values, drawn): (Vec<u64>, Vec<u16>) = layer.iter().map(best).unzip();
+        next = values;
+        amounts.splice(0..0, drawn);
+    }
+    (average(&next, c.premium, c.premium), amounts)
+}
+
+const BESIDE_DROPPED: [&str; 2] = ["worth more than", "worth as much as"];
+
+fn beside_dropped(name: &str, how: &str, behaviour: Option<u64>) -> String {
+    let under = behaviour.map_or(String::new(), |b| format!(" under behaviour {b}"));
+    format!("{name} {how} with the excess dropped{under}")
+}
+
+/// Whether a small contract with a return above top has a value or amounts other than those with
+/// the excess dropped. `left` is its table after the call, `value` what is answered.
+fn count_beside_dropped(
+    tally: &mut Tally,
+    c: &Fields,
+    operation: &Operation,
+    left: &[u16],
+    value: u64,
+) {
+    let (name, list) = (name_of(operation), list_of(operation));
+    let states = drawn_in_table(c, left);
+    let (behaviour, (plain, amounts)) = match operation {
+        Operation::Value(v) | Operation::ValueMap(v, _) => {
+            let open = |state: &Drawn| open(c, v.behaviour, state);
+            (Some(v.behaviour), dropped(c, list, &states, open))
+        }
+        _ => (None, dropped(c, list, &states, |state| vec![state.amount])),
+    };
+    for (how, holds) in BESIDE_DROPPED.iter().zip([value > plain, value == plain]) {
+        if holds {
+            count(tally, beside_dropped(name, how, behaviour));
+        }
+    }
+    if left[..amounts.len()] != amounts {
+        count(tally, beside_dropped(name, OTHERWISE, behaviour));
+    }
+}
+
+const OTHERWISE: &str = "drawing otherwise than";
+
+/// What an accepted valuation or walk has of returns that lift an account above top, and what a
+/// booking has of accounts at top.
+fn count_lifted(tally: &mut Tally, c: &Fields, operation: &Operation, left: &[u16], answer: &str) {
+    let (name, list) = (name_of(operation), list_of(operation));
+    match operation {
+        Operation::Check { .. } => {}
+        Operation::Book { account, .. } => {
+            if *account == c.top {
+                count(tally, AT_TOP.to_string());
+            }
+        }
+        Operation::Walk { table, numbers, .. } => {
+            let met = drawn_on_walk(c, list, table, numbers);
+            let holds = passed_holds(c, list, &met, numbers);
+            for (how, _) in PASSED.iter().zip(holds).filter(|(_, holds)| *holds) {
+                count(tally, passed(how));
+            }
+            let lifted = lifted_on_walk(c, list, &met, numbers);
+            if c.top == 4_000 && lifted.iter().any(|l| *l > c.top) {
+                count(tally, past_highest(name));
+            }
+        }
+        _ => {
+            let holds = lifted_holds(c, list);
+            for (how, _) in LIFTED.iter().zip(holds).filter(|(_, holds)| *holds) {
+                count(tally, lifted(name, how));
+            }
+            let value = answer.split(' ').nth(2).and_then(|w| w.parse().ok());
+            let above = returns(list).iter().any(|r| c.lifted(c.top, r.0) > c.top);
+            if c.top == 4_000 && c.dates > 1 && above {
+                count(tally, past_highest(name));
+            }
+            if let Some(value) = value.filter(|_| above && c.table() <= MOST_COMPARED) {
+                count_beside_dropped(tally, c, operation, left, value);
+            }
+        }
+    }
+}
+
+const AT_TOP: &str = "book at an account of top";
+
+fn past_highest(name: &str) -> String {
+    format!("{name} with a return above a top of 4,000")
+}
+
 /// The working slice or the cash that an operation is lent, if any, and the entries it needs.
 fn stored_in<'a>(c: &Fields, operation: &'a Operation) -> Option<(&'a [u64], u64)> {
     match operation {
@@ -569,7 +836,13 @@ fn count_added(tally: &mut Tally, c: &Fields) {
 }
 
 /// The cases of an operation that is accepted; `left` is the table it left.
-fn count_accepted(tally: &mut Tally, c: &Fields, operation: &Operation, left: &[u16]) {
+fn count_accepted(
+    tally: &mut Tally,
+    c: &Fields,
+    operation: &Operation,
+    left: &[u16],
+    answer: &str,
+) {
     let name = name_of(operation);
     count(tally, format!("{name} accepted"));
     if c.step > 0 {
@@ -587,6 +860,7 @@ fn count_accepted(tally: &mut Tally, c: &Fields, operation: &Operation, left: &[
         _ => {}
     }
     count_fallen(tally, c, operation);
+    count_lifted(tally, c, operation, left, answer);
 }
 
 fn count_refused(tally: &mut Tally, c: &Fields, operation: &Operation, number: u64) {
@@ -684,7 +958,28 @@ fn wanted() -> Vec<(String, u64)> {
     for name in ["value", "value_map", "value_table", "walk"] {
         wanted.extend(WIDE.map(|which| (wide(name, which), LEAST_WIDE)));
     }
+    wanted.extend(wanted_lifted());
     wanted.extend(SOMEWHERE.map(|case| (case.to_string(), 1)));
+    wanted
+}
+
+/// The cases of returns that lift an account above top.
+fn wanted_lifted() -> Vec<(String, u64)> {
+    let mut cases = vec![AT_TOP.to_string()];
+    for name in ["value", "value_map", "value_table"] {
+        cases.extend(LIFTED.map(|how| lifted(name, how)));
+    }
+    for name in ["value", "value_map"] {
+        for behaviour in (0..3).map(Some) {
+            cases.extend(BESIDE_DROPPED.map(|how| beside_dropped(name, how, behaviour)));
+        }
+        cases.extend([1, 2].map(|b| beside_dropped(name, OTHERWISE, Some(b))));
+    }
+    cases.extend(BESIDE_DROPPED.map(|how| beside_dropped("value_table", how, None)));
+    cases.extend(PASSED.map(passed));
+    let mut wanted: Vec<(String, u64)> = cases.into_iter().map(|c| (c, LEAST_LIFTED)).collect();
+    let highest = ["value", "value_map", "value_table", "walk"].map(past_highest);
+    wanted.extend(highest.map(|case| (case, 1)));
     wanted
 }
 
@@ -716,7 +1011,7 @@ fn take_line(tally: &mut Tally, session: &mut Session, line: &str) -> Option<Str
     let c = Fields::of(record_of(&operation));
     count_wide(tally, &c, &operation, number);
     match number {
-        0 => count_accepted(tally, &c, &operation, session.table()),
+        0 => count_accepted(tally, &c, &operation, session.table(), &answer),
         _ => count_refused(tally, &c, &operation, number),
     }
     None

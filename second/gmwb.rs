@@ -1,4 +1,4 @@
-//! GMWB valuation: the rules of document 01 (01-scope.md), with requests (i) to (iii)
+//! GMWB valuation: the rules of document 01 (01-scope.md), with requests (i) to (iv)
 //! of document 02 (02-change-requests.md), written plainly.
 //!
 //! The parts follow document 01: units and records, one date, values, lent
@@ -7,8 +7,8 @@
 //!
 //! The rules of the parts "One date" and "Values" are called only with what the
 //! checks have let through: account up to top, guarantee up to premium, amount in
-//! the dynamic set. Under those limits no product below passes 64 bits; the
-//! largest is named at `discounted`.
+//! the dynamic set. Under those limits no number below passes 64 bits but a product
+//! at `discounted`, which has 128.
 
 // A program that takes this file in as a module may use only a part of it.
 #![allow(dead_code)]
@@ -238,9 +238,24 @@ fn balance_after(account: u64, amount: u64) -> u64 {
 }
 
 /// "next account = balance × factor × (10,000 − fee) / 100,000,000, rounded down a
-/// single time. A result above top is held at top."
+/// single time": where a return lifts a balance to, above top or not.
+fn lifted_account(c: &Contract, balance: u64, factor: u64) -> u64 {
+    balance * factor * (WHOLE - c.fee) / (WHOLE * WHOLE)
+}
+
+/// "A result above top is held at top."
 fn next_account(c: &Contract, balance: u64, factor: u64) -> u64 {
-    (balance * factor * (WHOLE - c.fee) / (WHOLE * WHOLE)).min(c.top)
+    lifted_account(c, balance, factor).min(c.top)
+}
+
+/// "what a return lifts above top".
+fn excess(c: &Contract, balance: u64, factor: u64) -> u64 {
+    lifted_account(c, balance, factor).saturating_sub(c.top)
+}
+
+/// The excess "is paid to the holder on arrival, without penalty", in ten-thousandths.
+fn paid_on_arrival(c: &Contract, balance: u64, factor: u64) -> u64 {
+    UNIT * excess(c, balance, factor)
 }
 
 // ----------------------------------------------------------------- Values
@@ -250,16 +265,23 @@ fn maturity_value(account: u64, guarantee: u64) -> u64 {
     UNIT * account.max(guarantee)
 }
 
+/// "A value reached above top is the value at top plus 10,000 × the excess, also on the
+/// first return and at maturity."
+fn value_reached(c: &Contract, next: &[u64], balance: u64, factor: u64, guarantee: u64) -> u64 {
+    let account = next_account(c, balance, factor);
+    next[entry(c, account, guarantee)] + paid_on_arrival(c, balance, factor)
+}
+
 /// "discount × (sum of weight × value reached) / 10,000,000,000, rounded down once".
-/// A date adds at most 10,000 × 4,000 to a value, so a value is at most
-/// 1,600,000,000 and the product at most 16 × 10^18 (below 2^64).
+/// Maturity pays at most 10,000 × top; a decision with the return behind it 20,000 × top,
+/// since what is drawn is not lifted; the first return as much. So a value reached is at
+/// most 81 × 10,000 × 4,000 = 3,240,000,000 and the product 32.4 × 10^18, above 2^64.
 fn discounted(c: &Contract, returns: &[Return], next: &[u64], balance: u64, guarantee: u64) -> u64 {
     let mut sum = 0;
     for r in returns {
-        let account = next_account(c, balance, r.factor);
-        sum += r.weight * next[entry(c, account, guarantee)];
+        sum += r.weight * value_reached(c, next, balance, r.factor, guarantee);
     }
-    c.discount * sum / 10_000_000_000
+    (u128::from(c.discount) * u128::from(sum) / 10_000_000_000) as u64
 }
 
 /// "a choice is worth its cash plus" the discounted sum.
@@ -594,18 +616,22 @@ fn try_walk(
 
     // Kept apart until the end: a refusal on the way leaves the lent cash as it was.
     let mut paid = Vec::with_capacity(dates);
-    let mut account = next_account(&c, c.premium, returns[usize::from(numbers[0])].factor);
-    let mut guarantee = c.premium;
-    for date in 1..c.dates {
+    let (mut balance, mut guarantee) = (c.premium, c.premium);
+    for (date, number) in (1..=c.dates).zip(numbers) {
+        let factor = returns[usize::from(*number)].factor;
+        let account = next_account(&c, balance, factor);
+        // "A walk adds 10,000 × the excess to the cash of the date reached."
+        let arrival = paid_on_arrival(&c, balance, factor);
+        if date == c.dates {
+            paid.push(arrival + maturity_value(account, guarantee));
+            break;
+        }
         let amount = u64::from(table[layer_start(&c, date) + entry(&c, account, guarantee)]);
         refuse_if(amount > largest_amount(&c, account, guarantee), 14, date)?;
-        paid.push(cash_for(&c, date, guarantee, amount));
+        paid.push(arrival + cash_for(&c, date, guarantee, amount));
         guarantee = guarantee_after(&c, account, guarantee, amount);
-        let balance = balance_after(account, amount);
-        let number = usize::from(numbers[date as usize]);
-        account = next_account(&c, balance, returns[number].factor);
+        balance = balance_after(account, amount);
     }
-    paid.push(maturity_value(account, guarantee));
     cash[..dates].copy_from_slice(&paid);
     Ok(())
 }

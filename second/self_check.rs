@@ -1,8 +1,8 @@
 //! `second self-check`: the figures of document 01's section "Contracts worked by
 //! hand", rates that fall by document 02's request (i), maps of surrender by its request
-//! (ii), every refusal on both sides of its boundary, the order of the checks, what is
-//! left in the lent slices, whose entries are 64-bit by request (iii), and properties on
-//! random small contracts.
+//! (ii), payments of what a return lifts above top by its request (iv), every refusal on
+//! both sides of its boundary, the order of the checks, what is left in the lent slices,
+//! whose entries are 64-bit by request (iii), and properties on random small contracts.
 //!
 //! The operations are only called from outside here, as an engine's caller would.
 
@@ -41,6 +41,7 @@ pub fn run() -> (u64, u64) {
     stepped_walks(&mut t);
     map_figures(&mut t);
     map_lengths(&mut t);
+    payouts(&mut t);
     printed(&mut t);
     printed_within_slices(&mut t);
     record_boundaries(&mut t);
@@ -59,9 +60,12 @@ pub fn run() -> (u64, u64) {
     for k in 0..48 {
         random_contract(&mut t, &mut draw, k);
     }
+    let mut with_excess = 0;
     for k in 0..200 {
-        random_walk(&mut t, &mut draw, k);
+        with_excess += u64::from(random_walk(&mut t, &mut draw, k));
     }
+
+    t.same("random walks with an excess", with_excess >= 30, true);
     text_fields(&mut t);
     for _ in 0..50 {
         random_text(&mut t, &mut draw);
@@ -114,9 +118,26 @@ impl Terms {
         [cash, penalty, (w - amount).max(0), guarantee].map(|x| x as u64)
     }
 
-    fn next(&self, balance: u64, factor: u16) -> u64 {
+    /// Where a return leads from a balance: the account held, and the excess over top.
+    fn reached(&self, balance: u64, factor: u16) -> (u64, u64) {
         let product = balance * u64::from(factor) * (10_000 - u64::from(self.fee));
-        (product / 100_000_000).min(u64::from(self.top))
+        let (lifted, top) = (product / 100_000_000, u64::from(self.top));
+        if lifted > top {
+            (top, lifted - top)
+        } else {
+            (lifted, 0)
+        }
+    }
+
+    /// Whether a return lifts any balance above top; the highest it lifts most.
+    fn lifts(&self, returns: &[(u16, u16)]) -> bool {
+        let top = u64::from(self.top);
+        returns.iter().any(|(f, _)| self.reached(top, *f).1 > 0)
+    }
+
+    /// `times` × 10,000 × top.
+    fn tops(&self, times: u64) -> u64 {
+        times * 10_000 * u64::from(self.top)
     }
 }
 
@@ -181,7 +202,7 @@ fn booked(terms: &Terms, date: u64, w: u64, a: u64, amount: u64) -> (u64, u64, [
 fn marked_values(t: &mut Tally) {
     t.same("case 1 static", value_of(&P, 0), (0, 125_000, 25_000));
     t.same("case 1 mixed", value_of(&P, 1), (0, 125_000, 25_000));
-    t.same("case 1 dynamic", value_of(&P, 2), (0, 127_500, 27_500));
+    t.same("case 1 dynamic", value_of(&P, 2), (0, 130_000, 30_000));
     let short = Terms { dates: 1, ..P };
     for behaviour in 0..3 {
         t.same("case 4", value_of(&short, behaviour), (0, 125_000, 25_000));
@@ -201,7 +222,7 @@ fn marked_values(t: &mut Tally) {
 fn marked_states(t: &mut Tally) {
     let (_, work, table) = valued(&P, &P_RETURNS, 2);
     let place = P.entry(15, 10);
-    t.same("case 2", (work[place], table[place]), (155_000, 1));
+    t.same("case 2", (work[place], table[place]), (160_000, 0));
     let place = P.entry(5, 10);
     t.same("case 3 dynamic", (work[place], table[place]), (100_000, 0));
     let (_, work, table) = valued(&P, &P_RETURNS, 1);
@@ -238,16 +259,20 @@ fn marked_bookings(t: &mut Tally) {
 const P4: Terms = Terms { dates: 4, ..P };
 
 /// "Bookings, tables and values follow it. A step of zero gives the old figures."
-/// Static pays no penalty, so that no step changes it.
+/// Static pays no penalty, so that no step changes it; nor does dynamic without a fee, which
+/// draws nothing above m.
 fn stepped_values(t: &mut Tally) {
-    for (step, values) in [
-        (0, [122_500, 122_500, 133_500]),
-        (100, [122_500, 123_000, 133_650]),
-        (1_000, [122_500, 125_000, 134_375]),
+    for (fee, step, values) in [
+        (0, 0, [123_750, 123_750, 139_375]),
+        (0, 100, [123_750, 123_875, 139_375]),
+        (0, 1_000, [123_750, 125_000, 139_375]),
+        (1_000, 0, [107_500, 111_250, 114_750]),
+        (1_000, 100, [107_500, 111_375, 115_025]),
+        (1_000, 1_000, [107_500, 112_500, 117_500]),
     ] {
-        let terms = Terms { step, ..P4 };
+        let terms = Terms { fee, step, ..P4 };
         for (behaviour, value) in values.into_iter().enumerate() {
-            let name = format!("P, N 4, step {step}, behaviour {behaviour}");
+            let name = format!("P, N 4, fee {fee}, step {step}, behaviour {behaviour}");
             let margin = value as i64 - 100_000;
             let got = value_of(&terms, behaviour as u64);
             t.same(&name, got, (0, value, margin));
@@ -256,7 +281,7 @@ fn stepped_values(t: &mut Tally) {
     // Date 1 has the record's own rate, and the only decision of P falls on it.
     for step in [1, 10_000] {
         let got = [0, 1, 2].map(|b| value_of(&Terms { step, ..P }, b).1);
-        t.same("one decision date", got, [125_000, 125_000, 127_500]);
+        t.same("one decision date", got, [125_000, 125_000, 130_000]);
     }
 }
 
@@ -351,20 +376,15 @@ fn mapped(
 /// Static draws m also where W equals it, and has no bit. Dynamic gives up (1, 0), and with
 /// three dates on both.
 fn map_figures(t: &mut Tally) {
-    let mixed = [
-        0x0a00_a00a_0080_0800,
-        0x0000_0000_6002_00a0,
-        0x1801_0000_0000_0000,
-        0x0000_0001_f01e_01c0,
-    ];
-    for (behaviour, count, words) in [(0, 0, [0; 4]), (1, 28, mixed), (2, 1, [0x800, 0, 0, 0])] {
+    let mixed = [0x0a00_a00a_0080_0800, 0x6002_00a0, 0, 0];
+    for (behaviour, count, words) in [(0, 0, [0; 4]), (1, 13, mixed), (2, 1, [0x800, 0, 0, 0])] {
         let (answer, _, map) = mapped(&P, &P_RETURNS, behaviour, 4);
         let name = format!("map of P, behaviour {behaviour}");
         t.same(&name, (answer.count, map), (count, words.to_vec()));
     }
     let three = Terms { dates: 3, ..P };
     let counts = [0, 1, 2].map(|b| mapped(&three, &P_RETURNS, b, 8).0.count);
-    t.same("maps of P, N 3", counts, [0, 102, 2]);
+    t.same("maps of P, N 3", counts, [0, 36, 2]);
     let (_, (_, _, table), map) = mapped(&P, &P_RETURNS, 1, 4);
     let at_m = P.entry(5, 10);
     t.same("W equal to m is drawn", table[at_m], 5);
@@ -422,8 +442,240 @@ fn map_of_length(t: &mut Tally, terms: &Terms, words: usize, lent: usize) {
     t.same(&format!("{name}: untouched"), &map[needed..], before);
 }
 
+// ------------------------------------------------------ What is lifted above top
+
+fn payouts(t: &mut Tally) {
+    payout_values(t);
+    payout_walks(t);
+    excess_on_first_return(t);
+    excess_at_decision_date(t);
+    excess_at_maturity(t);
+    excess_without_penalty(t);
+    fee_down_to_top(t);
+    excess_rounded_once(t);
+    largest_payouts(t);
+    most_a_value_can_be(t);
+}
+
+/// P with more dates or fewer.
+fn payout_values(t: &mut Tally) {
+    for (dates, values) in [
+        (1, [125_000, 125_000, 125_000]),
+        (2, [125_000, 125_000, 130_000]),
+        (3, [125_000, 125_000, 131_250]),
+        (4, [123_750, 123_750, 139_375]),
+    ] {
+        let terms = Terms { dates, ..P };
+        let got = [0, 1, 2].map(|b| value_of(&terms, b).1);
+        t.same(&format!("P with N {dates}"), got, values);
+    }
+}
+
+/// A walk: its number, and the cash.
+fn walked(
+    terms: &Terms,
+    returns: &[(u16, u16)],
+    table: &[u16],
+    numbers: &[u16],
+) -> (u64, Vec<u64>) {
+    let mut cash = filled_64(numbers.len());
+    let (record, list) = (terms.record(), list(returns));
+    let answer = gmwb::walk(&record, &list, table, numbers, &mut cash);
+    (answer.number, cash)
+}
+
+/// Along the dynamic table: 15 come to 22, of which 2 are paid on arrival. With three dates 1 is
+/// drawn at (15, 10): 14 come to 21, then 20 to 30.
+fn payout_walks(t: &mut Tally) {
+    let (_, _, table) = valued(&P, &P_RETURNS, 2);
+    let got = walked(&P, &P_RETURNS, &table, &[1, 1]);
+    t.same("P along returns 1, 1", got, (0, vec![0, 220_000]));
+    let three = Terms { dates: 3, ..P };
+    let (_, _, table) = valued(&three, &P_RETURNS, 2);
+    for (numbers, cash) in [
+        ([1, 1, 1], [10_000, 10_000, 300_000]),
+        ([1, 0, 1], [10_000, 0, 100_000]),
+        ([0, 1, 1], [0, 0, 100_000]),
+    ] {
+        let name = format!("P with N 3 along returns {numbers:?}");
+        let got = walked(&three, &P_RETURNS, &table, &numbers);
+        t.same(&name, got, (0, cash.to_vec()));
+    }
+}
+
+/// Without decision dates: 10 are lifted to top, to one above it and further. The value and
+/// the maturity payment of a walk hold the excess, the value of top does not.
+fn excess_on_first_return(t: &mut Tally) {
+    for (top, factor, value) in [
+        (12, 11_999, 110_000),
+        (12, 12_000, 120_000),
+        (12, 12_999, 120_000),
+        (12, 13_000, 130_000),
+        (12, 30_000, 300_000),
+        (10, 10_000, 100_000),
+        (10, 11_000, 110_000),
+        (10, 30_000, 300_000),
+    ] {
+        let terms = Terms { top, dates: 1, ..P };
+        let single = [(factor, 10_000)];
+        let name = format!("10 under top {top} at factor {factor}");
+        for behaviour in 0..3 {
+            let (answer, work, _) = valued(&terms, &single, behaviour);
+            t.same(&name, (answer.number, answer.value), (0, value));
+            t.same(&name, answer.margin, value as i64 - 100_000);
+            let highest = work[terms.entry(u64::from(top), 10)];
+            t.same(&format!("{name}: top"), highest, terms.tops(1));
+        }
+        let got = walked(&terms, &single, &[], &[0]);
+        t.same(&name, got, (0, vec![value]));
+    }
+}
+
+/// P under top 12 with three dates.
+const UNDER_12: Terms = Terms {
+    top: 12,
+    dates: 3,
+    ..P
+};
+
+/// A return that changes nothing and one that triples.
+const STILL_OR_TRIPLE: [(u16, u16); 2] = [(10_000, 5_000), (30_000, 5_000)];
+
+/// Nothing is drawn: 10 triple to 30 on the way to date 1 or date 2, or 12 to 36 after that.
+fn excess_at_decision_date(t: &mut Tally) {
+    let zeros = vec![0; 2 * UNDER_12.layer()];
+    for (numbers, cash) in [
+        ([1, 0, 0], [180_000, 0, 120_000]),
+        ([0, 1, 0], [0, 180_000, 120_000]),
+        ([1, 1, 0], [180_000, 240_000, 120_000]),
+    ] {
+        let got = walked(&UNDER_12, &STILL_OR_TRIPLE, &zeros, &numbers);
+        t.same(&format!("tripled by {numbers:?}"), got, (0, cash.to_vec()));
+    }
+    // The cash of the eight paths, all as likely: 3,400,000 in all.
+    let mut work = vec![0; 2 * UNDER_12.layer()];
+    let (record, list) = (UNDER_12.record(), list(&STILL_OR_TRIPLE));
+    let v = gmwb::value_table(&record, &list, &mut work, &zeros);
+    t.same("nothing drawn", (v.number, v.value), (0, 425_000));
+}
+
+/// The last return lifts 10 or 12 above top, beside the maturity payment of top.
+fn excess_at_maturity(t: &mut Tally) {
+    let zeros = vec![0; 2 * UNDER_12.layer()];
+    for (numbers, cash) in [
+        ([0, 0, 0], [0, 0, 100_000]),
+        ([0, 0, 1], [0, 0, 300_000]),
+        ([1, 0, 1], [180_000, 0, 360_000]),
+        ([1, 1, 1], [180_000, 240_000, 360_000]),
+    ] {
+        let got = walked(&UNDER_12, &STILL_OR_TRIPLE, &zeros, &numbers);
+        t.same(&format!("tripled by {numbers:?}"), got, (0, cash.to_vec()));
+    }
+}
+
+/// At (12, 10) 6 are drawn, 1 of them above m: the penalty falls on that one, and not on the 18
+/// that are paid on arrival. A booking knows no excess.
+fn excess_without_penalty(t: &mut Tally) {
+    let mut table = vec![0; 2 * UNDER_12.layer()];
+    table[UNDER_12.entry(12, 10)] = 6;
+    let got = walked(&UNDER_12, &STILL_OR_TRIPLE, &table, &[1, 0, 0]);
+    t.same("drawn beside an excess", got, (0, vec![239_000, 0, 60_000]));
+    let got = booked(&UNDER_12, 1, 12, 10, 6);
+    t.same("booked at top", got, (0, 0, [59_000, 1_000, 6, 4]));
+}
+
+/// 10 come to 12.5 before the fee. What is left of it above top is whole units or nothing.
+fn fee_down_to_top(t: &mut Tally) {
+    for (fee, value) in [
+        (0, 120_000),
+        (400, 120_000),
+        (401, 110_000),
+        (1_200, 110_000),
+        (1_201, 100_000),
+        (2_000, 100_000),
+        (10_000, 100_000),
+    ] {
+        let terms = Terms {
+            top: 10,
+            dates: 1,
+            fee,
+            ..P
+        };
+        let (answer, _, _) = valued(&terms, &[(12_500, 10_000)], 0);
+        t.same(&format!("lifted less fee {fee}"), answer.value, value);
+    }
+}
+
+/// 3 × 1.5 × 0.9 = 4.05 lies 1 above a top of 3. Rounding after the factor too would leave 3.
+fn excess_rounded_once(t: &mut Tally) {
+    let terms = Terms {
+        premium: 3,
+        level: 1,
+        top: 3,
+        dates: 1,
+        fee: 1_000,
+        ..P
+    };
+    let (answer, _, _) = valued(&terms, &[(15_000, 10_000)], 0);
+    t.same("excess rounded once", answer.value, 40_000);
+}
+
+/// An account of 4,000 that triples on each of 39 dates pays 8,000 each time, and 4,000 at
+/// maturity: above 2^31, and discount × sum above 2^64. A premium of 1 gets there on date 8.
+fn largest_payouts(t: &mut Tally) {
+    let terms = Terms {
+        premium: 1,
+        level: 1,
+        top: 4_000,
+        dates: 40,
+        ..P
+    };
+    let triple = [(30_000, 10_000)];
+    for behaviour in 0..2 {
+        let (answer, work, _) = valued(&terms, &triple, behaviour);
+        let largest = work[terms.entry(4_000, 0)];
+        t.same(
+            "largest value",
+            (answer.number, largest),
+            (0, 3_160_000_000),
+        );
+        t.same("largest value above 2^31", largest > 1 << 31, true);
+        let within = work.iter().all(|v| *v <= terms.tops(79));
+        t.same("values of 40 dates", within, true);
+    }
+    let zeros = vec![0; 39 * terms.layer()];
+    let got = walked(&terms, &triple, &zeros, &[0; 40]);
+    let mut expected = vec![0; 7];
+    expected.push(25_610_000);
+    expected.resize(39, 80_000_000);
+    expected.push(120_000_000);
+    t.same("tripled on each of 40 dates", got, (0, expected));
+}
+
+/// A premium at top that triples each time has the largest value there is for its top and N:
+/// 2 × N + 1 times the top.
+fn most_a_value_can_be(t: &mut Tally) {
+    for (top, dates) in [(1, 1), (7, 1), (7, 2), (40, 3), (40, 40)] {
+        let terms = Terms {
+            premium: top,
+            level: 1,
+            top,
+            dates,
+            ..P
+        };
+        let (answer, work, _) = valued(&terms, &[(30_000, 10_000)], 2);
+        let dates = u64::from(dates);
+        let name = format!("most under top {top} with N {dates}");
+        t.same(&name, answer.value, terms.tops(2 * dates + 1));
+        let most = work.iter().copied().max();
+        t.same(&name, most, Some(terms.tops(2 * dates - 1)));
+    }
+}
+
+// ------------------------------------------------------------ The program's text
+
 fn printed(t: &mut Tally) {
-    let expected = "static 125000\nmixed 125000\ndynamic 127500\n0 5 10 5 5 0\n1 15 10 5 5 1\n";
+    let expected = "static 125000\nmixed 125000\ndynamic 130000\n0 5 10 5 5 0\n1 15 10 5 5 0\n";
     let (record, returns) = (P.record(), list(&P_RETURNS));
     t.same(
         "printed P",
@@ -955,8 +1207,8 @@ fn left_in_slices(t: &mut Tally) {
     let mut cash = filled_64(4);
     let answer = gmwb::walk(&record, &returns, &table, &[1, 0], &mut cash);
     t.same("walk", (answer.number, answer.place), (0, 0));
-    // At (15, 10) the table draws 1; balance 14 falls to 7 beside guarantee 9.
-    t.same("cash of the walk", &cash[..2], &[10_000, 90_000][..]);
+    // At (15, 10) the table draws nothing; balance 15 falls to 7 beside guarantee 10.
+    t.same("cash of the walk", &cash[..2], &[0, 100_000][..]);
     t.same("cash beyond", &cash[2..], &filled_64(4)[2..]);
 
     let short = Terms { dates: 1, ..P };
@@ -982,8 +1234,8 @@ fn rounded_once(t: &mut Tally) {
     t.same("rounded once", account, Some("4"));
 }
 
-/// Close to the largest values there are: on an account of 4,000 that triples, 2,666
-/// can be drawn on each of 39 dates, and 4,000 remain.
+/// Large values by withdrawals: of an account of 4,000 that triples 2,666 are drawn on each of
+/// 39 dates, 1,334 stay and come to 2 more than 4,000, and 4,000 remain.
 fn large_values(t: &mut Tally) {
     let terms = Terms {
         premium: 1,
@@ -1005,7 +1257,7 @@ fn large_values(t: &mut Tally) {
     let single = list(&[(30_000, 10_000)]);
     let v = gmwb::value_table(&terms.record(), &single, &mut work, &table);
     t.same("large values: accepted", v.number, 0);
-    let expected = 39 * 26_660_000 + 40_000_000;
+    let expected = 39 * (26_660_000 + 20_000) + 40_000_000;
     t.same("large values", work[terms.entry(4_000, 0)], expected);
 }
 
@@ -1130,6 +1382,7 @@ fn random_contract(t: &mut Tally, draw: &mut Draw, k: u64) {
         let later = terms.from_date(date);
         let runs = [0, 1, 2].map(|b| valued(&later, &returns, b));
         ordered(t, &name, &later, &runs);
+        at_start(t, &name, &later, &returns, &runs);
         supplied_back(t, &name, &later, &returns, &runs);
         same_with_map(t, &name, &later, &returns, &runs);
         for (behaviour, next) in next.iter().enumerate() {
@@ -1140,6 +1393,7 @@ fn random_contract(t: &mut Tally, draw: &mut Draw, k: u64) {
         next = runs.into_iter().map(|(_, work, _)| work).collect();
     }
     without_step(t, &format!("random contract {k}"), &terms, &returns, &whole);
+    beside_dropped(t, &format!("random contract {k}"), &terms, &returns);
 }
 
 /// Each table, supplied back, gets the answer of the valuation that left it.
@@ -1218,6 +1472,98 @@ fn ordered(t: &mut Tally, name: &str, terms: &Terms, runs: &[Run; 3]) {
     t.same(&format!("{name}: order at the start"), rising, true);
 }
 
+/// The discounted sum over the returns from a balance and a guarantee, each value reached with
+/// the excess that is paid.
+fn expected(
+    terms: &Terms,
+    returns: &[(u16, u16)],
+    next: &[u64],
+    balance: u64,
+    guarantee: u64,
+) -> u128 {
+    let mut sum = 0;
+    for (factor, weight) in returns {
+        let (account, excess) = terms.reached(balance, *factor);
+        let value = next[terms.entry(account, guarantee)] + 10_000 * excess;
+        sum += u128::from(*weight) * u128::from(value);
+    }
+    u128::from(terms.discount) * sum / 10_000_000_000
+}
+
+/// The value of a contract is that of the first return, and no value passes what dates and top
+/// allow.
+fn at_start(t: &mut Tally, name: &str, terms: &Terms, returns: &[(u16, u16)], runs: &[Run; 3]) {
+    let (premium, dates) = (u64::from(terms.premium), u64::from(terms.dates));
+    for (answer, work, _) in runs {
+        let value = expected(terms, returns, work, premium, premium);
+        t.same(&format!("{name}: value"), u128::from(answer.value), value);
+        let within = work.iter().all(|v| *v <= terms.tops(2 * dates - 1));
+        t.same(&format!("{name}: most of a state"), within, true);
+        let within = answer.value <= terms.tops(2 * dates + 1);
+        t.same(&format!("{name}: most of a contract"), within, true);
+    }
+}
+
+/// Value, values of date 1 and amounts of a contract whose excess is dropped and not paid.
+fn dropped(terms: &Terms, returns: &[(u16, u16)], behaviour: usize) -> (u64, Vec<u64>, Vec<u16>) {
+    let average = |next: &[u64], balance: u64, guarantee: u64| {
+        let share = |(factor, weight): &(u16, u16)| {
+            let place = terms.entry(terms.reached(balance, *factor).0, guarantee);
+            u64::from(*weight) * next[place]
+        };
+        let sum: u64 = returns.iter().map(share).sum();
+        u64::from(terms.discount) * sum / 10_000_000_000
+    };
+    let states = terms.states();
+    let mut values: Vec<u64> = states.iter().map(|(w, a)| 10_000 * w.max(a)).collect();
+    let mut table = Vec::new();
+    for date in (1..u64::from(terms.dates)).rev() {
+        let best = |(w, a): &(u64, u64)| {
+            let worth = |amount: &u64| {
+                let [cash, _, balance, guarantee] = terms.figures(date, *w, *a, *amount);
+                cash + average(&values, balance, guarantee)
+            };
+            // The last of the largest, so the smallest amount where they go downwards.
+            let amounts = open(terms, behaviour, *w, *a).into_iter().rev();
+            let best = amounts.max_by_key(worth).unwrap_or(0);
+            (worth(&best), best as u16)
+        };
+        let (best, amounts): (Vec<u64>, Vec<u16>) = states.iter().map(best).unzip();
+        values = best;
+        table.splice(0..0, amounts);
+    }
+    let premium = u64::from(terms.premium);
+    (average(&values, premium, premium), values, table)
+}
+
+/// Where no return lifts a balance above top, all is as if an excess were dropped; where one
+/// does, no value is lower. Without factors above 10,000 none does.
+fn beside_dropped(t: &mut Tally, name: &str, terms: &Terms, returns: &[(u16, u16)]) {
+    let falling: Vec<(u16, u16)> = returns.iter().map(|(f, w)| (10_000.min(*f), *w)).collect();
+    t.same(&format!("{name}: no lift"), terms.lifts(&falling), false);
+    for (returns, behaviour) in [returns, &falling]
+        .into_iter()
+        .flat_map(|r| [(r, 0), (r, 1), (r, 2)])
+    {
+        let (answer, work, table) = valued(terms, returns, behaviour as u64);
+        let (value, values, amounts) = dropped(terms, returns, behaviour);
+        let (first, second) = work.split_at(terms.layer());
+        let name = format!("{name}: beside dropped, behaviour {behaviour}");
+        t.same(&name, second.iter().all(|v| *v == 0), true);
+        if terms.lifts(returns) {
+            let higher = first.iter().zip(&values).all(|(v, d)| v >= d) && answer.value >= value;
+            t.same(&format!("{name}: no lower"), higher, true);
+        } else {
+            let got = (answer.value, first, &table);
+            t.same(
+                &format!("{name}: the same"),
+                got,
+                (value, &values[..], &amounts),
+            );
+        }
+    }
+}
+
 /// Value and amount of each state of a date, from bookings and the values of the next
 /// date.
 fn one_step(
@@ -1233,16 +1579,10 @@ fn one_step(
         let mut best = (0, 0);
         for (index, amount) in open(terms, behaviour, w, a).into_iter().enumerate() {
             let booking = booked(terms, date, w, a, amount);
-            let expected = (0, 0, terms.figures(date, w, a, amount));
-            t.same(&format!("{name}: booking"), booking, expected);
+            let figures = (0, 0, terms.figures(date, w, a, amount));
+            t.same(&format!("{name}: booking"), booking, figures);
             let [cash, _, balance, guarantee] = booking.2;
-            let mut sum: u128 = 0;
-            for (factor, weight) in returns {
-                let place = terms.entry(terms.next(balance, *factor), guarantee);
-                sum += u128::from(*weight) * u128::from(next[place]);
-            }
-            let later = u128::from(terms.discount) * sum / 10_000_000_000;
-            let worth = u128::from(cash) + later;
+            let worth = u128::from(cash) + expected(terms, returns, next, balance, guarantee);
             if index == 0 || worth > best.0 {
                 best = (worth, amount);
             }
@@ -1253,8 +1593,9 @@ fn one_step(
     }
 }
 
-/// A walk along a random table and path. On even turns no amount passes m.
-fn random_walk(t: &mut Tally, draw: &mut Draw, k: u64) {
+/// A walk along a random table and path. On even turns no amount passes m. Gives whether there
+/// was an excess on it.
+fn random_walk(t: &mut Tally, draw: &mut Draw, k: u64) -> bool {
     let (terms, returns) = (draw.terms(), draw.returns());
     let within_m = k % 2 == 0;
     let mut table: Vec<u16> = Vec::new();
@@ -1273,11 +1614,12 @@ fn random_walk(t: &mut Tally, draw: &mut Draw, k: u64) {
     let name = format!("random walk {k}: {terms:?}");
     t.same(&name, (answer.number, answer.place), (0, 0));
     let factors: Vec<u16> = numbers.iter().map(|n| returns[usize::from(*n)].0).collect();
-    follow(t, &name, &terms, &table, &factors, &cash, within_m);
+    follow(t, &name, &terms, &table, &factors, &cash, within_m) > 0
 }
 
 /// The same walk, booking by booking. "While no amount on a walk passes m, amounts
-/// withdrawn so far plus the guarantee equal the premium."
+/// withdrawn so far plus the guarantee equal the premium." "An excess is no withdrawal where
+/// amounts withdrawn are summed." Gives the excess of the whole walk.
 fn follow(
     t: &mut Tally,
     name: &str,
@@ -1286,14 +1628,17 @@ fn follow(
     factors: &[u16],
     cash: &[u64],
     within_m: bool,
-) {
+) -> u64 {
     let premium = u64::from(terms.premium);
-    let (mut balance, mut guarantee, mut drawn) = (premium, premium, 0);
+    let (mut balance, mut guarantee) = (premium, premium);
+    let (mut drawn, mut penalties, mut lifted, mut at_maturity) = (0, 0, 0, 0);
     for (i, factor) in factors.iter().enumerate() {
         let date = i as u64 + 1;
-        let account = terms.next(balance, *factor);
+        let (account, excess) = terms.reached(balance, *factor);
+        lifted += excess;
         let paid = if date == u64::from(terms.dates) {
-            10_000 * account.max(guarantee)
+            at_maturity = 10_000 * account.max(guarantee);
+            at_maturity
         } else {
             let place = i * terms.layer() + terms.entry(account, guarantee);
             let amount = u64::from(table[place]);
@@ -1301,13 +1646,17 @@ fn follow(
             balance = figures[2];
             guarantee = figures[3];
             drawn += amount;
+            penalties += figures[1];
             figures[0]
         };
-        t.same(&format!("{name}: cash"), cash[i], paid);
+        t.same(&format!("{name}: cash"), cash[i], paid + 10_000 * excess);
         if within_m {
             t.same(&format!("{name}: conservation"), drawn + guarantee, premium);
         }
     }
+    let paid = 10_000 * (drawn + lifted) + at_maturity - penalties;
+    t.same(&format!("{name}: paid in all"), cash.iter().sum(), paid);
+    lifted
 }
 
 /// A step has to be given; spare bytes are zero where they are not.

@@ -1,8 +1,8 @@
 // One date on plain numbers: the leaves that every operation is made of.
 ghost use mathlib.Core.Path.{_≡_};
-ghost use Prim.Native.Nat.{ℕ, _-_, _≤_, _<_, max, min};
+ghost use Prim.Native.Nat.{ℕ, _-_, _*_, _≤_, _<_, max, min};
 ghost use Rattle.rules.specs.Contract.{topMost, datesMost, rateMost, discountMost, factorMost};
-ghost use Rattle.rules.specs.Date.{dynamic, freeAmount, largestAmount, admits, rateOn, penalty, cash, guaranteeAfter, balanceAfter, nextAccount, maturityValue, discounted};
+ghost use Rattle.rules.specs.Date.{dynamic, freeAmount, largestAmount, admits, rateOn, penalty, cash, guaranteeAfter, balanceAfter, liftedAccount, nextAccount, excessPaid, maturityValue, discounted};
 
 // An entry of a working slice, and one of a table, as a number.
 pub fn wide(x: u64) -> usize
@@ -92,11 +92,27 @@ pub fn balance_after(w: usize, t: usize) -> usize
     less(w, t)
 }
 
+// What a return makes of a balance, before the ceiling.
+pub fn lifted_account(fee: usize, balance: usize, factor: usize) -> usize
+    requires { ⌜ (fee ≤ rateMost) × (balance ≤ topMost) × (factor ≤ factorMost) ⌝ }
+    ensures { λ r. ⌜ (r ≡ liftedAccount fee balance factor) × (r ≤ 3 * balance) ⌝ }
+{
+    balance * factor * (10000 - fee) / 100000000
+}
+
 pub fn next_account(fee: usize, top: usize, balance: usize, factor: usize) -> usize
     requires { ⌜ (fee ≤ rateMost) × (balance ≤ topMost) × (factor ≤ factorMost) ⌝ }
     ensures { λ r. ⌜ r ≡ nextAccount fee top balance factor ⌝ }
 {
-    smaller(top, balance * factor * (10000 - fee) / 100000000)
+    smaller(top, lifted_account(fee, balance, factor))
+}
+
+// What a return pays on arrival.
+pub fn excess_paid(fee: usize, top: usize, balance: usize, factor: usize) -> usize
+    requires { ⌜ (fee ≤ rateMost) × (balance ≤ topMost) × (factor ≤ factorMost) ⌝ }
+    ensures { λ r. ⌜ (r ≡ excessPaid fee top balance factor) × (r ≤ factorMost * balance) ⌝ }
+{
+    10000 * less(lifted_account(fee, balance, factor), top)
 }
 
 pub fn maturity_value(w: usize, a: usize) -> usize

@@ -16,7 +16,6 @@ use Rattle.rules.specs.Date.{Behaviour}
 use Rattle.rules.specs.Product.{recordedAmount}
 use Rattle.rules.specs.FixedTerm.{rateIn, layerSize, fixedTerm}
 use Rattle.rules.specs.Operations.{behaviourOf, tableSize}
-use Rattle.laws.specs.Bounds.{value-most, entryMost}
 use Rattle.expect.specs.Expected.{expected, scaled, expected-le, expected-same}
 use Rattle.keys.specs.declared.Date.{Date}
 use Rattle.keys.specs.Sums.{Sums, sums}
@@ -59,8 +58,7 @@ module _ {c : Terms} {count rate : ℕ} {work list : List ℕ} (d : OneDate c co
               cells-are w a (omega arith) (omega arith) ∙ ap (λ (x : ℕ). 8192 * x) (sym (sums-of w a (omega arith) (omega arith)));
           small = λ w a i k.
               rw (sums-of w a (omega arith) (omega arith))
-              (expected-le c (returnsOf list) _ w a entryMost v (d .listing .valid) (λ x h.
-              le-trans (d .first .small x a h (omega arith)) (value-most v)));
+              (expected-le c (returnsOf list) _ w a v (d .listing .valid) (omega arith) (λ x h. d .first .small x a h (omega arith)));
         }
 
     pub summed : Summed c (returnsOf list) work work' (dateOf c rate)
@@ -119,7 +117,7 @@ module _ {behaviour : ℕ} {c : Terms} {count : ℕ} {work₀ table₀ list work
         layers = record { valid = s .layers .valid; room = omega (arith, s .layers .room, v .long) };
         small = λ w a h k.
             le-trans (le-of-eq (v .values w a h k))
-            (values-most c (returnsOf list) (behaviourOf behaviour) (s .layers .valid) (s .listing .valid) (suc i) w a h k);
+            (values-most c (returnsOf list) (behaviourOf behaviour) (s .layers .valid) (s .listing .valid) (suc i) (omega arith) w a h k);
       };
     }
 

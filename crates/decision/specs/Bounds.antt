@@ -1,48 +1,67 @@
--- How large a value can be: the largest final value, and the largest cash for each decision to come. Assumes nothing.
+-- How large a value can be: the largest final value, and for each decision to come the most that it pays, with what is paid on
+-- arrival after it. Assumes nothing.
 use mathlib.Core.Path.{_≡_, sym}
 use Prim.Native.Nat.{ℕ, zero, suc, _+_, _-_, _*_, _≤_, _<_}
 use native.Mathlib.Nat.{le-trans, le-of-eq, add-le-add, le-refl}
 use native.Mathlib.Omega.{arith}
 use lib.Dec.{T}
 use Rattle.decision.specs.Choice.{smallestBest, best-is}
-use Rattle.decision.specs.Process.{Process, Rule, Table, worth, valueOver, tableOver, left, value, tableValue, startValue, Decides, Open, Closed}
+use Rattle.decision.specs.Process.{Process, Rule, Table, reached, worth, valueOver, tableOver, left, value, tableValue, startValue, startTableValue, Decides, Open, Closed}
 
 module _ {S H : Type 0} (P : Process S H) (r : Rule S) (o : Open P r) (InRange : S → Type 0) (c : Closed P r InRange) (B C : ℕ)
     (ends : (s : S) → InRange s → P .final s ≤ B)
     (pays : (i : ℕ) (s : S) (t : ℕ) → InRange s → T (r s t) → P .cash i s t ≤ C)
+    (arrives : (i : ℕ) (s : S) (t k : ℕ) → InRange s → T (r s t) → k < P .returns → P .cash i s t + P .paid (P .after i s t) k ≤ C)
+    (starts : (k : ℕ) → k < P .returns → P .paid (P .start) k ≤ C)
     (averages : (i : ℕ) (h : H) (v : ℕ → ℕ) (x : ℕ) → ((k : ℕ) → k < P .returns → v k ≤ x) → P .expect i h v ≤ x)
   where
+    -- a choice whose values reached are bounded
+    worth-bounded : (v : S → ℕ) (x i : ℕ) (s : S) (t : ℕ) → InRange s → T (r s t)
+        → ((k : ℕ) → k < P .returns → v (P .reach (P .after i s t) k) ≤ x) → worth P v i s t ≤ x + C
+    unfolding worth reached
+    worth-bounded v x i s t g a h =
+        let most = pays i s t g a in
+        let mean = averages i (P .after i s t) (reached P v (P .after i s t)) (x + C - P .cash i s t) (λ k l.
+        let y = arrives i s t k g a l in let z = h k l in omega arith) in
+        omega arith
+
     over-bounded : (n i : ℕ) (s : S) → InRange s → valueOver P r n i s ≤ B + n * C
-    unfolding valueOver worth
+    unfolding valueOver
     over-bounded zero i s g = le-trans (ends s g) (omega arith)
     over-bounded (suc n) i s g =
         let v : S → ℕ = λ x. valueOver P r n (suc i) x in
         let x = best-is (r s) (worth P v i s) (P .limit s) (o .some s) (o .within s _ (o .admissible s)) (o .admissible s) in
         let t = smallestBest (r s) (worth P v i s) (P .limit s) in
         le-trans (le-of-eq (sym (x .worth)))
-        (le-trans
-        (add-le-add (pays i s t g (x .passes)) (averages i _ _ (B + n * C) (λ k l. over-bounded n (suc i) _ (c .stays i s t k g (x .passes) l))))
+        (le-trans (worth-bounded v (B + n * C) i s t g (x .passes) (λ k l. over-bounded n (suc i) _ (c .stays i s t k g (x .passes) l)))
         (omega arith))
 
     pub value-bounded : (i : ℕ) (s : S) → InRange s → value P r i s ≤ B + (P .dates - i) * C
     unfolding value
     value-bounded i s g = over-bounded (left P i) i s g
 
-    pub start-bounded : startValue P r ≤ B + (P .dates - 1) * C
-    unfolding startValue
-    start-bounded = averages 0 _ _ _ (λ k l. value-bounded 1 _ (c .starts k l))
+    -- from the start, with what the first return pays on arrival
+    pub start-bounded : startValue P r ≤ C + (B + (P .dates - 1) * C)
+    unfolding startValue reached
+    start-bounded = averages 0 _ _ _ (λ k l. add-le-add (starts k l) (value-bounded 1 _ (c .starts k l)))
 
     -- the same of a table whose entries keep to the rule
     module _ (d : Table S) (admits : (i : ℕ) (s : S) → Decides P InRange i s → T (r s (d i s))) where
       table-over-bounded : (n i : ℕ) (s : S) → 1 ≤ i → i + n ≡ P .dates → InRange s → tableOver P d n i s ≤ B + n * C
-      unfolding tableOver worth
+      unfolding tableOver
       table-over-bounded zero i s l e g = le-trans (ends s g) (omega arith)
       table-over-bounded (suc n) i s l e g =
           let a = admits i s (record { from = l; before = omega arith; range = g }) in
           le-trans
-          (add-le-add (pays i s (d i s) g a) (averages i _ _ (B + n * C) (λ k m. table-over-bounded n (suc i) _ (omega arith) (omega arith) (c .stays i s (d i s) k g a m))))
+          (worth-bounded _ (B + n * C) i s (d i s) g a (λ k m.
+          table-over-bounded n (suc i) _ (omega arith) (omega arith) (c .stays i s (d i s) k g a m)))
           (omega arith)
 
       pub table-bounded : (i : ℕ) (s : S) → 1 ≤ i → i ≤ P .dates → InRange s → tableValue P d i s ≤ B + (P .dates - i) * C
       unfolding tableValue
       table-bounded i s l m g = table-over-bounded (left P i) i s l (omega arith) g
+
+      pub start-table-bounded : 1 ≤ P .dates → startTableValue P d ≤ C + (B + (P .dates - 1) * C)
+      unfolding startTableValue reached
+      start-table-bounded some =
+          averages 0 _ _ _ (λ k l. add-le-add (starts k l) (table-bounded 1 _ (le-refl 1) some (c .starts k l)))

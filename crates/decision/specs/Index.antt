@@ -48,6 +48,11 @@ unfolding sum
 sum-times f c zero = omega arith
 sum-times f c (suc n) = let e = sum-times f c n in omega arith
 
+pub sum-add : (f g : ℕ → ℕ) (n : ℕ) → sum (λ k. f k + g k) n ≡ sum f n + sum g n
+unfolding sum
+sum-add f g zero = refl
+sum-add f g (suc n) = let e = sum-add f g n in omega arith
+
 pub sum-append : (f : ℕ → ℕ) (a b : ℕ) → sum f (a + b) ≡ sum f a + sum (λ k. f (a + k)) b
 unfolding sum
 sum-append f a zero = rw (add-zero a) (omega arith)
@@ -74,6 +79,12 @@ pub tabulate-zeros : (n : ℕ) (f : ℕ → ℕ) → ((k : ℕ) → k < n → f 
 unfolding tabulate
 tabulate-zeros zero f h = refl
 tabulate-zeros (suc n) f h = ap₂ _∷_ (h 0 (omega arith)) (tabulate-zeros n (λ k. f (suc k)) (λ k l. h (suc k) (omega arith)))
+
+pub tabulate-eq : (n : ℕ) (f g : ℕ → ℕ) → ((k : ℕ) → k < n → f k ≡ g k) → tabulate n f ≡ tabulate n g
+unfolding tabulate
+tabulate-eq zero f g h = refl
+tabulate-eq (suc n) f g h =
+    ap₂ _∷_ (h 0 (omega arith)) (tabulate-eq n (λ k. f (suc k)) (λ k. g (suc k)) (λ k l. h (suc k) (omega arith)))
 
 -- with anything behind
 pub getD-tabulate : (n e : ℕ) (f : ℕ → ℕ) (rest : List ℕ) → e < n → getD (tabulate n f ++ rest) e 0 ≡ f e

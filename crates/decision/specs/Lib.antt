@@ -6,3 +6,4 @@ pub mod Process
 pub mod Optimal
 pub mod Layers
 pub mod Bounds
+pub mod Arrivals

@@ -8,7 +8,7 @@ use native.Mathlib.Omega.{arith}
 use lib.Dec.{T}
 use lib.ListN.{length, length-append}
 use Rattle.decision.specs.Choice.{largest, smallestBest, le-largest, Best, best-is, best-unique}
-use Rattle.decision.specs.Process.{Process, Rule, Strategy, Table, worth, valueOver, tableOver, left, value, recorded, tableValue, startValue, startTableValue, earnedOver, KeepsOver, earned, Keeps, startEarned, StartKeeps, met, startMet, follow, startFollow, Decides, Attained, Monotone, Open, Closed}
+use Rattle.decision.specs.Process.{Process, Rule, Strategy, Table, reached, worth, valueOver, tableOver, left, value, recorded, tableValue, startValue, startTableValue, earnedOver, KeepsOver, earned, Keeps, startEarned, StartKeeps, met, startMet, follow, startFollow, Decides, Attained, Monotone, Open, Closed}
 
 module _ {S H : Type 0} (P : Process S H) where
   -- ---- the values of a date, by those of the next
@@ -41,6 +41,15 @@ module _ {S H : Type 0} (P : Process S H) where
       → Best (r s) (worth P (value P r (suc i)) i s) (P .limit s) c v → (recorded P r i s ≡ c) × (value P r i s ≡ v)
   found r o i s c v l b = best-unique (recorded-best r o i s l) b
 
+  -- ---- the value reached, by the value of the state
+  reached-le : (v w : S → ℕ) (h : H) (k : ℕ) → v (P .reach h k) ≤ w (P .reach h k) → reached P v h k ≤ reached P w h k
+  unfolding reached
+  reached-le v w h k l = add-le-add (le-refl _) l
+
+  reached-eq : (v w : S → ℕ) (h : H) (k : ℕ) → v (P .reach h k) ≡ w (P .reach h k) → reached P v h k ≡ reached P w h k
+  unfolding reached
+  reached-eq v w h k e = ap (λ (x : ℕ). P .paid h k + x) e
+
   -- ---- the states met where a table is followed
   module _ (d : Table S) where
     -- `at` is the state met after each history; a history of date i has i - b return numbers
@@ -70,7 +79,7 @@ module _ {S H : Type 0} (P : Process S H) where
 
     worth-le : (v w : S → ℕ) (i : ℕ) (s : S) (t : ℕ) → ((x : S) → v x ≤ w x) → worth P v i s t ≤ worth P w i s t
     unfolding worth
-    worth-le v w i s t h = add-le-add (le-refl _) (mono i _ _ _ (λ k l. h _))
+    worth-le v w i s t h = add-le-add (le-refl _) (mono i _ _ _ (λ k l. reached-le v w _ k (h _)))
 
     -- ---- no strategy earns more
     earned-most : (r : Rule S) → Open P r → (σ : Strategy) (n i : ℕ) (p : List ℕ) (s : S)
@@ -79,7 +88,7 @@ module _ {S H : Type 0} (P : Process S H) where
     earned-most r o σ zero i p s k = le-refl _
     earned-most r o σ (suc n) i p s k =
         le-trans
-        (add-le-add (le-refl _) (mono i _ _ _ (λ j l. earned-most r o σ n (suc i) (p ++ (j ∷ [])) _ (k .1 j l))))
+        (add-le-add (le-refl _) (mono i _ _ _ (λ j l. reached-le _ _ _ j (earned-most r o σ n (suc i) (p ++ (j ∷ [])) _ (k .1 j l)))))
         (le-largest (r s) (worth P (λ x. valueOver P r n (suc i) x) i s) (P .limit s) (σ i p) (o .within s _ (k .0)) (k .0))
 
     -- ---- what admits more is never worth less
@@ -102,7 +111,7 @@ module _ {S H : Type 0} (P : Process S H) where
 
       pub start-wider : startValue P a ≤ startValue P b
       unfolding startValue
-      start-wider = mono 0 _ _ _ (λ k l. wider 1 _)
+      start-wider = mono 0 _ _ _ (λ k l. reached-le (value P a 1) (value P b 1) _ k (wider 1 _))
 
     -- ---- to follow a table earns the table's value and keeps to a rule that its entries keep to
     module _ (d : Table S) where
@@ -111,15 +120,15 @@ module _ {S H : Type 0} (P : Process S H) where
       unfolding earnedOver tableOver worth Steps
       earns b at steps zero i p s l e m = refl
       earns b at steps (suc n) i p s l e m =
-          ap (λ (x : S). P .cash i s (d i x) + P .expect i (P .after i s (d i x)) (λ k. earnedOver P (λ j q. d j (at q)) n (suc i) (p ++ (k ∷ [])) (P .reach (P .after i s (d i x)) k))) m
-          ∙ ap (λ (x : ℕ). P .cash i s (d i s) + x) (expect-eq i _ _ _ (λ k f.
-          earns b at steps n (suc i) (p ++ (k ∷ [])) _ (omega arith) (simp length-append (omega arith))
-          (steps i k p l e ∙ ap (λ (x : S). P .reach (P .after i x (d i x)) k) m)))
+          ap (λ (x : S). P .cash i s (d i x) + P .expect i (P .after i s (d i x)) (λ k. reached P (earnedOver P (λ j q. d j (at q)) n (suc i) (p ++ (k ∷ []))) (P .after i s (d i x)) k)) m
+          ∙ ap (λ (x : ℕ). P .cash i s (d i s) + x) (expect-eq i _ _ _ (λ k f. reached-eq _ _ _ k
+          (earns b at steps n (suc i) (p ++ (k ∷ [])) _ (omega arith) (simp length-append (omega arith))
+          (steps i k p l e ∙ ap (λ (x : S). P .reach (P .after i x (d i x)) k) m))))
 
       pub start-table-earned : startEarned P (startFollow P d) ≡ startTableValue P d
       unfolding startEarned startFollow startTableValue tableValue startMet met
       start-table-earned =
-          expect-eq 0 _ _ _ (λ k l. earns 0 (startMet P d) (startMet-steps d) (left P 1) 1 (k ∷ []) _ (le-refl 1) refl refl)
+          expect-eq 0 _ _ _ (λ k l. reached-eq _ _ _ k (earns 0 (startMet P d) (startMet-steps d) (left P 1) 1 (k ∷ []) _ (le-refl 1) refl refl))
 
       pub table-earned : (i : ℕ) (s : S) → 1 ≤ i → earned P (follow P d i s) i s ≡ tableValue P d i s
       unfolding earned follow tableValue met
@@ -165,19 +174,20 @@ module _ {S H : Type 0} (P : Process S H) where
         filled-value (suc n) i s l e g =
             let q : Decides P InRange i s = record { from = l; before = omega arith; range = g } in
             table-step d i s (q .before)
-            ∙ ap (λ (x : ℕ). P .cash i s (d i s) + x) (expect-eq i _ _ _ (λ k f. filled-value n (suc i) _ (omega arith) (omega arith) (c .stays i s _ k g (admits i s q) f)))
+            ∙ ap (λ (x : ℕ). P .cash i s (d i s) + x) (expect-eq i _ _ _ (λ k f. reached-eq _ _ _ k
+            (filled-value n (suc i) _ (omega arith) (omega arith) (c .stays i s _ k g (admits i s q) f))))
             ∙ ap (worth P (value P r (suc i)) i s) (filled i s q)
             ∙ recorded-best r o i s (q .before) .worth
 
         pub start-filled : 1 ≤ P .dates → startTableValue P d ≡ startValue P r
         unfolding startTableValue startValue
-        start-filled one = expect-eq 0 _ _ _ (λ k l. filled-value (left P 1) 1 _ (le-refl 1) (omega arith) (c .starts k l))
+        start-filled one = expect-eq 0 _ _ _ (λ k l. reached-eq _ _ _ k (filled-value (left P 1) 1 _ (le-refl 1) (omega arith) (c .starts k l)))
 
         -- the whole claim
         pub attained : 1 ≤ P .dates → Attained P r InRange d
         unfolding startEarned StartKeeps startValue earned Keeps value
         attained one = record {
-          start-most = λ σ k. mono 0 _ _ _ (λ j l. earned-most r o σ (left P 1) 1 (j ∷ []) _ (k j l));
+          start-most = λ σ k. mono 0 _ _ _ (λ j l. reached-le _ _ _ j (earned-most r o σ (left P 1) 1 (j ∷ []) _ (k j l)));
           start-kept = start-table-kept d r InRange c admits one;
           start-earned = start-table-earned d ∙ start-filled one;
           most = λ σ i s g k. earned-most r o σ (left P i) i [] s k;

@@ -20,8 +20,9 @@ pub record Process (S H : Type 0) : Type 0 where
   -- what an amount pays on a date, and what is held after it
   pub cash : ℕ → S → ℕ → ℕ
   pub after : ℕ → S → ℕ → H
-  -- the state that a return leads to on the next date
+  -- the state that a return leads to on the next date, and what it pays on arrival there
   pub reach : H → ℕ → S
+  pub paid : H → ℕ → ℕ
   -- the worth on a date of what is held, where each return number has its value reached
   pub expect : ℕ → H → (ℕ → ℕ) → ℕ
   -- the value of a state on the last date
@@ -41,9 +42,13 @@ Table S = ℕ → S → ℕ
 
 module _ {S H : Type 0} (P : Process S H) where
   -- ---- values
+  -- the value reached by a return: what is paid on arrival, and the value of the state that it leads to
+  unfoldable pub reached : (S → ℕ) → H → ℕ → ℕ
+  reached v h k = P .paid h k + v (P .reach h k)
+
   -- a choice is worth its cash and what is expected of the values reached
   unfoldable pub worth : (S → ℕ) → ℕ → S → ℕ → ℕ
-  worth v i s t = let h = P .after i s t in P .cash i s t + P .expect i h (λ k. v (P .reach h k))
+  worth v i s t = let h = P .after i s t in P .cash i s t + P .expect i h (reached v h)
 
   -- the value on date i of state s, with n decisions to come: the largest worth among the admissible amounts
   unfoldable pub valueOver : Rule S → ℕ → ℕ → S → ℕ
@@ -71,10 +76,10 @@ module _ {S H : Type 0} (P : Process S H) where
 
   -- of the whole: what is expected from date 0, without cash
   unfoldable pub startValue : Rule S → ℕ
-  startValue r = P .expect 0 (P .start) (λ k. value r 1 (P .reach (P .start) k))
+  startValue r = P .expect 0 (P .start) (reached (value r 1) (P .start))
 
   unfoldable pub startTableValue : Table S → ℕ
-  startTableValue d = P .expect 0 (P .start) (λ k. tableValue d 1 (P .reach (P .start) k))
+  startTableValue d = P .expect 0 (P .start) (reached (tableValue d 1) (P .start))
 
   -- ---- strategies
   -- what a strategy earns on date i in state s, after the return numbers in p and with n decisions to come
@@ -82,7 +87,7 @@ module _ {S H : Type 0} (P : Process S H) where
   earnedOver σ zero i p s = P .final s
   earnedOver σ (suc n) i p s =
       let h = P .after i s (σ i p) in
-      P .cash i s (σ i p) + P .expect i h (λ k. earnedOver σ n (suc i) (p ++ (k ∷ [])) (P .reach h k))
+      P .cash i s (σ i p) + P .expect i h (λ k. reached (earnedOver σ n (suc i) (p ++ (k ∷ []))) h k)
 
   -- on every path each amount that the strategy names is admissible in the state met there
   unfoldable pub KeepsOver : Rule S → Strategy → ℕ → ℕ → List ℕ → S → Type 0
@@ -100,7 +105,7 @@ module _ {S H : Type 0} (P : Process S H) where
 
   -- from the start it begins with the first return's number
   unfoldable pub startEarned : Strategy → ℕ
-  startEarned σ = P .expect 0 (P .start) (λ k. earnedOver σ (left 1) 1 (k ∷ []) (P .reach (P .start) k))
+  startEarned σ = P .expect 0 (P .start) (λ k. reached (earnedOver σ (left 1) 1 (k ∷ [])) (P .start) k)
 
   unfoldable pub StartKeeps : Rule S → Strategy → Type 0
   StartKeeps r σ = (k : ℕ) → k < P .returns → KeepsOver r σ (left 1) 1 (k ∷ []) (P .reach (P .start) k)

@@ -7,7 +7,7 @@ use native.Mathlib.Omega.{arith}
 use Rattle.slices.specs.Rows.{rows-before}
 use Rattle.rules.specs.Contract.{topMost}
 use Rattle.rules.specs.Date.{cash, penalty}
-use Rattle.laws.specs.Bounds.{cash-le}
+use Rattle.laws.specs.Date.{cash-le}
 use Rattle.keys.specs.declared.Block.{Block}
 use Rattle.keys.specs.declared.Date.{Date}
 use Rattle.keys.specs.Key.{amountMost, key, key-small}

@@ -11,11 +11,11 @@ use Rattle.decision.specs.Index.{sum, sum-le, sum-eq, sum-next, sum-times}
 use Rattle.slices.specs.Stored.{stored, length-stored, stored-out, stored-first, stored-join}
 use Rattle.slices.specs.Rows.{cells, flat, flat-at, within-rows, rows-le, rows-step}
 use Rattle.rules.specs.Contract.{Terms, Returns, returnsOf, weightTotal, weightMost}
-use Rattle.rules.specs.Date.{nextAccount, discounted}
+use Rattle.rules.specs.Date.{nextAccount, excessPaid, discounted}
 use Rattle.rules.specs.FixedTerm.{layerSize}
-use Rattle.laws.specs.Bounds.{valueMost, value-most, entryMost}
+use Rattle.laws.specs.Bounds.{stateMost, value-room, value-most, entryMost}
 use Rattle.laws.specs.Date.{account-le}
-use Rattle.expect.specs.Expected.{reachedSum, expected, scaled, term, productMost}
+use Rattle.expect.specs.Expected.{reachedSum, expected, paidSum, stateSum, two-sums, paid-sum-le, scaled, term, productMost}
 use Rattle.expect.specs.Expected.{Largest, Reached, Run, Summed, Row, Listing, Layers, Values, Within, Balance}
 
 -- ---- sums along the guarantees
@@ -96,7 +96,7 @@ summed {j = j} sums e all short long = record {
   each = λ i l. filled sums _ j e (omega arith) i (omega arith);
 }
 
-module _ {work starts weights : List ℕ} {count discount most to stride : ℕ} (r : Row work starts weights count discount most to stride) where
+module _ {work starts weights : List ℕ} {count discount most paid to stride : ℕ} (r : Row work starts weights count discount most paid to stride) where
   -- the rows that are read lie before the row that is written
   row-kept : (g : ℕ → ℕ) (n k a : ℕ) → k < count → a < stride
       → getD (stored work to g n) (getD starts k 0 + a) 0 ≡ getD work (getD starts k 0 + a) 0
@@ -122,11 +122,12 @@ module _ {work starts weights : List ℕ} {count discount most to stride : ℕ} 
 
   -- the first m guarantees, some of the row filled
   pub row-part : (work' : List ℕ) (g : ℕ → ℕ) (n m : ℕ) → work' ≡ stored work to g n → m ≤ stride
-      → Row work' starts weights count discount most to m
+      → Row work' starts weights count discount most paid to m
   row-part work' g n m e h = record {
     few = r .few;
     discount-is = r .discount-is;
     most-is = r .most-is;
+    paid-is = r .paid-is;
     total = r .total;
     light = r .light;
     small = λ k a l p.
@@ -137,7 +138,8 @@ module _ {work starts weights : List ℕ} {count discount most to stride : ℕ} 
   }
 
 -- the last n guarantees of a row
-pub row-run : {work starts weights : List ℕ} {count discount most to : ℕ} (from n : ℕ) → Row work starts weights count discount most to (from + n) → n ≤ 512
+pub row-run : {work starts weights : List ℕ} {count discount most paid to : ℕ} (from n : ℕ)
+    → Row work starts weights count discount most paid to (from + n) → n ≤ 512
     → Run work starts weights count most from n
 row-run from n r h = record {
   few = r .few;
@@ -159,55 +161,77 @@ row-room {c} b v top =
     let l = rows-le (c .premium + 1) (b + 1) (c .top + 1) (omega arith) in omega (arith, rows-step (c .premium + 1) b, v .room)
 
 -- ---- the row of one balance
-module _ {c : Terms} {work list weights : List ℕ} {count discount most balance stride size : ℕ} (b : Balance c work list weights count discount most balance stride size) where
-  -- a row of the first layer ends within it
-  reached-within : (x : ℕ) → x ≤ c .top → x * stride + stride ≤ size
-  reached-within x l = let m = rows-le stride (x + 1) (c .top + 1) (omega arith) in omega (arith, rows-step stride x, b .size-is)
+module _ {c : Terms} {work list weights : List ℕ} {count discount most paid balance stride size : ℕ}
+    (b : Balance c work list weights count discount most paid balance stride size)
+  where
+    -- a row of the first layer ends within it
+    reached-within : (x : ℕ) → x ≤ c .top → x * stride + stride ≤ size
+    reached-within x l = let m = rows-le stride (x + 1) (c .top + 1) (omega arith) in omega (arith, rows-step stride x, b .size-is)
 
-  balance-room : size + balance * stride + stride ≤ length work
-  balance-room = rw (b .size-is, b .stride-is) (row-room balance (b .layers) (b .balance-is))
+    -- values of the layer, with what is paid on arrival, are within the bound on an entry
+    bound : 20000 * c .top + stateMost c 1 ≤ entryMost
+    bound = le-trans (value-room c (returnsOf list) (b .layers .valid) (b .listing .valid)) (value-most (b .layers .valid))
 
-  module _ (starts : List ℕ)
-      (starts-are : (k : ℕ) → k < count → getD starts k 0 ≡ nextAccount (c .fee) (c .top) balance (returnsOf list .factor k) * stride)
-    where
-      place : (k a : ℕ) → k < count
-          → 0 + (nextAccount (c .fee) (c .top) balance (returnsOf list .factor k) * (c .premium + 1) + a) ≡ getD starts k 0 + a
-      place k a l =
-          let x = nextAccount (c .fee) (c .top) balance (returnsOf list .factor k) in
-          zero-add _ ∙ ap (λ (y : ℕ). y + a) (ap (λ (z : ℕ). x * z) (sym (b .stride-is)) ∙ sym (starts-are k l))
+    most-small : most ≤ entryMost
+    most-small = omega (arith, bound, b .most-is)
 
-      pub balance-row : Row work starts weights count discount most (size + balance * stride) stride
-      balance-row = record {
-        few = b .listing .few;
-        discount-is = le-trans (le-of-eq (b .discount-is)) (b .layers .valid .discount);
-        most-is = b .most-is;
-        total = sum-eq _ _ count (b .weights-are) ∙ ap (sum (returnsOf list .weight)) (b .listing .all) ∙ b .listing .valid .total;
-        light = λ k l. rw (b .weights-are k l) (b .listing .valid .weight k (omega (arith, b .listing .all)));
-        small = λ k a l m.
-            let x = account-le (c .fee) (c .top) balance (returnsOf list .factor k) in
-            subst (λ (z : ℕ). getD work z 0 ≤ most) (place k a l) (b .small _ a x (omega (arith, b .stride-is)));
-        below = λ k l.
-            let m = reached-within _ (account-le (c .fee) (c .top) balance (returnsOf list .factor k)) in
-            rw (starts-are k l) (omega arith);
-        room = balance-room;
-      }
+    sums-small : weightTotal * most + paid ≤ weightTotal * entryMost
+    sums-small = omega (arith, bound, b .most-is, b .paid-is, paid-sum-le c (returnsOf list) balance (b .listing .valid) (b .balance-is))
 
-      pub balance-cells : (a : ℕ) → discounted discount (sum (term work starts weights a) count) ≡ expected c (returnsOf list) (cells work 0 stride) balance a
-      unfolding expected reachedSum
-      balance-cells a =
-          ap₂ discounted (b .discount-is)
-          (sum-eq _ _ count (λ k l. ap₂ (λ (x y : ℕ). x * getD work y 0) (b .weights-are k l) (ap (λ (x : ℕ). x + a) (starts-are k l) ∙ sym (zero-add _)))
-          ∙ ap (sum _) (b .listing .all))
+    balance-room : size + balance * stride + stride ≤ length work
+    balance-room = rw (b .size-is, b .stride-is) (row-room balance (b .layers) (b .balance-is))
+
+    module _ (starts : List ℕ)
+        (starts-are : (k : ℕ) → k < count → getD starts k 0 ≡ nextAccount (c .fee) (c .top) balance (returnsOf list .factor k) * stride)
+      where
+        place : (k a : ℕ) → k < count
+            → 0 + (nextAccount (c .fee) (c .top) balance (returnsOf list .factor k) * (c .premium + 1) + a) ≡ getD starts k 0 + a
+        place k a l =
+            let x = nextAccount (c .fee) (c .top) balance (returnsOf list .factor k) in
+            zero-add _ ∙ ap (λ (y : ℕ). y + a) (ap (λ (z : ℕ). x * z) (sym (b .stride-is)) ∙ sym (starts-are k l))
+
+        pub balance-row : Row work starts weights count discount most paid (size + balance * stride) stride
+        balance-row = record {
+          few = b .listing .few;
+          discount-is = le-trans (le-of-eq (b .discount-is)) (b .layers .valid .discount);
+          most-is = most-small;
+          paid-is = sums-small;
+          total = sum-eq _ _ count (b .weights-are) ∙ ap (sum (returnsOf list .weight)) (b .listing .all) ∙ b .listing .valid .total;
+          light = λ k l. rw (b .weights-are k l) (b .listing .valid .weight k (omega (arith, b .listing .all)));
+          small = λ k a l m.
+              let x = account-le (c .fee) (c .top) balance (returnsOf list .factor k) in
+              subst (λ (z : ℕ). getD work z 0 ≤ most) (place k a l) (b .small _ a x (omega (arith, b .stride-is)));
+          below = λ k l.
+              let m = reached-within _ (account-le (c .fee) (c .top) balance (returnsOf list .factor k)) in
+              rw (starts-are k l) (omega arith);
+          room = balance-room;
+        }
+
+        states-are : (a : ℕ) → sum (term work starts weights a) count ≡ stateSum c (returnsOf list) (cells work 0 stride) balance a
+        unfolding stateSum
+        states-are a =
+            sum-eq _ _ count (λ k l.
+            ap₂ (λ (x y : ℕ). x * getD work y 0) (b .weights-are k l) (ap (λ (x : ℕ). x + a) (starts-are k l) ∙ sym (zero-add _)))
+            ∙ ap (sum _) (b .listing .all)
+
+        pub balance-cells : (a : ℕ)
+            → discounted discount (sum (term work starts weights a) count + paid)
+            ≡ expected c (returnsOf list) (cells work 0 stride) balance a
+        unfolding expected
+        balance-cells a =
+            ap₂ discounted (b .discount-is)
+            (ap₂ _+_ (states-are a) (b .paid-is) ∙ two-sums c (returnsOf list) (cells work 0 stride) balance a)
 
 -- ---- the balance of the start
-pub start-balance : {c : Terms} {work list weights : List ℕ} {count : ℕ} → Listing list count → Values c work
-    → ((k : ℕ) → k < count → getD weights k 0 ≡ returnsOf list .weight k)
-    → Balance c work list weights count (c .discount) (valueMost c) (c .premium) (c .premium + 1) ((c .top + 1) * (c .premium + 1))
-start-balance h v w = record {
+pub start-balance : {c : Terms} {work list weights : List ℕ} {count paid : ℕ} → Listing list count → Values c work
+    → ((k : ℕ) → k < count → getD weights k 0 ≡ returnsOf list .weight k) → paid ≡ paidSum c (returnsOf list) (c .premium)
+    → Balance c work list weights count (c .discount) (stateMost c 1) paid (c .premium) (c .premium + 1) ((c .top + 1) * (c .premium + 1))
+start-balance h v w p = record {
   listing = h;
   layers = v .layers;
   discount-is = refl;
-  most-is = value-most (v .layers .valid);
+  most-is = le-of-eq refl;
+  paid-is = p;
   small = v .small;
   weights-are = w;
   balance-is = v .layers .valid .premium;
@@ -216,15 +240,17 @@ start-balance h v w = record {
 }
 
 -- .. and of any other: the first layer stays as the second is filled
-pub layer-balance : {c : Terms} {work list weights : List ℕ} {count most : ℕ} (work' : List ℕ) (f : ℕ → ℕ) (n b : ℕ) → Listing list count
-    → Values c work → most ≤ valueMost c → Within c work most → ((k : ℕ) → k < count → getD weights k 0 ≡ returnsOf list .weight k)
+pub layer-balance : {c : Terms} {work list weights : List ℕ} {count most paid : ℕ} (work' : List ℕ) (f : ℕ → ℕ) (n b : ℕ)
+    → Listing list count → Values c work → most ≤ stateMost c 1 → Within c work most
+    → ((k : ℕ) → k < count → getD weights k 0 ≡ returnsOf list .weight k) → paid ≡ paidSum c (returnsOf list) b
     → work' ≡ stored work ((c .top + 1) * (c .premium + 1)) f n → b ≤ c .top
-    → Balance c work' list weights count (c .discount) most b (c .premium + 1) ((c .top + 1) * (c .premium + 1))
-layer-balance {c = c} {work = work} {most = most} work' f n b h v few small w e top = record {
+    → Balance c work' list weights count (c .discount) most paid b (c .premium + 1) ((c .top + 1) * (c .premium + 1))
+layer-balance {c = c} {work = work} {most = most} work' f n b h v few small w p e top = record {
   listing = h;
   layers = record { valid = v .layers .valid; room = omega (arith, v .layers .room, ap length e ∙ length-stored _ _ _ _) };
   discount-is = refl;
-  most-is = le-trans few (value-most (v .layers .valid));
+  most-is = few;
+  paid-is = p;
   small = kept-within;
   weights-are = w;
   balance-is = top;
@@ -250,7 +276,8 @@ module _ (c : Terms) (rs : Returns) (work : List ℕ) (stride size : ℕ) (size-
       let x = nextAccount (c .fee) (c .top) b (rs .factor k) in
       let h = account-le (c .fee) (c .top) b (rs .factor k) in
       let i = within-rows stride (c .top + 1) x a (omega arith) l in
-      ap (λ (y : ℕ). rs .weight k * y) (stored-out work size sums n (0 + (x * stride + a)) (inl (omega arith)))))
+      ap (λ (y : ℕ). rs .weight k * (excessPaid (c .fee) (c .top) b (rs .factor k) + y))
+      (stored-out work size sums n (0 + (x * stride + a)) (inl (omega arith)))))
 
   pub expect-step : (b : ℕ) (work' : List ℕ)
       → work' ≡ stored work size (flat stride (scaled (expected c rs (cells work 0 stride)))) (b * stride)

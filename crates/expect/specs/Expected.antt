@@ -1,21 +1,26 @@
 -- The discounted sum for a balance and a guarantee, where v gives the next date's values. Assumes nothing.
 use mathlib.Core.List.{List}
-use mathlib.Core.Path.{_≡_, ap, _∙_}
+use mathlib.Core.Path.{_≡_, ap, sym, _∙_}
 use Prim.Native.Nat.{ℕ, _+_, _*_, _≤_, _<_}
 use native.Mathlib.Nat.{le-trans, le-of-eq, mul-le-mul-left}
+use native.Mathlib.Omega.{arith}
 use lib.ListN.{getD, length}
-use Rattle.decision.specs.Index.{sum, sum-le, sum-eq, sum-times}
+use Rattle.decision.specs.Index.{sum, sum-le, sum-eq, sum-add, sum-times}
 use Rattle.slices.specs.Rows.{cells}
 use Rattle.rules.specs.Contract.{Terms, Returns, returnsOf, discountMost, weightTotal, weightMost, returnsMost}
-use Rattle.rules.specs.Date.{nextAccount, discounted}
+use Rattle.rules.specs.Date.{nextAccount, excessPaid, discounted}
 use Rattle.rules.specs.FixedTerm.{layerSize}
 use Rattle.laws.specs.Accepted.{Valid, ValidReturns}
-use Rattle.laws.specs.Date.{account-le}
-use Rattle.laws.specs.Bounds.{discounted-average, valueMost, entryMost}
+use Rattle.laws.specs.Date.{account-le, excess-paid-le}
+use Rattle.laws.specs.Bounds.{discounted-average, stateMost, valueMost, value-room, value-most, entryMost}
 
 -- the sum of weight × value reached
 unfoldable pub reachedSum : Terms → Returns → (ℕ → ℕ → ℕ) → ℕ → ℕ → ℕ
-reachedSum c rs v balance a = sum (λ k. rs .weight k * v (nextAccount (c .fee) (c .top) balance (rs .factor k)) a) (rs .count)
+reachedSum c rs v balance a =
+    sum (λ k.
+    rs .weight k
+    * (excessPaid (c .fee) (c .top) balance (rs .factor k) + v (nextAccount (c .fee) (c .top) balance (rs .factor k)) a))
+    (rs .count)
 
 unfoldable pub expected : Terms → Returns → (ℕ → ℕ → ℕ) → ℕ → ℕ → ℕ
 expected c rs v balance a = discounted (c .discount) (reachedSum c rs v balance a)
@@ -23,6 +28,18 @@ expected c rs v balance a = discounted (c .discount) (reachedSum c rs v balance 
 -- a sum as the second layer holds it: times 8,192, so that it can be added to a key, which holds an amount below 8,192 beside a value
 abbrev pub scaled : (ℕ → ℕ → ℕ) → ℕ → ℕ → ℕ
 scaled e balance a = 8192 * e balance a
+
+-- its two parts: what the returns pay on arrival, which no guarantee changes, and the values of the states that they lead to
+unfoldable pub paidSum : Terms → Returns → ℕ → ℕ
+paidSum c rs balance = sum (λ k. rs .weight k * excessPaid (c .fee) (c .top) balance (rs .factor k)) (rs .count)
+
+unfoldable pub stateSum : Terms → Returns → (ℕ → ℕ → ℕ) → ℕ → ℕ → ℕ
+stateSum c rs v balance a = sum (λ k. rs .weight k * v (nextAccount (c .fee) (c .top) balance (rs .factor k)) a) (rs .count)
+
+pub two-sums : (c : Terms) (rs : Returns) (v : ℕ → ℕ → ℕ) (balance a : ℕ)
+    → stateSum c rs v balance a + paidSum c rs balance ≡ reachedSum c rs v balance a
+unfolding reachedSum paidSum stateSum
+two-sums c rs v balance a = sym (sum-eq _ _ (rs .count) (λ k l. omega arith) ∙ sum-add _ _ (rs .count))
 
 -- ---- what the loops hand to each other
 -- weight × value in the row that starts at the k-th start
@@ -51,11 +68,12 @@ pub record Summed (work starts weights sums : List ℕ) (from n k : ℕ) : Type 
   pub long : 512 ≤ length sums
   pub each : (j : ℕ) → j < n → getD sums j 0 ≡ sum (term work starts weights (from + j)) k
 
--- a row to be filled at `to`, from rows that lie before it
-pub record Row (work starts weights : List ℕ) (count discount most to stride : ℕ) : Type 0 where
+-- a row to be filled at `to`, from rows that lie before it; the returns pay `paid` on arrival, by weight
+pub record Row (work starts weights : List ℕ) (count discount most paid to stride : ℕ) : Type 0 where
   pub few : count ≤ returnsMost
   pub discount-is : discount ≤ discountMost
   pub most-is : most ≤ entryMost
+  pub paid-is : weightTotal * most + paid ≤ weightTotal * entryMost
   pub total : sum (λ k. getD weights k 0) count ≡ weightTotal
   pub light : (k : ℕ) → k < count → getD weights k 0 ≤ weightMost
   pub small : (k a : ℕ) → k < count → a < stride → getD work (getD starts k 0 + a) 0 ≤ most
@@ -86,29 +104,50 @@ Within c work most = (w a : ℕ) → w ≤ c .top → a ≤ c .premium → cells
 -- .. in a layer of values
 pub record Values (c : Terms) (work : List ℕ) : Type 0 where
   pub layers : Layers c work
-  pub small : Within c work (valueMost c)
+  pub small : Within c work (stateMost c 1)
 
 -- a balance whose row is to be filled
-pub record Balance (c : Terms) (work list weights : List ℕ) (count discount most balance stride size : ℕ) : Type 0 where
+pub record Balance (c : Terms) (work list weights : List ℕ) (count discount most paid balance stride size : ℕ) : Type 0 where
   pub listing : Listing list count
   pub layers : Layers c work
   pub discount-is : discount ≡ c .discount
-  pub most-is : most ≤ entryMost
+  pub most-is : most ≤ stateMost c 1
+  pub paid-is : paid ≡ paidSum c (returnsOf list) balance
   pub small : Within c work most
   pub weights-are : (k : ℕ) → k < count → getD weights k 0 ≡ returnsOf list .weight k
   pub balance-is : balance ≤ c .top
   pub stride-is : stride ≡ c .premium + 1
   pub size-is : size ≡ (c .top + 1) * stride
 
--- a discounted sum is at most the largest value reached
-pub expected-le : (c : Terms) (rs : Returns) (v : ℕ → ℕ → ℕ) (balance a most : ℕ) → Valid c → ValidReturns rs
-    → ((w : ℕ) → w ≤ c .top → v w a ≤ most) → expected c rs v balance a ≤ most
-unfolding expected reachedSum
-expected-le c rs v balance a most valid returns h =
-    discounted-average (c .discount) _ most (valid .discount)
-    (le-trans
-    (sum-le (λ k. rs .weight k * v (nextAccount (c .fee) (c .top) balance (rs .factor k)) a) (λ k. rs .weight k * most) (rs .count) (λ k l. mul-le-mul-left (rs .weight k) (h _ (account-le (c .fee) (c .top) balance (rs .factor k)))))
-    (le-of-eq (sum-times (rs .weight) most (rs .count) ∙ ap (λ (z : ℕ). z * most) (returns .total))))
+-- what is paid on arrival is on average at most 20,000 × top
+pub paid-sum-le : (c : Terms) (rs : Returns) (balance : ℕ) → ValidReturns rs → balance ≤ c .top
+    → paidSum c rs balance ≤ weightTotal * (20000 * c .top)
+unfolding paidSum
+paid-sum-le c rs balance returns h =
+    le-trans
+    (sum-le _ (λ k. rs .weight k * (20000 * c .top)) (rs .count) (λ k l.
+    mul-le-mul-left (rs .weight k) (excess-paid-le (c .fee) (c .top) balance (rs .factor k) h (returns .factor k l))))
+    (le-of-eq (sum-times (rs .weight) (20000 * c .top) (rs .count) ∙ ap (λ (z : ℕ). z * (20000 * c .top)) (returns .total)))
+
+state-sum-le : (c : Terms) (rs : Returns) (v : ℕ → ℕ → ℕ) (balance a most : ℕ) → ValidReturns rs
+    → ((w : ℕ) → w ≤ c .top → v w a ≤ most) → stateSum c rs v balance a ≤ weightTotal * most
+unfolding stateSum
+state-sum-le c rs v balance a most returns h =
+    le-trans
+    (sum-le _ (λ k. rs .weight k * most) (rs .count) (λ k l.
+    mul-le-mul-left (rs .weight k) (h _ (account-le (c .fee) (c .top) balance (rs .factor k)))))
+    (le-of-eq (sum-times (rs .weight) most (rs .count) ∙ ap (λ (z : ℕ). z * most) (returns .total)))
+
+-- a discounted sum over the values of a layer is within the bound on an entry
+pub expected-le : (c : Terms) (rs : Returns) (v : ℕ → ℕ → ℕ) (balance a : ℕ) → Valid c → ValidReturns rs → balance ≤ c .top
+    → ((w : ℕ) → w ≤ c .top → v w a ≤ stateMost c 1) → expected c rs v balance a ≤ entryMost
+unfolding expected
+expected-le c rs v balance a valid returns top h =
+    let paid = paid-sum-le c rs balance returns top in
+    let states = state-sum-le c rs v balance a (stateMost c 1) returns h in
+    let room = value-room c rs valid returns in
+    discounted-average (c .discount) _ entryMost (valid .discount)
+    (omega (arith, two-sums c rs v balance a, value-most valid))
 
 -- only the values that it can reach count
 pub expected-same : (c : Terms) (rs : Returns) (v v' : ℕ → ℕ → ℕ) (balance a : ℕ) → ((w : ℕ) → w ≤ c .top → v w a ≡ v' w a)
@@ -116,4 +155,6 @@ pub expected-same : (c : Terms) (rs : Returns) (v v' : ℕ → ℕ → ℕ) (bal
 unfolding expected reachedSum
 expected-same c rs v v' balance a h =
     ap (discounted (c .discount))
-    (sum-eq _ _ (rs .count) (λ k l. ap (λ (z : ℕ). rs .weight k * z) (h _ (account-le (c .fee) (c .top) balance (rs .factor k)))))
+    (sum-eq _ _ (rs .count) (λ k l.
+    ap (λ (z : ℕ). rs .weight k * (excessPaid (c .fee) (c .top) balance (rs .factor k) + z))
+    (h _ (account-le (c .fee) (c .top) balance (rs .factor k)))))

@@ -7,20 +7,22 @@ ghost use Rattle.decision.specs.Index.{sum};
 ghost use Rattle.slices.specs.Stored.{stored};
 ghost use Rattle.slices.specs.Rows.{cells, flat};
 ghost use Rattle.rules.specs.Contract.{topMost, weightTotal, returnsMost, discountMost, returnsOf};
-ghost use Rattle.laws.specs.Bounds.{valueMost, entryMost};
+ghost use Rattle.laws.specs.Bounds.{stateMost, entryMost};
 ghost use Rattle.rules.specs.Date.{nextAccount, discounted};
 ghost use Rattle.rules.specs.FixedTerm.{layerSize};
 ghost use Rattle.laws.specs.Accepted.{Valid};
 ghost use Rattle.contract.specs.Reading.{termsIn};
 ghost use Rattle.expect.specs.Expected.{term, productMost, Largest, Reached, Run, Summed, Row, Listing, Values, Within};
-ghost use Rattle.expect.specs.Expected.{expected, scaled};
+ghost use Rattle.expect.specs.Expected.{paidSum, expected, scaled};
 use contract::Contract;
 
-// How many returns are averaged, by what they are discounted, and what no value reached passes.
+// How many returns are averaged, by what they are discounted, what no value of the layer passes, and what the returns pay on
+// arrival, by weight.
 struct Average {
     count: usize,
     discount: usize,
     most: usize,
+    paid: usize,
 }
 
 // The value that return k reaches with guarantee a.
@@ -84,7 +86,7 @@ fn reached_sum(
     a: usize,
 ) -> usize
     requires { ⌜ (count ≤ returnsMost) × ((k : ℕ) → k < count → Reached (now work) (now starts) (now weights) entryMost a k) ⌝ }
-    ensures { λ r. ⌜ (r ≡ sum (term (now (work .entry)) (now (starts .entry)) (now (weights .entry)) a) count) × (r ≤ 100000000000000000) ⌝ }
+    ensures { λ r. ⌜ (r ≡ sum (term (now (work .entry)) (now (starts .entry)) (now (weights .entry)) a) count) × (r ≤ productMost * returnsMost) ⌝ }
 {
     let mut s: usize = 0;
     for k in 0..count {
@@ -247,23 +249,25 @@ fn scaled_sum(low: bool, discount: usize, sum: usize) -> u64
     8192 * date::discounted(discount, sum) as u64
 }
 
-// The sums, discounted and times 8,192.
+// The sums and what is paid on arrival, discounted and times 8,192.
 fn store_sums(work: &mut [u64], sums: &[usize; 512], average: Average, to: usize, n: usize)
     requires { ⌜
         (average .discount ≤ discountMost)
         × (n ≤ 512)
         × (to + n ≤ length (now work))
-        × (average .most ≤ entryMost)
+        × (weightTotal * average .most + average .paid ≤ weightTotal * entryMost)
         × ((j : ℕ) → j < n → getD (now sums) j 0 ≤ weightTotal * average .most)
         ⌝ }
     ensures { λ _. ⌜
         now (work .exit)
-        ≡ stored (now (work .entry)) to (λ (j : ℕ). 8192 * discounted (average .discount) (getD (now (sums .entry)) j 0)) n
+        ≡ stored (now (work .entry)) to
+        (λ (j : ℕ). 8192 * discounted (average .discount) (getD (now (sums .entry)) j 0 + average .paid))
+        n
         ⌝ }
 {
-    let low = average.most <= 1800000000;
+    let low = 10000 * average.most + average.paid <= 18000000000000;
     for j in 0..n {
-        work[to + j] = scaled_sum(low, average.discount, sums[j]);
+        work[to + j] = scaled_sum(low, average.discount, sums[j] + average.paid);
     }
 }
 
@@ -284,7 +288,8 @@ fn expect_run(
     p: Part,
 )
     requires { ⌜
-        Row (now work) (now starts) (now weights) (average .count) (average .discount) (average .most) (p .to) (p .from + p .n)
+        Row (now work) (now starts) (now weights) (average .count) (average .discount) (average .most) (average .paid) (p .to)
+        (p .from + p .n)
         × (p .n ≤ 512)
         × (512 ≤ length (now sums))
         ⌝ }
@@ -294,7 +299,7 @@ fn expect_run(
         (λ (j : ℕ).
         8192
         * discounted (average .discount)
-        (sum (term (now (work .entry)) (now (starts .entry)) (now (weights .entry)) (p .from + j)) (average .count)))
+        (sum (term (now (work .entry)) (now (starts .entry)) (now (weights .entry)) (p .from + j)) (average .count) + average .paid))
         (p .n))
         × (512 ≤ length (now (sums .exit)))
         ⌝ }
@@ -314,7 +319,7 @@ fn expect_row(
     stride: usize,
 )
     requires { ⌜
-        Row (now work) (now starts) (now weights) (average .count) (average .discount) (average .most) to stride
+        Row (now work) (now starts) (now weights) (average .count) (average .discount) (average .most) (average .paid) to stride
         × (512 ≤ length (now sums))
         ⌝ }
     ensures { λ _. ⌜
@@ -323,7 +328,7 @@ fn expect_row(
         (λ (a : ℕ).
         8192
         * discounted (average .discount)
-        (sum (term (now (work .entry)) (now (starts .entry)) (now (weights .entry)) a) (average .count)))
+        (sum (term (now (work .entry)) (now (starts .entry)) (now (weights .entry)) a) (average .count) + average .paid))
         stride)
         × (512 ≤ length (now (sums .exit)))
         ⌝ }
@@ -345,7 +350,7 @@ fn fill_weights(weights: &mut [u32; 64], list: &[u8], count: usize)
     }
 }
 
-// Where the rows start to which the returns lead from a balance.
+// Where the rows start to which the returns lead from a balance. Gives what they pay on arrival, by weight.
 fn fill_starts(
     starts: &mut [usize; 64],
     list: &[u8],
@@ -353,14 +358,24 @@ fn fill_starts(
     c: Contract,
     balance: usize,
     stride: usize,
-)
+) -> usize
     requires { ⌜ Listing (now list) count × Valid (termsIn c) × (balance ≤ topMost) × (stride ≤ 4001) ⌝ }
-    ensures { λ _. ⌜ now (starts .exit) ≡ stored (now (starts .entry)) 0 (λ (k : ℕ). nextAccount (c .fee) (c .top) balance (returnsOf (now (list .entry)) .factor k) * stride) count ⌝ }
+    ensures { λ r. ⌜
+        (r ≡ paidSum (termsIn c) (returnsOf (now (list .entry))) balance)
+        × (now (starts .exit)
+        ≡ stored (now (starts .entry)) 0
+        (λ (k : ℕ). nextAccount (c .fee) (c .top) balance (returnsOf (now (list .entry)) .factor k) * stride)
+        count)
+        ⌝ }
 {
+    let mut paid: usize = 0;
     for k in 0..count {
         let factor = contract::word(list, Contract::RETURN_BYTES * k);
+        let weight = contract::word(list, Contract::RETURN_BYTES * k + 2);
         starts[k] = date::next_account(c.fee, c.top, balance, factor) * stride;
+        paid += weight * date::excess_paid(c.fee, c.top, balance, factor);
     }
+    paid
 }
 
 // The largest of the first n entries, 0 where there are none.
@@ -375,14 +390,14 @@ fn largest(work: &[u64], n: usize) -> usize
     r
 }
 
-// A number that no value of the first layer passes. The values are looked at only where those of such a contract could pass 32
-// bits.
+// A number that no value of the first layer passes. The values are looked at only where the sums of such a contract could be too
+// large for one product.
 fn most(work: &[u64], size: usize, c: Contract) -> usize
     requires { ⌜ Values (termsIn c) (now work) × (size ≡ layerSize (termsIn c)) ⌝ }
-    ensures { λ r. ⌜ (r ≤ valueMost (termsIn c)) × Within (termsIn c) (now (work .entry)) r ⌝ }
+    ensures { λ r. ⌜ (r ≤ stateMost (termsIn c) 1) × Within (termsIn c) (now (work .entry)) r ⌝ }
 {
-    let most = Contract::FACTOR_MOST * (c.top * c.dates);
-    if most < 4294967296 {
+    let most = 10000 * c.top + (c.dates - 1) * (20000 * c.top);
+    if most <= 1700000000 {
         return most;
     }
     date::smaller(most, largest(work, size))
@@ -403,17 +418,19 @@ pub fn expect_layer(work: &mut [u64], list: &[u8], count: usize, c: Contract)
     let size = (c.top + 1) * stride;
     let mut weights = [0u32; 64];
     fill_weights(&mut weights, list, count);
-    let average = Average {
-        count,
-        discount: c.discount,
-        most: most(&work[..], size, c),
-    };
+    let most = most(&work[..], size, c);
     // One array of each kind for all balances: what a balance leaves there does not matter to the next, and clearing takes time.
     let mut sums = [0usize; 512];
     let mut starts = [0usize; 64];
     let end = c.top + 1;
     for balance in 0..end {
-        fill_starts(&mut starts, list, count, c, balance, stride);
+        let paid = fill_starts(&mut starts, list, count, c, balance, stride);
+        let average = Average {
+            count,
+            discount: c.discount,
+            most,
+            paid,
+        };
         let to = size + balance * stride;
         expect_row(work, &mut sums, &starts, &weights, average, to, stride);
     }
@@ -428,7 +445,7 @@ pub fn start_value(work: &[u64], list: &[u8], count: usize, c: Contract) -> u64
     let mut weights = [0u32; 64];
     fill_weights(&mut weights, list, count);
     let mut starts = [0usize; 64];
-    fill_starts(&mut starts, list, count, c, c.premium, stride);
+    let paid = fill_starts(&mut starts, list, count, c, c.premium, stride);
     let s = reached_sum(work, &starts, &weights, count, c.premium);
-    date::discounted(c.discount, s) as u64
+    date::discounted(c.discount, s + paid) as u64
 }

@@ -1,19 +1,19 @@
 -- Values, amounts and accounts of an accepted contract fit the widths of the slices. Assumes nothing.
-use mathlib.Core.Path.{ap, _∙_}
-use Prim.Native.Nat.{ℕ, _+_, _-_, _*_, _/_, _^_, _≤_, _<_}
-use native.Mathlib.Nat.{le-trans, le-of-eq, mul-le-mul, mul-le-mul-left, mul-le-mul-right, mul-comm, mul-assoc, div-le-of-le-mul, sub-le, max-le, min-le-left}
+use mathlib.Core.Path.{_≡_, ap, _∙_}
+use Prim.Native.Nat.{ℕ, suc, _+_, _-_, _*_, _^_, _≤_, _<_}
+use native.Mathlib.Nat.{le-trans, le-of-eq, mul-le-mul, mul-le-mul-left, mul-le-mul-right, mul-comm, mul-assoc, div-le-of-le-mul, sub-le-sub-left, max-le, min-le-left}
 use native.Mathlib.Omega.{arith}
 use lib.Dec.{T}
 use Rattle.decision.specs.Index.{sum-le, sum-times}
-use Rattle.decision.specs.Process.{Table, tableValue, Decides}
+use Rattle.decision.specs.Process.{Table, tableValue, startTableValue, Decides}
 use Rattle.decision.specs.Optimal.{recorded-best}
-use Rattle.decision.specs.Bounds.{value-bounded, start-bounded, table-bounded}
+use Rattle.decision.specs.Bounds.{value-bounded, start-bounded, table-bounded, start-table-bounded}
 use Rattle.rules.specs.Contract.{Terms, Returns, topMost, datesMost, factorMost, discountMost, weightTotal}
-use Rattle.rules.specs.Date.{Behaviour, dynamic, cash, nextAccount, maturityValue, discounted}
+use Rattle.rules.specs.Date.{Behaviour, dynamic, liftedAccount, nextAccount, maturityValue, discounted}
 use Rattle.rules.specs.Product.{stateValue, recordedAmount, contractValue}
-use Rattle.rules.specs.FixedTerm.{State, Held, InRange, freeIn, admissibleIn, cashIn, reachBy, expectOver, processOf, fixedTerm}
+use Rattle.rules.specs.FixedTerm.{State, Held, InRange, freeIn, admissibleIn, rateIn, cashIn, afterIn, reachBy, paidBy, expectOver, startOf, processOf, fixedTerm}
 use Rattle.laws.specs.Accepted.{Valid, ValidReturns}
-use Rattle.laws.specs.Date.{admits-within, amount-most}
+use Rattle.laws.specs.Date.{admits-within, amount-most, cash-le, excess-paid-le, period-le}
 use Rattle.laws.specs.FixedTerm.{opened, closed}
 
 -- a discounted average is at most the largest value reached
@@ -21,12 +21,12 @@ pub discounted-average : (d s x : ℕ) → d ≤ discountMost → s ≤ weightTo
 unfolding discounted
 discounted-average d s x h l = div-le-of-le-mul 10000000000 (le-trans (mul-le-mul h l) (omega arith))
 
--- a withdrawal pays at most 10,000 × the amount
-pub cash-le : (rate m t : ℕ) → cash rate m t ≤ 10000 * t
-unfolding cash
-cash-le rate m t = sub-le _ _
+-- what no state's value passes on date i: 10,000 × top at maturity, and 20,000 × top for each decision to come with the arrival
+-- after it
+abbrev pub stateMost : Terms → ℕ → ℕ
+stateMost c i = 10000 * c .top + (c .dates - i) * (20000 * c .top)
 
--- what no value of a contract passes: for each period 10,000 × the most that a factor makes of top
+-- what no value reached passes, nor a contract's: for each period 10,000 × the most that a factor makes of top
 abbrev pub valueMost : Terms → ℕ
 valueMost c = factorMost * (c .top * c .dates)
 
@@ -47,9 +47,21 @@ module _ (c : Terms) (rs : Returns) (v : Valid c) (u : ValidReturns rs) where
   unfolding processOf maturityValue
   ends s g = mul-le-mul-left 10000 (max-le (g .account) (le-trans (g .guarantee) (v .premium)))
 
-  pays : (b : Behaviour) (i : ℕ) (s : State) (t : ℕ) → InRange c s → T (admissibleIn c b s t) → processOf c rs .cash i s t ≤ 10000 * c .top
+  pays : (b : Behaviour) (i : ℕ) (s : State) (t : ℕ) → InRange c s → T (admissibleIn c b s t) → processOf c rs .cash i s t ≤ 20000 * c .top
   unfolding processOf cashIn
-  pays b i s t g p = le-trans (cash-le _ _ t) (mul-le-mul-left 10000 (amount-le b s t g p))
+  pays b i s t g p = le-trans (cash-le _ _ t) (let l = amount-le b s t g p in omega arith)
+
+  -- what is withdrawn, with what is paid on the arrival after it
+  arrives : (b : Behaviour) (i : ℕ) (s : State) (t k : ℕ) → InRange c s → T (admissibleIn c b s t) → k < rs .count
+      → processOf c rs .cash i s t + processOf c rs .paid (processOf c rs .after i s t) k ≤ 20000 * c .top
+  unfolding processOf cashIn afterIn paidBy
+  arrives b i s t k g p l =
+      period-le (rateIn c i) (freeIn c s) (c .fee) (c .top) (s .account) t (rs .factor k) (g .account) (amount-le b s t g p) (u .factor k l)
+
+  -- what the first return pays on arrival
+  starts : (k : ℕ) → k < rs .count → processOf c rs .paid (startOf c) k ≤ 20000 * c .top
+  unfolding processOf paidBy startOf
+  starts k l = excess-paid-le (c .fee) (c .top) (c .premium) (rs .factor k) (v .premium) (u .factor k l)
 
   pub averages : (i : ℕ) (h : Held) (x : ℕ → ℕ) (y : ℕ) → ((k : ℕ) → k < rs .count → x k ≤ y) → expectOver c rs i h x ≤ y
   unfolding expectOver
@@ -58,40 +70,55 @@ module _ (c : Terms) (rs : Returns) (v : Valid c) (u : ValidReturns rs) where
       (le-trans (sum-le (λ k. rs .weight k * x k) (λ k. rs .weight k * y) (rs .count) (λ k l. mul-le-mul-left (rs .weight k) (g k l)))
       (le-of-eq (sum-times (rs .weight) y (rs .count) ∙ ap (λ (z : ℕ). z * y) (u .total))))
 
-  -- each decision to come, and maturity, is worth at most 10,000 × top
-  pub state-value-le : (b : Behaviour) (i : ℕ) (s : State) → InRange c s
-      → stateValue (fixedTerm c rs) b i s ≤ 10000 * c .top + (c .dates - i) * (10000 * c .top)
+  -- a state's value is at most a bound in N and top
+  pub state-value-le : (b : Behaviour) (i : ℕ) (s : State) → InRange c s → stateValue (fixedTerm c rs) b i s ≤ stateMost c i
   unfolding stateValue fixedTerm processOf
   state-value-le b =
-      value-bounded (processOf c rs) (admissibleIn c b) (opened c rs b) (InRange c) (closed c rs b) (10000 * c .top) (10000 * c .top) ends (pays b) averages
+      value-bounded (processOf c rs) (admissibleIn c b) (opened c rs b) (InRange c) (closed c rs b) (10000 * c .top) (20000 * c .top)
+      ends (pays b) (arrives b) starts averages
 
   -- .. also where a table is followed
   pub table-value-le : (d : Table State) → ((i : ℕ) (s : State) → Decides (processOf c rs) (InRange c) i s → T (admissibleIn c dynamic s (d i s)))
       → (i : ℕ) (s : State) → 1 ≤ i → i ≤ c .dates → InRange c s
-      → tableValue (processOf c rs) d i s ≤ 10000 * c .top + (c .dates - i) * (10000 * c .top)
+      → tableValue (processOf c rs) d i s ≤ stateMost c i
   unfolding processOf
   table-value-le d admits i s l m g =
-      table-bounded (processOf c rs) (admissibleIn c dynamic) (opened c rs dynamic) (InRange c) (closed c rs dynamic) (10000 * c .top) (10000 * c .top) ends (pays dynamic) averages d admits i s l m g
+      table-bounded (processOf c rs) (admissibleIn c dynamic) (opened c rs dynamic) (InRange c) (closed c rs dynamic) (10000 * c .top)
+      (20000 * c .top) ends (pays dynamic) (arrives dynamic) starts averages d admits i s l m g
 
-  pub contract-value-le : (b : Behaviour) → contractValue (fixedTerm c rs) b ≤ 10000 * c .top + (c .dates - 1) * (10000 * c .top)
+  -- the contract's, with what the first return pays on arrival
+  pub contract-value-le : (b : Behaviour) → contractValue (fixedTerm c rs) b ≤ 20000 * c .top + stateMost c 1
   unfolding contractValue fixedTerm processOf
   contract-value-le b =
-      start-bounded (processOf c rs) (admissibleIn c b) (opened c rs b) (InRange c) (closed c rs b) (10000 * c .top) (10000 * c .top) ends (pays b) averages
+      start-bounded (processOf c rs) (admissibleIn c b) (opened c rs b) (InRange c) (closed c rs b) (10000 * c .top) (20000 * c .top)
+      ends (pays b) (arrives b) starts averages
 
-  -- .. so no value passes the most that an entry holds
-  pub value-room : (i : ℕ) → 10000 * c .top + (c .dates - i) * (10000 * c .top) ≤ valueMost c
-  value-room i =
-      let n = mul-le-mul-right (10000 * c .top) (sub-le (c .dates) i) in
-      let one = mul-le-mul-left (c .top) (v .dates-least) in
-      omega (arith, mul-comm (c .dates) (10000 * c .top), mul-assoc 10000 (c .top) (c .dates))
+  pub table-start-le : (d : Table State) → ((i : ℕ) (s : State) → Decides (processOf c rs) (InRange c) i s → T (admissibleIn c dynamic s (d i s)))
+      → startTableValue (processOf c rs) d ≤ 20000 * c .top + stateMost c 1
+  unfolding processOf
+  table-start-le d admits =
+      start-table-bounded (processOf c rs) (admissibleIn c dynamic) (opened c rs dynamic) (InRange c) (closed c rs dynamic)
+      (10000 * c .top) (20000 * c .top) ends (pays dynamic) (arrives dynamic) starts averages d admits (v .dates-least)
 
-  pub state-value-most : (b : Behaviour) (i : ℕ) (s : State) → InRange c s → stateValue (fixedTerm c rs) b i s ≤ valueMost c
-  state-value-most b i s g = le-trans (state-value-le b i s g) (value-room i)
+  -- values fall with the decisions to come, so that of date 1 bounds every layer ..
+  pub state-most-first : (i : ℕ) → 1 ≤ i → stateMost c i ≤ stateMost c 1
+  state-most-first i l = let n = mul-le-mul-right (20000 * c .top) (sub-le-sub-left l (c .dates)) in omega arith
+
+  -- .. and with what is paid on arrival it is within the bound on an entry
+  pub value-room : 20000 * c .top + stateMost c 1 ≤ valueMost c
+  value-room =
+      let n : c .dates ≡ suc (c .dates - 1) = omega (arith, v .dates-least) in
+      let e : c .top * c .dates ≡ (c .dates - 1) * c .top + c .top =
+      ap (λ (x : ℕ). c .top * x) n ∙ (let z = mul-comm (c .top) (c .dates - 1) in omega arith) in
+      omega (arith, mul-assoc (c .dates - 1) 20000 (c .top), mul-comm (c .dates - 1) 20000)
+
+  pub state-value-most : (b : Behaviour) (i : ℕ) (s : State) → 1 ≤ i → InRange c s → stateValue (fixedTerm c rs) b i s ≤ stateMost c 1
+  state-value-most b i s l g = le-trans (state-value-le b i s g) (state-most-first i l)
 
   pub table-value-most : (d : Table State)
       → ((i : ℕ) (s : State) → Decides (processOf c rs) (InRange c) i s → T (admissibleIn c dynamic s (d i s)))
-      → (i : ℕ) (s : State) → 1 ≤ i → i ≤ c .dates → InRange c s → tableValue (processOf c rs) d i s ≤ valueMost c
-  table-value-most d admits i s l m g = le-trans (table-value-le d admits i s l m g) (value-room i)
+      → (i : ℕ) (s : State) → 1 ≤ i → i ≤ c .dates → InRange c s → tableValue (processOf c rs) d i s ≤ stateMost c 1
+  table-value-most d admits i s l m g = le-trans (table-value-le d admits i s l m g) (state-most-first i l)
 
   -- amounts and accounts fit 16 bits
   pub amount-fits : (b : Behaviour) (s : State) (t : ℕ) → InRange c s → T (admissibleIn c b s t) → t < 2 ^ 16
@@ -104,4 +131,4 @@ module _ (c : Terms) (rs : Returns) (v : Valid c) (u : ValidReturns rs) where
 
   pub account-fits : (h : Held) (k : ℕ) → reachBy c rs h k .account < 2 ^ 16
   unfolding reachBy nextAccount
-  account-fits h k = let l = min-le-left (c .top) (h .balance * rs .factor k * (10000 - c .fee) / 100000000) in omega (arith, v .top)
+  account-fits h k = let l = min-le-left (c .top) (liftedAccount (c .fee) (h .balance) (rs .factor k)) in omega (arith, v .top)

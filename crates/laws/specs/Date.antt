@@ -2,12 +2,14 @@
 use mathlib.Core.Bool.{Bool, true, false, cond, _&&_, _||_}
 use mathlib.Core.Logic.{_⊎_, inl, inr}
 use mathlib.Core.Path.{_≡_, refl}
-use Prim.Native.Nat.{ℕ, _-_, _*_, _/_, _≤_, _<_, min, max}
-use native.Mathlib.Nat.{le-refl, le-trans, max-le, min-le-left, min-le-right}
+use Prim.Native.Nat.{ℕ, _+_, _-_, _*_, _/_, _≤_, _<_, min, max}
+use native.Mathlib.Nat.{le-refl, le-trans, max-le, min-le-left, min-le-right, sub-le}
 use native.Mathlib.Omega.{arith}
 use lib.Dec.{T, leb, ltb, eqb, eqb→eq, eqb-refl, leb→le, le→leb, ltb→lt, lt→ltb}
 use Rattle.decision.specs.Choice.{and-left, and-right, and-intro}
-use Rattle.rules.specs.Date.{Behaviour, static, mixed, dynamic, freeAmount, largestAmount, surrenders, admits, guaranteeAfter, nextAccount}
+use Rattle.rules.specs.Contract.{factorMost}
+use Rattle.rules.specs.Date.{Behaviour, static, mixed, dynamic, freeAmount, largestAmount, surrenders, admits, cash, guaranteeAfter, balanceAfter, nextAccount, excess, excessPaid}
+use Rattle.rules.specs.Facts.{lifted-le}
 
 -- ---- admissible amounts
 or-left : (a b : Bool) → T a → T (a || b)
@@ -96,6 +98,25 @@ guarantee-le m w a t = go (leb t m)
 pub account-le : (fee top balance factor : ℕ) → nextAccount fee top balance factor ≤ top
 unfolding nextAccount
 account-le fee top balance factor = min-le-left _ _
+
+-- of a balance up to top a return pays at most 20,000 × top on arrival
+pub excess-paid-le : (fee top balance factor : ℕ) → balance ≤ top → factor ≤ factorMost → excessPaid fee top balance factor ≤ 20000 * top
+unfolding excessPaid excess
+excess-paid-le fee top balance factor h l = let x = lifted-le fee balance factor l in omega arith
+
+-- a withdrawal pays at most 10,000 × the amount ..
+pub cash-le : (rate m t : ℕ) → cash rate m t ≤ 10000 * t
+unfolding cash
+cash-le rate m t = sub-le _ _
+
+-- .. and it and the arrival after it together no more than an arrival can: what is withdrawn is not lifted
+pub period-le : (rate m fee top w t factor : ℕ) → w ≤ top → t ≤ top → factor ≤ factorMost
+    → cash rate m t + excessPaid fee top (balanceAfter w t) factor ≤ 20000 * top
+unfolding excessPaid excess balanceAfter
+period-le rate m fee top w t factor h k l =
+    let x = lifted-le fee (w - t) factor l in
+    let y = cash-le rate m t in
+    omega arith
 
 -- above m the whole account is a mixed choice
 pub admits-surrender : (m w : ℕ) → m < w → T (admits mixed m w w)

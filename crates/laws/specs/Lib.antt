@@ -7,8 +7,10 @@ pub mod Valuing
 pub mod ThirdDemand
 pub mod Bounds
 pub mod Walk
+pub mod Cash
 pub mod Booking
 pub mod Supplied
 pub mod Step
+pub mod Excess
 pub mod Map
 pub mod Narrow

@@ -6,28 +6,37 @@ use native.Mathlib.Nat.{le-refl, mul-le-mul}
 use native.Mathlib.Omega.{arith}
 use lib.Dec.{T, eqb, eqb→eq, nltb→le}
 use lib.ListN.{getD, length}
-use Rattle.decision.specs.Index.{tabulate, first}
+use borrow.Author.Tests.{leb-false}
+use Rattle.decision.specs.Index.{tabulate, first, all-fail}
 use Rattle.decision.specs.Process.{Table, tableValue, startTableValue, Decides}
 use Rattle.decision.specs.Layers.{lookup, layer}
 use Rattle.rules.specs.Contract.{Terms, Returns, termsOf, returnsOf}
 use Rattle.rules.specs.Date.{Behaviour, dynamic}
-use Rattle.rules.specs.Product.{stateValue, contractValue, valueLayer, suppliedValue, suppliedLayer, walkState, walkAmount, walkCash}
-use Rattle.rules.specs.FixedTerm.{State, InRange, freeIn, admissibleIn, rateIn, cashIn, reachBy, startOf, processOf, layerSize, layoutOf, fixedTerm}
+use Rattle.rules.specs.Product.{stateValue, contractValue, valueLayer, suppliedValue, suppliedLayer, walkState, walkAmount, walkPaid, walkCash}
+use Rattle.rules.specs.FixedTerm.{State, InRange, freeIn, admissibleIn, rateIn, cashIn, processOf, layerSize, layoutOf, fixedTerm}
 use Rattle.rules.specs.Refusals.{checkEach, accepted, recordChecks, listChecks}
 use Rattle.rules.specs.Operations.{productOf, answer, behaviourOf, tableSize, valuingVerdict, valuingAnswer, badEntry, tableChecks, suppliedChecks, suppliedVerdict, suppliedAnswer, badDate, pathChecks, walkChecks, walkVerdict}
 use Rattle.laws.specs.Accepted.{Valid, ValidReturns, AllPass, all-pass, pass-right, not-not, then-earlier, both-terms, both-returns, success-reports}
-use Rattle.laws.specs.FixedTerm.{closed, placed-in-range}
-use Rattle.laws.specs.Bounds.{cash-le, amount-le, ends, averages, state-value-le, table-value-le, contract-value-le}
+use Rattle.laws.specs.Date.{cash-le}
+use Rattle.laws.specs.FixedTerm.{placed-in-range}
+use Rattle.laws.specs.Bounds.{amount-le, ends, stateMost, state-value-le, table-value-le, contract-value-le, table-start-le}
 use Rattle.laws.specs.ThirdDemand.{valuing-terms, valuing-returns, valuing-reports}
 use Rattle.laws.specs.Supplied.{all-admitted}
-use Rattle.laws.specs.Walk.{walk-in-range, walk-admits}
+use Rattle.laws.specs.Walk.{walk-in-range, walk-admits, walk-paid-le}
 
 module _ (c : Terms) (rs : Returns) (v : Valid c) (u : ValidReturns rs) where
-  -- the largest is 1,640,000,000
-  pub value-narrow : (i : ℕ) → 10000 * c .top + (c .dates - i) * (10000 * c .top) < 2 ^ 32
+  -- the largest is 3,240,000,000, also with what is paid on arrival
+  pub value-narrow : (i : ℕ) → stateMost c i < 2 ^ 32
   value-narrow i =
-      let t : 10000 * c .top ≤ 40000000 = omega (arith, v .top) in
+      let t : 20000 * c .top ≤ 80000000 = omega (arith, v .top) in
       let n : c .dates - i ≤ 40 = omega (arith, v .dates) in
+      let p = mul-le-mul n t in
+      omega arith
+
+  pub start-narrow : 20000 * c .top + stateMost c 1 < 2 ^ 32
+  start-narrow =
+      let t : 20000 * c .top ≤ 80000000 = omega (arith, v .top) in
+      let n : c .dates - 1 ≤ 39 = omega (arith, v .dates) in
       let p = mul-le-mul n t in
       omega arith
 
@@ -36,7 +45,7 @@ module _ (c : Terms) (rs : Returns) (v : Valid c) (u : ValidReturns rs) where
   state-value-narrow b i s g = let l = state-value-le c rs v u b i s g in let m = value-narrow i in omega arith
 
   pub contract-value-narrow : (b : Behaviour) → contractValue (fixedTerm c rs) b < 2 ^ 32
-  contract-value-narrow b = let l = contract-value-le c rs v u b in let m = value-narrow 1 in omega arith
+  contract-value-narrow b = let l = contract-value-le c rs v u b in let m = start-narrow in omega arith
 
   -- the same of a table whose entries are admissible
   module _ (d : Table State)
@@ -50,25 +59,19 @@ module _ (c : Terms) (rs : Returns) (v : Valid c) (u : ValidReturns rs) where
           omega arith
 
       pub table-start-narrow : startTableValue (processOf c rs) d < 2 ^ 32
-      unfolding startTableValue processOf
-      table-start-narrow =
-          let reached : ℕ → ℕ = λ k. tableValue (processOf c rs) d 1 (reachBy c rs (startOf c) k) in
-          let x = averages c rs v u 0 (startOf c) reached _ (λ k l.
-          table-value-le c rs v u d admits 1 _ (le-refl 1) (v .dates-least) (closed c rs dynamic .starts k l)) in
-          let y = value-narrow 1 in
-          omega arith
+      table-start-narrow = let x = table-start-le c rs v u d admits in let y = start-narrow in omega arith
 
-  -- cash, and the payment at maturity
-  pub cash-narrow : (b : Behaviour) (i : ℕ) (s : State) (t : ℕ) → InRange c s → T (admissibleIn c b s t)
-      → cashIn c i s t < 2 ^ 32
+  -- cash, and the payment at maturity, each with what is paid on arrival
+  pub cash-narrow : (b : Behaviour) (i : ℕ) (s : State) (t paid : ℕ) → InRange c s → T (admissibleIn c b s t) → paid ≤ 20000 * c .top
+      → paid + cashIn c i s t < 2 ^ 32
   unfolding cashIn
-  cash-narrow b i s t g p =
+  cash-narrow b i s t paid g p few =
       let l = cash-le (rateIn c i) (freeIn c s) t in
       let m = amount-le c rs v u b s t g p in
       omega (arith, v .top)
 
-  pub maturity-narrow : (s : State) → InRange c s → processOf c rs .final s < 2 ^ 32
-  maturity-narrow s g = omega (arith, ends c rs v u s g, v .top)
+  pub maturity-narrow : (s : State) (paid : ℕ) → InRange c s → paid ≤ 20000 * c .top → paid + processOf c rs .final s < 2 ^ 32
+  maturity-narrow s paid g few = omega (arith, ends c rs v u s g, v .top)
 
 -- ---- lists
 abbrev pub AllNarrow : List ℕ → Type 0
@@ -92,21 +95,30 @@ layer-narrow c f h =
 
 -- ---- a walk in which no date is bad
 module _ (c : Terms) (rs : Returns) (table path : List ℕ) (none : c .dates - 1 ≤ first (badDate c rs table path) (c .dates - 1)) where
-  pub walk-narrow : Valid c → ValidReturns rs → length path ≡ c .dates
+  pub walk-narrow : Valid c → ValidReturns rs → length path ≡ c .dates → ((j : ℕ) → j < c .dates → getD path j 0 < rs .count)
       → AllNarrow (walkCash (fixedTerm c rs) table path)
   unfolding walkCash fixedTerm processOf
-  walk-narrow v u long = tabulate-narrow (c .dates - 1) _ _ pays ends
+  walk-narrow v u long numbers = tabulate-narrow (c .dates - 1) _ _ pays ends
     where
-      pays : (j : ℕ) → j < c .dates - 1 → cashIn c (suc j) (walkState (fixedTerm c rs) table path (suc j)) (walkAmount (fixedTerm c rs) table path (suc j)) < 2 ^ 32
-      pays j l = cash-narrow c rs v u dynamic (suc j) _ _ (walk-in-range c rs table path j (omega arith)) (walk-admits c rs table path none j l)
+      arrives : (j : ℕ) → j < c .dates → walkPaid (fixedTerm c rs) table path j ≤ 20000 * c .top
+      arrives j l = walk-paid-le c rs table path v j (omega arith) (u .factor _ (numbers j l))
+
+      pays : (j : ℕ) → j < c .dates - 1
+          → walkPaid (fixedTerm c rs) table path j
+          + cashIn c (suc j) (walkState (fixedTerm c rs) table path (suc j)) (walkAmount (fixedTerm c rs) table path (suc j))
+          < 2 ^ 32
+      pays j l =
+          cash-narrow c rs v u dynamic (suc j) _ _ _ (walk-in-range c rs table path j (omega arith))
+          (walk-admits c rs table path none j l) (arrives j (omega arith))
 
       last : InRange c (walkState (fixedTerm c rs) table path (c .dates))
       last =
           let up : suc (c .dates - 1) ≡ c .dates = omega (arith, v .dates-least) in
           subst (λ (n : ℕ). InRange c (walkState (fixedTerm c rs) table path n)) up (walk-in-range c rs table path (c .dates - 1) (omega arith))
 
-      ends : AllNarrow (processOf c rs .final (walkState (fixedTerm c rs) table path (c .dates)) ∷ [])
-      ends zero = maturity-narrow c rs v u _ last
+      ends : AllNarrow ((walkPaid (fixedTerm c rs) table path (c .dates - 1)
+          + processOf c rs .final (walkState (fixedTerm c rs) table path (c .dates))) ∷ [])
+      ends zero = maturity-narrow c rs v u _ _ last (arrives (c .dates - 1) (omega (arith, v .dates-least)))
       ends (suc e) = omega arith
 
 -- ---- what the calls answer, on any input that they accept
@@ -168,4 +180,5 @@ narrow-walk bytes list table path cashes a =
     let u = both-returns bytes list (then-earlier _ _ a) in
     let checks = pass-right (recordChecks bytes ++ listChecks list) _ (all-pass _ a) in
     let long = eqb→eq (length path) (c .dates) (not-not (eqb (length path) (c .dates)) (checks .1 .0)) in
-    walk-narrow c (returnsOf list) table path (nltb→le _ _ (checks .1 .1 .1 .0)) v u long
+    let numbers = all-fail _ (c .dates) (nltb→le _ _ (checks .1 .1 .0)) in
+    walk-narrow c (returnsOf list) table path (nltb→le _ _ (checks .1 .1 .1 .0)) v u long (λ j l. leb-false _ _ (numbers j l))

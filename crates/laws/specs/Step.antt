@@ -40,6 +40,7 @@ paying pays X = record {
     cash = pays;
     after = X .process .after;
     reach = X .process .reach;
+    paid = X .process .paid;
     expect = X .process .expect;
     final = X .process .final;
   };

@@ -1,9 +1,9 @@
 -- A walk, date by date, and what it conserves. Assumes nothing.
 use mathlib.Core.List.{List, _++_}
 use mathlib.Core.Bool.{true, false, not, _||_}
-use mathlib.Core.Path.{_≡_, ap, sym, _∙_, subst}
-use Prim.Native.Nat.{ℕ, zero, suc, _+_, _-_, _≤_, _<_}
-use native.Mathlib.Nat.{le-refl, zero-add, min-le-right}
+use mathlib.Core.Path.{_≡_, refl, ap, sym, _∙_, subst}
+use Prim.Native.Nat.{ℕ, zero, suc, _+_, _-_, _*_, _≤_, _<_}
+use native.Mathlib.Nat.{le-refl, le-trans, zero-add, sub-le, min-le-right}
 use native.Mathlib.Omega.{arith}
 use lib.Dec.{T, leb, ltb, eqb, eqb→eq, nltb→le}
 use lib.ListN.{getD, length, take}
@@ -12,14 +12,14 @@ use Rattle.decision.specs.Index.{sum, first, all-fail}
 use Rattle.decision.specs.Process.{met, startMet}
 use Rattle.decision.specs.Layers.{lookup}
 use Rattle.decision.specs.Optimal.{Steps, startMet-steps}
-use Rattle.rules.specs.Contract.{Terms, Returns, termsOf, returnsOf}
-use Rattle.rules.specs.Date.{dynamic, freeAmount}
-use Rattle.rules.specs.Product.{Product, walkState, walkAmount}
-use Rattle.rules.specs.FixedTerm.{State, InRange, freeIn, admissibleIn, afterIn, reachBy, startOf, processOf, fixedTerm}
+use Rattle.rules.specs.Contract.{Terms, Returns, termsOf, returnsOf, factorMost}
+use Rattle.rules.specs.Date.{dynamic, freeAmount, balanceAfter}
+use Rattle.rules.specs.Product.{Product, walkState, walkAmount, walkHeld, walkPaid}
+use Rattle.rules.specs.FixedTerm.{State, InRange, freeIn, admissibleIn, afterIn, reachBy, paidBy, startOf, processOf, fixedTerm}
 use Rattle.rules.specs.Refusals.{checkEach, accepted, refused, verdict, short, recordChecks, listChecks}
 use Rattle.rules.specs.Operations.{productOf, tableSize, badDate, pathChecks, walkChecks, walkVerdict}
-use Rattle.laws.specs.Accepted.{AllPass, all-pass, pass-right, nor-left, nor-right, not-not}
-use Rattle.laws.specs.Date.{guarantee-free}
+use Rattle.laws.specs.Accepted.{Valid, AllPass, all-pass, pass-right, nor-left, nor-right, not-not}
+use Rattle.laws.specs.Date.{guarantee-free, excess-paid-le}
 use Rattle.laws.specs.FixedTerm.{reached-in-range, after-falls}
 
 module _ {S H : Type 0} (X : Product S H) (table path : List ℕ) where
@@ -37,6 +37,13 @@ module _ {S H : Type 0} (X : Product S H) (table path : List ℕ) where
       ap (startMet (X .process) (lookup (X .layout) table)) (take-suc path i 0 m)
       ∙ startMet-steps (X .process) (lookup (X .layout) table) i (getD path i 0) (take i path) l (rw (length-take-le i path (omega arith)) (omega arith))
 
+  -- what is held after the amount of date i
+  pub walk-after : (i : ℕ) → 1 ≤ i
+      → walkHeld X table path i ≡ X .process .after i (walkState X table path i) (walkAmount X table path i)
+  unfolding walkHeld
+  walk-after zero l = absurd (omega arith)
+  walk-after (suc j) l = refl
+
 module _ (c : Terms) (rs : Returns) (table path : List ℕ) where
   -- the states met are in range, whatever the table holds
   pub walk-in-range : (n : ℕ) → n < length path → InRange c (walkState (fixedTerm c rs) table path (suc n))
@@ -48,6 +55,22 @@ module _ (c : Terms) (rs : Returns) (table path : List ℕ) where
       let t = walkAmount (fixedTerm c rs) table path (suc n) in
       subst (InRange c) (sym (walk-next (fixedTerm c rs) table path (suc n) (omega arith) l))
       (reached-in-range c rs (afterIn c (suc n) s t) _ (after-falls c (suc n) s t (walk-in-range n (omega arith) .guarantee)))
+
+  -- what is held after them is at most top and the premium
+  pub walk-held : c .premium ≤ c .top → (j : ℕ) → j < suc (length path)
+      → (walkHeld (fixedTerm c rs) table path j .balance ≤ c .top) × (walkHeld (fixedTerm c rs) table path j .guarantee ≤ c .premium)
+  unfolding walkHeld fixedTerm processOf startOf afterIn balanceAfter
+  walk-held below zero l = (below, le-refl _)
+  walk-held below (suc j) l =
+      let s = walkState (fixedTerm c rs) table path (suc j) in
+      let g = walk-in-range j (omega arith) in
+      (le-trans (sub-le _ _) (g .account), after-falls c (suc j) s (walkAmount (fixedTerm c rs) table path (suc j)) (g .guarantee))
+
+  -- .. so a return pays on arrival at most 20,000 × top
+  pub walk-paid-le : Valid c → (j : ℕ) → j < suc (length path) → rs .factor (getD path j 0) ≤ factorMost
+      → walkPaid (fixedTerm c rs) table path j ≤ 20000 * c .top
+  unfolding walkPaid fixedTerm processOf paidBy
+  walk-paid-le v j l f = excess-paid-le (c .fee) (c .top) _ _ (walk-held (v .premium) j l .0) f
 
   -- where no date is bad, the amounts met are admissible
   pub walk-admits : c .dates - 1 ≤ first (badDate c rs table path) (c .dates - 1) → (j : ℕ) → j < c .dates - 1
@@ -95,7 +118,8 @@ module _ (c : Terms) (rs : Returns) (table path cashes : List ℕ) where
       (nltb→le (length table) (tableSize c) (nor-left x y t), nltb→le (length cashes) (c .dates) (nor-right x y t))
 
 -- "While no amount on a walk passes m, amounts withdrawn so far plus the guarantee equal the premium": on date n + 1, after
--- the amounts of dates 1 to n
+-- the amounts of dates 1 to n. (iv) "An excess is no withdrawal where amounts withdrawn are summed": the sum is that of the
+-- table's amounts, whatever was paid on arrival.
 pub walk-conserves : (c : Terms) (rs : Returns) (table path : List ℕ) (n : ℕ) → n < length path
     → ((j : ℕ) → j < n → walkAmount (fixedTerm c rs) table path (suc j) ≤ freeIn c (walkState (fixedTerm c rs) table path (suc j)))
     → sum (λ j. walkAmount (fixedTerm c rs) table path (suc j)) n + walkState (fixedTerm c rs) table path (suc n) .guarantee

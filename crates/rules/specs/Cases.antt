@@ -8,15 +8,15 @@ use lib.IntN.{ℤ, pos}
 use lib.ListN.{replicate}
 use Rattle.decision.specs.Index.{sum, tabulate, first, firstFrom}
 use Rattle.decision.specs.Bits.{bit, fromBits, wordsFor, wordOf, wordsOf, setBits}
-use Rattle.decision.specs.Layers.{layers}
+use Rattle.decision.specs.Layers.{lookup, layers, entry}
 use Rattle.decision.specs.Choice.{largest, smallestBest}
-use Rattle.decision.specs.Process.{worth, valueOver, value, recorded, startValue}
+use Rattle.decision.specs.Process.{reached, worth, valueOver, value, recorded, startValue, met, startMet}
 use Rattle.rules.specs.Contract.{word, long, bytesOf, Terms, termsOf, returnsOf}
-use Rattle.rules.specs.Date.{Behaviour, static, mixed, dynamic, freeAmount, largestAmount, surrenders, admits, rateOn, penalty, cash, guaranteeAfter, balanceAfter, nextAccount, maturityValue, discounted, margin}
-use Rattle.rules.specs.Product.{stateValue, recordedAmount, contractValue, amountLayers}
-use Rattle.rules.specs.FixedTerm.{State, freeIn, admissibleIn, limitIn, cashIn, afterIn, reachBy, expectOver, startOf, processOf, layerSize, layoutOf, fixedTerm}
+use Rattle.rules.specs.Date.{Behaviour, static, mixed, dynamic, freeAmount, largestAmount, surrenders, admits, rateOn, penalty, cash, guaranteeAfter, balanceAfter, liftedAccount, nextAccount, excess, excessPaid, maturityValue, discounted, margin}
+use Rattle.rules.specs.Product.{stateValue, recordedAmount, contractValue, amountLayers, walkState, walkAmount, walkHeld, walkPaid, walkCash}
+use Rattle.rules.specs.FixedTerm.{State, freeIn, admissibleIn, limitIn, cashIn, afterIn, reachBy, paidBy, expectOver, startOf, processOf, layerSize, layoutOf, fixedTerm}
 use Rattle.rules.specs.Refusals.{checkEach, Verdict, accepted, refused, verdict, numberOf, placeOf, onSuccess, outside, short, termsChecks, recordChecks, badReturn, listChecks}
-use Rattle.rules.specs.Operations.{productOf, Answer, answer, behaviourNumber, behaviourOf, tableSize, lentChecks, recordVerdict, valuingChecks, valuingVerdict, valuingAnswer, amountChecks, bookingChecks, bookingVerdict, bookingBytes, bookingBuffer}
+use Rattle.rules.specs.Operations.{productOf, Answer, answer, behaviourNumber, behaviourOf, tableSize, lentChecks, recordVerdict, valuingChecks, valuingVerdict, valuingAnswer, amountChecks, bookingChecks, bookingVerdict, bookingBytes, bookingBuffer, badDate, pathChecks, walkChecks, walkVerdict, walkCashes}
 use Rattle.rules.specs.Map.{surrendered, surrenderMap, surrenderCount, mapSize, mapChecks, mappingChecks, mappingVerdict, mappingTable, mappingMap, mappingCount}
 use Rattle.rules.specs.Printed.{digits, decimal, numbered, line, nameOf, linesOf, valueLine, returnLine, lineCount, valuesText, textOf, programVerdict, printed}
 
@@ -61,6 +61,10 @@ P-spare s x = record { premium = 10; level = 5; top = 20; dates = 4; fee = 0; pe
 P-step : ℕ → Terms
 P-step s = P-spare s 0
 
+-- P with top 12, which the second return passes from the start
+P-tight : ℕ → Terms
+P-tight n = record { premium = 10; level = 5; top = 12; dates = n; fee = 0; penalty = 1000; discount = 1000000; step = 0; spare = 0 }
+
 -- "returns (5,000, weight 5,000) and (15,000, weight 5,000)"
 unfoldable pub returnsP : List ℕ
 returnsP = bytesOf 2 5000 ++ bytesOf 2 5000 ++ bytesOf 2 15000 ++ bytesOf 2 5000
@@ -77,6 +81,8 @@ pub data Question : Type 0 where
   recordOf : Terms → Question
   -- the map that valuing leaves in so many words, each a number before, and the count of its set bits
   mapOf : Terms → Behaviour → ℕ → ℕ → Question
+  -- the cash of a walk along the table that valuing leaves, in a slice of a number more than it fills
+  walkOf : Terms → Behaviour → List ℕ → Question
   -- booking an amount on a date, at (w, a)
   bookingOf : Terms → ℕ → ℕ → ℕ → ℕ → Question
 
@@ -86,6 +92,7 @@ pub data Told : Type 0 where
   allowed : Bool → Told
   cash-penalty-balance-guarantee : ℕ → ℕ → ℕ → ℕ → Told
   words-count : List ℕ → ℕ → Told
+  cashes : List ℕ → Told
   number-place : ℕ → ℕ → Told
 
 at : ℕ → ℕ → State
@@ -119,6 +126,10 @@ tell (mapOf c b words word) =
 tell (stateOf c b w a) =
     let X = fixedTerm c (returnsOf returnsP) in
     value-amount (stateValue X b 1 (at w a)) (recordedAmount X b 1 (at w a))
+tell (walkOf c b path) =
+    let table : List ℕ = amountLayers (productOf (packed c) returnsP) b in
+    let before : List ℕ = replicate (c .dates + 1) 7 in
+    unless-refused (walkVerdict (packed c) returnsP table path before) (cashes (walkCashes (packed c) returnsP table path before))
 tell (surrenderAt c w a) = allowed (surrenders (freeIn c (at w a)) w w)
 tell (recordOf c) = let v = recordVerdict (packed c) in number-place (numberOf v) (placeOf v)
 tell (bookingOf c i w a t) =
@@ -137,8 +148,8 @@ pub marked : List Row
 marked =
     row 1 (contractOf P static) (value-margin 125000 (pos 25000))
     ∷ row 1 (contractOf P mixed) (value-margin 125000 (pos 25000))
-    ∷ row 1 (contractOf P dynamic) (value-margin 127500 (pos 27500))
-    ∷ row 2 (stateOf P dynamic 15 10) (value-amount 155000 1)
+    ∷ row 1 (contractOf P dynamic) (value-margin 130000 (pos 30000))
+    ∷ row 2 (stateOf P dynamic 15 10) (value-amount 160000 0)
     ∷ row 3 (surrenderAt P 5 10) (allowed false)
     ∷ row 3 (stateOf P dynamic 5 10) (value-amount 100000 0)
     ∷ row 4 (contractOf P-one static) (value-margin 125000 (pos 25000))
@@ -156,21 +167,21 @@ marked =
     ∷ []
 
 pub marked-cases : map (λ r. tell (r .asked)) marked ≡ map (λ r. r .told) marked
-unfolding sum first firstFrom largest smallestBest worth valueOver value recorded startValue word long bytesOf termsOf returnsOf freeAmount largestAmount surrenders admits rateOn penalty cash guaranteeAfter balanceAfter nextAccount maturityValue discounted margin stateValue recordedAmount contractValue freeIn admissibleIn limitIn cashIn afterIn reachBy expectOver startOf processOf layerSize layoutOf fixedTerm checkEach verdict numberOf placeOf onSuccess outside short termsChecks recordChecks badReturn listChecks productOf answer behaviourNumber behaviourOf tableSize lentChecks valuingChecks valuingVerdict valuingAnswer amountChecks bookingChecks bookingVerdict bookingBytes bookingBuffer packed P P-one P-discounted Q returnsP at unless-refused booked valued tell row marked
+unfolding sum first firstFrom largest smallestBest reached worth valueOver value recorded startValue word long bytesOf termsOf returnsOf freeAmount largestAmount surrenders admits rateOn penalty cash guaranteeAfter balanceAfter liftedAccount nextAccount excess excessPaid maturityValue discounted margin stateValue recordedAmount contractValue freeIn admissibleIn limitIn cashIn afterIn reachBy paidBy expectOver startOf processOf layerSize layoutOf fixedTerm checkEach verdict numberOf placeOf onSuccess outside short termsChecks recordChecks badReturn listChecks productOf answer behaviourNumber behaviourOf tableSize lentChecks valuingChecks valuingVerdict valuingAnswer amountChecks bookingChecks bookingVerdict bookingBytes bookingBuffer packed P P-one P-discounted Q returnsP at unless-refused booked valued tell row marked
 marked-cases = refl
 
 -- ---- document 02 (i): contract P with N 4 at steps 0, 100 and 1,000; bookings by date; the ends of the two fields
 pub step-rows : List Row
 step-rows =
-    row 1 (contractOf (P-step 0) static) (value-margin 122500 (pos 22500))
-    ∷ row 1 (contractOf (P-step 0) mixed) (value-margin 122500 (pos 22500))
-    ∷ row 1 (contractOf (P-step 0) dynamic) (value-margin 133500 (pos 33500))
-    ∷ row 2 (contractOf (P-step 100) static) (value-margin 122500 (pos 22500))
-    ∷ row 2 (contractOf (P-step 100) mixed) (value-margin 123000 (pos 23000))
-    ∷ row 2 (contractOf (P-step 100) dynamic) (value-margin 133650 (pos 33650))
-    ∷ row 3 (contractOf (P-step 1000) static) (value-margin 122500 (pos 22500))
+    row 1 (contractOf (P-step 0) static) (value-margin 123750 (pos 23750))
+    ∷ row 1 (contractOf (P-step 0) mixed) (value-margin 123750 (pos 23750))
+    ∷ row 1 (contractOf (P-step 0) dynamic) (value-margin 139375 (pos 39375))
+    ∷ row 2 (contractOf (P-step 100) static) (value-margin 123750 (pos 23750))
+    ∷ row 2 (contractOf (P-step 100) mixed) (value-margin 123875 (pos 23875))
+    ∷ row 2 (contractOf (P-step 100) dynamic) (value-margin 139375 (pos 39375))
+    ∷ row 3 (contractOf (P-step 1000) static) (value-margin 123750 (pos 23750))
     ∷ row 3 (contractOf (P-step 1000) mixed) (value-margin 125000 (pos 25000))
-    ∷ row 3 (contractOf (P-step 1000) dynamic) (value-margin 134375 (pos 34375))
+    ∷ row 3 (contractOf (P-step 1000) dynamic) (value-margin 139375 (pos 39375))
     ∷ row 4 (bookingOf (P-step 100) 1 15 10 6) (cash-penalty-balance-guarantee 59000 1000 9 4)
     ∷ row 4 (bookingOf (P-step 100) 2 15 10 6) (cash-penalty-balance-guarantee 59100 900 9 4)
     ∷ row 4 (bookingOf (P-step 100) 3 15 10 6) (cash-penalty-balance-guarantee 59200 800 9 4)
@@ -183,7 +194,7 @@ step-rows =
     ∷ []
 
 pub step-cases : map (λ r. tell (r .asked)) step-rows ≡ map (λ r. r .told) step-rows
-unfolding sum first firstFrom largest smallestBest worth valueOver value recorded startValue word long bytesOf termsOf returnsOf freeAmount largestAmount surrenders admits rateOn penalty cash guaranteeAfter balanceAfter nextAccount maturityValue discounted margin stateValue recordedAmount contractValue freeIn admissibleIn limitIn cashIn afterIn reachBy expectOver startOf processOf layerSize layoutOf fixedTerm checkEach verdict numberOf placeOf onSuccess outside short termsChecks recordChecks badReturn listChecks productOf answer behaviourNumber behaviourOf tableSize lentChecks recordVerdict valuingChecks valuingVerdict valuingAnswer amountChecks bookingChecks bookingVerdict bookingBytes bookingBuffer packed P-spare P-step returnsP at unless-refused booked valued tell row step-rows
+unfolding sum first firstFrom largest smallestBest reached worth valueOver value recorded startValue word long bytesOf termsOf returnsOf freeAmount largestAmount surrenders admits rateOn penalty cash guaranteeAfter balanceAfter liftedAccount nextAccount excess excessPaid maturityValue discounted margin stateValue recordedAmount contractValue freeIn admissibleIn limitIn cashIn afterIn reachBy paidBy expectOver startOf processOf layerSize layoutOf fixedTerm checkEach verdict numberOf placeOf onSuccess outside short termsChecks recordChecks badReturn listChecks productOf answer behaviourNumber behaviourOf tableSize lentChecks recordVerdict valuingChecks valuingVerdict valuingAnswer amountChecks bookingChecks bookingVerdict bookingBytes bookingBuffer packed P-spare P-step returnsP at unless-refused booked valued tell row step-rows
 step-cases = refl
 
 -- ---- document 02 (ii): the maps of contract P, in words that held ones before; a word behind them; a word too few; two
@@ -192,29 +203,51 @@ pub map-rows : List Row
 map-rows =
     row 1 (mapOf P static 4 18446744073709551615) (words-count (0 ∷ 0 ∷ 0 ∷ 0 ∷ []) 0)
     ∷ row 2 (mapOf P mixed 4 18446744073709551615)
-    (words-count (720751905197787136 ∷ 1610743968 ∷ 1729663731886981120 ∷ 8323465664 ∷ []) 28)
+    (words-count (720751905197787136 ∷ 1610743968 ∷ 0 ∷ 0 ∷ []) 13)
     ∷ row 3 (mapOf P dynamic 5 18446744073709551615) (words-count (2048 ∷ 0 ∷ 0 ∷ 0 ∷ 18446744073709551615 ∷ []) 1)
     ∷ row 4 (mapOf P dynamic 3 0) (number-place 16 0)
     ∷ row 5 (mapOf P-three mixed 8 0)
     (words-count
-    (756780702216751104 ∷ 159878338272460968 ∷ 17901530205655307296 ∷ 4612812467922173888
-    ∷ 72145576448230656 ∷ 48 ∷ 1081110252721537024 ∷ 248 ∷ [])
-    102)
+    (756780702216751104 ∷ 15763150196605096 ∷ 5120 ∷ 4612811918334230528
+    ∷ 72145576448230656 ∷ 48 ∷ 0 ∷ 0 ∷ [])
+    36)
     ∷ row 6 (mapOf P-one mixed 0 0) (words-count [] 0)
     ∷ []
 
 pub map-cases : map (λ r. tell (r .asked)) map-rows ≡ map (λ r. r .told) map-rows
-unfolding sum tabulate first firstFrom largest smallestBest worth valueOver value recorded startValue word long bytesOf termsOf returnsOf freeAmount largestAmount surrenders admits rateOn penalty cash guaranteeAfter balanceAfter nextAccount maturityValue discounted recordedAmount amountLayers layers freeIn admissibleIn limitIn cashIn afterIn reachBy expectOver startOf processOf layerSize layoutOf fixedTerm checkEach verdict onSuccess outside short termsChecks recordChecks badReturn listChecks productOf behaviourNumber behaviourOf tableSize lentChecks valuingChecks bit fromBits wordsFor wordOf wordsOf setBits surrendered surrenderMap surrenderCount mapSize mapChecks mappingChecks mappingVerdict mappingTable mappingMap mappingCount packed P P-one P-three returnsP unless-refused tell row map-rows
+unfolding sum tabulate first firstFrom largest smallestBest reached worth valueOver value recorded startValue word long bytesOf termsOf returnsOf freeAmount largestAmount surrenders admits rateOn penalty cash guaranteeAfter balanceAfter liftedAccount nextAccount excess excessPaid maturityValue discounted recordedAmount amountLayers layers freeIn admissibleIn limitIn cashIn afterIn reachBy paidBy expectOver startOf processOf layerSize layoutOf fixedTerm checkEach verdict onSuccess outside short termsChecks recordChecks badReturn listChecks productOf behaviourNumber behaviourOf tableSize lentChecks valuingChecks bit fromBits wordsFor wordOf wordsOf setBits surrendered surrenderMap surrenderCount mapSize mapChecks mappingChecks mappingVerdict mappingTable mappingMap mappingCount packed P P-one P-three returnsP unless-refused tell row map-rows
 map-cases = refl
+
+-- ---- document 02 (iv): contract P with N 3, and its walks along the dynamic table; with top 12, where the first return pays
+pub excess-rows : List Row
+excess-rows =
+    row 1 (contractOf P-three static) (value-margin 125000 (pos 25000))
+    ∷ row 1 (contractOf P-three mixed) (value-margin 125000 (pos 25000))
+    ∷ row 1 (contractOf P-three dynamic) (value-margin 131250 (pos 31250))
+    ∷ row 2 (walkOf P-three dynamic (1 ∷ 1 ∷ 1 ∷ [])) (cashes (10000 ∷ 10000 ∷ 300000 ∷ 7 ∷ []))
+    ∷ row 2 (walkOf P-three dynamic (1 ∷ 0 ∷ 1 ∷ [])) (cashes (10000 ∷ 0 ∷ 100000 ∷ 7 ∷ []))
+    ∷ row 2 (walkOf P-three dynamic (0 ∷ 1 ∷ 1 ∷ [])) (cashes (0 ∷ 0 ∷ 100000 ∷ 7 ∷ []))
+    ∷ row 3 (contractOf (P-tight 1) static) (value-margin 125000 (pos 25000))
+    ∷ row 3 (walkOf (P-tight 1) static (1 ∷ [])) (cashes (150000 ∷ 7 ∷ []))
+    ∷ row 4 (contractOf (P-tight 2) static) (value-margin 127500 (pos 27500))
+    ∷ row 4 (contractOf (P-tight 2) dynamic) (value-margin 135000 (pos 35000))
+    ∷ row 4 (walkOf (P-tight 2) static (1 ∷ 1 ∷ [])) (cashes (80000 ∷ 100000 ∷ 7 ∷ []))
+    ∷ row 5 (contractOf (P-tight 3) dynamic) (value-margin 140000 (pos 40000))
+    ∷ row 5 (walkOf (P-tight 3) dynamic (1 ∷ 1 ∷ 1 ∷ [])) (cashes (30000 ∷ 60000 ∷ 180000 ∷ 7 ∷ []))
+    ∷ []
+
+pub excess-cases : map (λ r. tell (r .asked)) excess-rows ≡ map (λ r. r .told) excess-rows
+unfolding sum tabulate first firstFrom largest smallestBest reached worth valueOver value recorded startValue met startMet word long bytesOf termsOf returnsOf freeAmount largestAmount surrenders admits rateOn penalty cash guaranteeAfter balanceAfter liftedAccount nextAccount excess excessPaid maturityValue discounted margin recordedAmount contractValue amountLayers walkState walkAmount walkHeld walkPaid walkCash lookup layers entry freeIn admissibleIn limitIn cashIn afterIn reachBy paidBy expectOver startOf processOf layerSize layoutOf fixedTerm checkEach verdict onSuccess outside short termsChecks recordChecks badReturn listChecks productOf answer behaviourNumber behaviourOf tableSize lentChecks valuingChecks valuingVerdict valuingAnswer badDate pathChecks walkChecks walkVerdict walkCashes packed P-three P-tight returnsP unless-refused valued tell row excess-rows
+excess-cases = refl
 
 -- "The program .. prints exactly": the five lines for P, as ASCII codes
 pub printed-P : printed (packed P) returnsP
     ≡ 115 ∷ 116 ∷ 97 ∷ 116 ∷ 105 ∷ 99 ∷ 32 ∷ 49 ∷ 50 ∷ 53 ∷ 48 ∷ 48 ∷ 48 ∷ 10 ∷
     109 ∷ 105 ∷ 120 ∷ 101 ∷ 100 ∷ 32 ∷ 49 ∷ 50 ∷ 53 ∷ 48 ∷ 48 ∷ 48 ∷ 10 ∷
-    100 ∷ 121 ∷ 110 ∷ 97 ∷ 109 ∷ 105 ∷ 99 ∷ 32 ∷ 49 ∷ 50 ∷ 55 ∷ 53 ∷ 48 ∷ 48 ∷ 10 ∷
+    100 ∷ 121 ∷ 110 ∷ 97 ∷ 109 ∷ 105 ∷ 99 ∷ 32 ∷ 49 ∷ 51 ∷ 48 ∷ 48 ∷ 48 ∷ 48 ∷ 10 ∷
     48 ∷ 32 ∷ 53 ∷ 32 ∷ 49 ∷ 48 ∷ 32 ∷ 53 ∷ 32 ∷ 53 ∷ 32 ∷ 48 ∷ 10 ∷
-    49 ∷ 32 ∷ 49 ∷ 53 ∷ 32 ∷ 49 ∷ 48 ∷ 32 ∷ 53 ∷ 32 ∷ 53 ∷ 32 ∷ 49 ∷ 10 ∷ []
-unfolding sum first firstFrom largest smallestBest worth valueOver value recorded startValue word long bytesOf termsOf returnsOf freeAmount largestAmount surrenders admits rateOn penalty cash guaranteeAfter balanceAfter nextAccount maturityValue discounted stateValue recordedAmount contractValue freeIn admissibleIn limitIn cashIn afterIn reachBy expectOver startOf processOf layerSize layoutOf fixedTerm checkEach verdict outside short termsChecks recordChecks badReturn listChecks productOf behaviourNumber tableSize lentChecks valuingChecks valuingVerdict digits decimal numbered line nameOf linesOf valueLine returnLine lineCount valuesText textOf programVerdict printed packed P returnsP
+    49 ∷ 32 ∷ 49 ∷ 53 ∷ 32 ∷ 49 ∷ 48 ∷ 32 ∷ 53 ∷ 32 ∷ 53 ∷ 32 ∷ 48 ∷ 10 ∷ []
+unfolding sum first firstFrom largest smallestBest reached worth valueOver value recorded startValue word long bytesOf termsOf returnsOf freeAmount largestAmount surrenders admits rateOn penalty cash guaranteeAfter balanceAfter liftedAccount nextAccount excess excessPaid maturityValue discounted stateValue recordedAmount contractValue freeIn admissibleIn limitIn cashIn afterIn reachBy paidBy expectOver startOf processOf layerSize layoutOf fixedTerm checkEach verdict outside short termsChecks recordChecks badReturn listChecks productOf behaviourNumber tableSize lentChecks valuingChecks valuingVerdict digits decimal numbered line nameOf linesOf valueLine returnLine lineCount valuesText textOf programVerdict printed packed P returnsP
 printed-P = refl
 
 -- "the program lends 4,096 working numbers, refusing by 11 what needs more": two layers of 64 × 32 entries, and of 683 × 3

@@ -1,5 +1,5 @@
 -- Document 01, 'One date' and 'Values', on plain numbers: w is the account, a the guarantee, t the amount, m the smaller of
--- level and guarantee, i the date. A difference stops at 0. Sentences marked (i) are of document 02, by its request.
+-- level and guarantee, i the date. A difference stops at 0. Sentences marked (i), (iv) are of document 02, by its requests.
 -- Assumes nothing.
 use mathlib.Core.Bool.{Bool, cond, _&&_, _||_}
 use Prim.Native.Nat.{ℕ, _-_, _*_, _/_, min, max}
@@ -48,10 +48,21 @@ guaranteeAfter m w a t = cond (leb t m) (a - t) (min (a - t) (a * (w - t) / w))
 unfoldable pub balanceAfter : ℕ → ℕ → ℕ
 balanceAfter w t = w - t
 
--- "next account = balance × factor × (10,000 − fee) / 100,000,000, rounded down a single time. A result above top is held
--- at top."
+-- "next account = balance × factor × (10,000 − fee) / 100,000,000, rounded down a single time": before the ceiling
+unfoldable pub liftedAccount : ℕ → ℕ → ℕ → ℕ
+liftedAccount fee balance factor = balance * factor * (10000 - fee) / 100000000
+
+-- "A result above top is held at top."
 unfoldable pub nextAccount : ℕ → ℕ → ℕ → ℕ → ℕ
-nextAccount fee top balance factor = min top (balance * factor * (10000 - fee) / 100000000)
+nextAccount fee top balance factor = min top (liftedAccount fee balance factor)
+
+-- (iv) "what a return lifts above top"
+unfoldable pub excess : ℕ → ℕ → ℕ → ℕ → ℕ
+excess fee top balance factor = liftedAccount fee balance factor - top
+
+-- (iv) ".. is no longer dropped, it is paid to the holder on arrival, without penalty": "10,000 × the excess"
+unfoldable pub excessPaid : ℕ → ℕ → ℕ → ℕ → ℕ
+excessPaid fee top balance factor = 10000 * excess fee top balance factor
 
 -- "At maturity the value is 10,000 × the larger of W and A."
 unfoldable pub maturityValue : ℕ → ℕ → ℕ

@@ -5,13 +5,14 @@ use mathlib.Core.List.{List, [], _∷_, _++_}
 use mathlib.Core.Logic.{_↔_}
 use mathlib.Core.Path.{_≡_, refl, subst}
 use Prim.Native.Nat.{ℕ, zero, suc, _+_, _-_, _*_, _/_, _%_, _^_, _≤_, _<_}
-use native.Mathlib.Nat.{le-trans, le-min, min-le-left, min-le-right, le-div-iff-mul-le, div-lt-iff-lt-mul, pow-suc}
+use native.Mathlib.Nat.{le-trans, mul-le-mul, mul-le-mul-left, sub-le, div-le-of-le-mul, le-min, min-le-left, min-le-right, le-div-iff-mul-le, div-lt-iff-lt-mul, pow-suc}
 use native.Mathlib.Decide.{decLe}
 use native.Mathlib.Omega.{arith}
 use lib.Dec.{lit<, ltb}
 use borrow.Author.Tests.{lt-ltb, le-ltb}
 use lib.IntN.{pos, negℤ}
-use Rattle.rules.specs.Date.{nextAccount, discounted, margin}
+use Rattle.rules.specs.Contract.{factorMost}
+use Rattle.rules.specs.Date.{liftedAccount, nextAccount, excess, discounted, margin}
 use Rattle.rules.specs.Refusals.{checkEach, numbers, termsChecks, recordChecks, listChecks}
 use Rattle.rules.specs.Printed.{digits, decimal}
 use Rattle.rules.specs.Operations.{lentChecks, valuingChecks, tableChecks, suppliedChecks, amountChecks, bookingChecks, pathChecks, walkChecks}
@@ -51,11 +52,25 @@ walk-order bytes list table path cashes = refl
 -- ---- "rounded down a single time": the next account is the largest that top and the exact product allow
 pub account-rounds : (fee top balance factor x : ℕ)
     → (x ≤ nextAccount fee top balance factor) ↔ ((x ≤ top) × (x * 100000000 ≤ balance * factor * (10000 - fee)))
-unfolding nextAccount
+unfolding liftedAccount nextAccount
 account-rounds fee top balance factor x = (
   λ l. (le-trans l (min-le-left _ _), le-div-iff-mul-le (lit< tt) .0 (le-trans l (min-le-right _ _))),
   λ p. le-min (p .0) (le-div-iff-mul-le (lit< tt) .1 (p .1)),
 )
+
+-- a return makes at most three times the balance
+pub lifted-le : (fee balance factor : ℕ) → factor ≤ factorMost → liftedAccount fee balance factor ≤ 3 * balance
+unfolding liftedAccount
+lifted-le fee balance factor h =
+    div-le-of-le-mul 100000000 (le-trans (mul-le-mul (mul-le-mul-left balance h) (sub-le 10000 fee)) (omega arith))
+
+-- (iv) nothing of what a return makes is dropped: what is held and the excess are all of it, and where there is an excess the
+-- account is top
+pub nothing-dropped : (fee top balance factor : ℕ)
+    → (nextAccount fee top balance factor + excess fee top balance factor ≡ liftedAccount fee balance factor)
+    × (0 < excess fee top balance factor → nextAccount fee top balance factor ≡ top)
+unfolding nextAccount excess
+nothing-dropped fee top balance factor = (omega arith, λ l. omega arith)
 
 -- "rounded down once": the discounted sum is the largest that the exact product allows
 pub discount-rounds : (discount sum x : ℕ) → (x ≤ discounted discount sum) ↔ (x * 10000000000 ≤ discount * sum)

@@ -5,7 +5,7 @@ use Rattle.decision.specs.Index.{sum}
 use Rattle.decision.specs.Process.{Process}
 use Rattle.decision.specs.Layers.{Layout}
 use Rattle.rules.specs.Contract.{Terms, Returns}
-use Rattle.rules.specs.Date.{Behaviour, freeAmount, largestAmount, admits, rateOn, cash, guaranteeAfter, balanceAfter, nextAccount, maturityValue, discounted}
+use Rattle.rules.specs.Date.{Behaviour, freeAmount, largestAmount, admits, rateOn, cash, guaranteeAfter, balanceAfter, nextAccount, excessPaid, maturityValue, discounted}
 use Rattle.rules.specs.Product.{Product}
 
 -- "State: account W from 0 to top, guarantee A from 0 to U."
@@ -52,6 +52,10 @@ reachBy c rs h k = record {
   guarantee = h .guarantee;
 }
 
+-- (iv) "A value reached above top is the value at top plus 10,000 × the excess, also on the first return and at maturity."
+unfoldable pub paidBy : Terms → Returns → Held → ℕ → ℕ
+paidBy c rs h k = excessPaid (c .fee) (c .top) (h .balance) (rs .factor k)
+
 -- "discount × (sum of weight × value reached) / 10,000,000,000"
 unfoldable pub expectOver : Terms → Returns → ℕ → Held → (ℕ → ℕ) → ℕ
 expectOver c rs i h reached = discounted (c .discount) (sum (λ k. rs .weight k * reached k) (rs .count))
@@ -69,6 +73,7 @@ processOf c rs = record {
   cash = cashIn c;
   after = afterIn c;
   reach = reachBy c rs;
+  paid = paidBy c rs;
   expect = expectOver c rs;
   final = λ s. maturityValue (s .account) (s .guarantee);
 }

@@ -3,8 +3,8 @@
 use mathlib.Core.Bool.{Bool}
 use mathlib.Core.List.{List, [], _∷_, _++_}
 use mathlib.Core.Path.{_≡_}
-use Prim.Native.Nat.{ℕ, suc, _-_, _≤_}
-use lib.ListN.{take}
+use Prim.Native.Nat.{ℕ, zero, suc, _+_, _-_, _≤_}
+use lib.ListN.{getD, take}
 use Rattle.decision.specs.Index.{tabulate}
 use Rattle.decision.specs.Process.{Process, Rule, value, recorded, tableValue, startValue, startTableValue, startMet, Attained}
 use Rattle.decision.specs.Layers.{Layout, lookup, layer, layers}
@@ -56,11 +56,22 @@ module _ {S H : Type 0} (X : Product S H) where
   unfoldable pub walkAmount : List ℕ → List ℕ → ℕ → ℕ
   walkAmount table numbers i = lookup (X .layout) table i (walkState table numbers i)
 
-  -- "N cash amounts .. in order, the last being the maturity payment"
+  -- what is held between date i and the return after it
+  unfoldable pub walkHeld : List ℕ → List ℕ → ℕ → H
+  walkHeld table numbers zero = X .process .start
+  walkHeld table numbers (suc j) = X .process .after (suc j) (walkState table numbers (suc j)) (walkAmount table numbers (suc j))
+
+  -- what that return, the i-th number, pays on arrival on date i + 1
+  unfoldable pub walkPaid : List ℕ → List ℕ → ℕ → ℕ
+  walkPaid table numbers i = X .process .paid (walkHeld table numbers i) (getD numbers i 0)
+
+  -- "N cash amounts .. in order, the last being the maturity payment"; (iv) "A walk adds 10,000 × the excess to the cash of
+  -- the date reached."
   unfoldable pub walkCash : List ℕ → List ℕ → List ℕ
   walkCash table numbers =
-      tabulate decisions (λ j. X .process .cash (suc j) (walkState table numbers (suc j)) (walkAmount table numbers (suc j)))
-      ++ (X .process .final (walkState table numbers (X .process .dates)) ∷ [])
+      tabulate decisions (λ j.
+      walkPaid table numbers j + X .process .cash (suc j) (walkState table numbers (suc j)) (walkAmount table numbers (suc j)))
+      ++ ((walkPaid table numbers decisions + X .process .final (walkState table numbers (X .process .dates))) ∷ [])
 
   -- ---- the third demand
   -- behaviour a has at most the value of b, for the contract and in every state of every date

@@ -9,7 +9,7 @@ use lib.Dec.{T}
 use lib.ListN.{length, getD, drop, replicate}
 use borrow.Rule.Slice.PartMut.{midOf}
 use Rattle.decision.specs.Index.{first}
-use Rattle.decision.specs.Process.{worth, startTableValue}
+use Rattle.decision.specs.Process.{reached, worth, startTableValue}
 use Rattle.decision.specs.Optimal.{table-step, table-last}
 use Rattle.decision.specs.Layers.{low-digit, lookup, layer}
 use Rattle.slices.specs.Parts.{part-at}
@@ -19,12 +19,12 @@ use Rattle.rules.specs.Contract.{Terms, topMost, rateMost, termsOf, Returns, re
 use Rattle.rules.specs.Date.{dynamic, freeAmount, admits, maturityValue, margin}
 use Rattle.rules.specs.Product.{suppliedValue, suppliedLayer}
 use Rattle.rules.specs.Refusals.{Verdict, accepted, refused, verdict, numberOf, placeOf, onSuccess, recordChecks, listChecks}
-use Rattle.rules.specs.FixedTerm.{freeIn, admissibleIn, rateIn, cashIn, afterIn, reachBy, expectOver, startOf, processOf, layerSize, layoutOf, fixedTerm}
+use Rattle.rules.specs.FixedTerm.{freeIn, admissibleIn, rateIn, cashIn, afterIn, reachBy, paidBy, expectOver, startOf, processOf, layerSize, layoutOf, fixedTerm}
 use Rattle.rules.specs.Operations.{productOf, answer, workAfter, tableSize, badAt, badEntry, tableChecks, suppliedChecks, suppliedVerdict, suppliedAnswer, suppliedWork}
 use Rattle.laws.specs.Supplied.{all-admitted}
 use Rattle.laws.specs.Date.{dynamic-is}
 use Rattle.laws.specs.Accepted.{Valid, ValidReturns, then-accepted, then-refused}
-use Rattle.laws.specs.Bounds.{table-value-most, valueMost, entryMost}
+use Rattle.laws.specs.Bounds.{table-value-most, stateMost, entryMost}
 use Rattle.expect.specs.Expected.{expected, reachedSum, Listing, expected-same}
 use Rattle.keys.specs.declared.Date.{Date}
 use Rattle.keys.specs.Sums.{sums, Sums, sum-in, row-in, sums-less, sums-kept, sums-same}
@@ -140,7 +140,7 @@ tableOn-back : (c : Terms) (rs : Returns) (table : List ℕ) (i w a : ℕ) → i
     → worthOver (expected c rs (tableOn c rs table (suc i))) (rateIn c i) (freeAmount (c .level) a) w a
     (lookup (layoutOf c) table i (at w a))
     ≡ tableOn c rs table i w a
-unfolding processOf cashIn afterIn reachBy expectOver freeIn worth worthOver expected reachedSum
+unfolding processOf cashIn afterIn reachBy paidBy expectOver freeIn reached worth worthOver expected reachedSum
 tableOn-back c rs table i w a l = sym (table-step (processOf c rs) (lookup (layoutOf c) table) i (at w a) l)
 
 last-is : (c : Terms) (rs : Returns) (table : List ℕ) (w a : ℕ) → tableOn c rs table (c .dates) w a ≡ maturityValue w a
@@ -156,7 +156,7 @@ admitted-at c rs table valid none i w a some before h l =
 -- no value of a table whose entries are admitted is above what a contract's values can be
 pub table-on-most : {c : Terms} (rs : Returns) (table : List ℕ) → Valid c → ValidReturns rs
     → tableSize c ≤ first (badEntry c table) (tableSize c)
-    → (i w a : ℕ) → 1 ≤ i → i ≤ c .dates → w ≤ c .top → a ≤ c .premium → tableOn c rs table i w a ≤ valueMost c
+    → (i w a : ℕ) → 1 ≤ i → i ≤ c .dates → w ≤ c .top → a ≤ c .premium → tableOn c rs table i w a ≤ stateMost c 1
 table-on-most {c} rs table v u none i w a some before h l =
     let good = all-admitted c rs table v none in
     table-value-most c rs v u (lookup (layoutOf c) table) good i (at w a) some before (record { account = h; guarantee = l })
@@ -235,7 +235,7 @@ starting {c} {work' = work'} work valid listing room room-table none e = record 
 
 module _ (rs : Returns) (table : List ℕ) {c : Terms} {work work' : List ℕ} (d : First (tableOn c rs table 1) c work work') where
   supplied-value : expected c rs (cells work' 0 (c .premium + 1)) (c .premium) (c .premium) ≡ suppliedValue (fixedTerm c rs) table
-  unfolding suppliedValue startTableValue fixedTerm processOf expectOver startOf reachBy expected reachedSum
+  unfolding suppliedValue startTableValue reached fixedTerm processOf expectOver startOf reachBy paidBy expected reachedSum
   supplied-value = expected-same c rs (cells work' 0 (c .premium + 1)) (tableOn c rs table 1) (c .premium) (c .premium) (λ w l. d .values w (c .premium) l (omega arith))
 
   supplied-layer : layerSize c + layerSize c ≤ length work

@@ -11,14 +11,14 @@ use lib.IntN.{pos, negsuc, _-ℤ_, subℕ}
 use lib.Signed.{mag}
 use borrow.Author.Tests.{le-ltb}
 use lib.ListN.{length, getD, drop, replicate}
-use Rattle.decision.specs.Process.{startValue, Attained}
+use Rattle.decision.specs.Process.{reached, startValue, Attained}
 use Rattle.decision.specs.Layers.{lookup, layer, layers}
 use Rattle.slices.specs.Stored.{stored, length-stored, is-stored, stored-front}
 use Rattle.slices.specs.Rows.{cells, flat}
 use Rattle.rules.specs.Contract.{Terms, Returns}
 use Rattle.rules.specs.Date.{Behaviour, maturityValue, margin}
 use Rattle.rules.specs.Product.{contractValue, valueLayer, amountLayers, stateValue, recordedAmount, Claim}
-use Rattle.rules.specs.FixedTerm.{fixedTerm, processOf, expectOver, startOf, reachBy, layoutOf, layerSize}
+use Rattle.rules.specs.FixedTerm.{fixedTerm, processOf, expectOver, startOf, reachBy, paidBy, layoutOf, layerSize}
 use Rattle.rules.specs.Refusals.{refused, verdict, numberOf, placeOf, onSuccess, short, recordChecks, listChecks}
 use Rattle.rules.specs.Operations.{productOf, answer, workAfter, behaviourOf, tableSize, lentChecks, valuingChecks, valuingVerdict, valuingAnswer, valuingTable}
 use Rattle.laws.specs.Accepted.{Valid, then-accepted, then-refused}
@@ -51,7 +51,7 @@ mag-sub a b n h k = by (ltb a b)
 module _ {b : Behaviour} {c : Terms} {rs : Returns} {work table work' table' : List ℕ} (v : Valued b c rs work table work' table' 0) where
   -- the sum over the first return of the values of date 1 is the contract's value
   pub contract-value : Valid c → expected c rs (cells work' 0 (c .premium + 1)) (c .premium) (c .premium) ≡ contractValue (fixedTerm c rs) b
-  unfolding contractValue startValue stateValue fixedTerm processOf expectOver startOf reachBy expected reachedSum
+  unfolding contractValue startValue reached stateValue fixedTerm processOf expectOver startOf reachBy paidBy expected reachedSum
   contract-value valid =
       expected-same c rs (cells work' 0 (c .premium + 1)) (valuesOn c rs b 1) (c .premium) (c .premium) (λ w l. v .values w (c .premium) l (omega arith))
 

@@ -15,7 +15,7 @@ use Rattle.rules.specs.FixedTerm.{layerSize}
 use Rattle.rules.specs.Refusals.{recordChecks, listChecks}
 use Rattle.rules.specs.Operations.{valuingChecks, valuingVerdict}
 use Rattle.laws.specs.Accepted.{Valid, ValidReturns, then-earlier}
-use Rattle.laws.specs.Bounds.{valueMost}
+use Rattle.laws.specs.Bounds.{stateMost}
 use Rattle.laws.specs.Valuing.{valuing-room}
 use Rattle.contract.specs.declared.Outcome.{Outcome}
 use Rattle.contract.specs.declared.Contract.{Contract}
@@ -67,7 +67,7 @@ first-mature c work room e w a h l =
     ∙ layer-stored work 0 (c .premium + 1) (c .top + 1) maturityValue (omega arith) .cell w a (omega arith) (omega arith)
 
 pub settling : {f : ℕ → ℕ → ℕ} {c : Terms} {count : ℕ} {list work work' : List ℕ} → Valid c → Listing list count
-    → layerSize c + layerSize c ≤ length work → First f c work work' → ((w a : ℕ) → w ≤ c .top → a ≤ c .premium → f w a ≤ valueMost c)
+    → layerSize c + layerSize c ≤ length work → First f c work work' → ((w a : ℕ) → w ≤ c .top → a ≤ c .premium → f w a ≤ stateMost c 1)
     → Settling c count work' list
 settling valid listing room v most = record {
   listing = listing;

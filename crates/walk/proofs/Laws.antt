@@ -1,9 +1,9 @@
 -- What is met on a walk, date by date. Assumes nothing.
 use mathlib.Core.Bool.{not}
 use mathlib.Core.List.{List, [], _∷_, _++_}
-use mathlib.Core.Path.{_≡_, ap, ap₂, sym, _∙_, subst}
+use mathlib.Core.Path.{_≡_, refl, ap, ap₂, sym, _∙_, subst}
 use Prim.Native.Nat.{ℕ, suc, _+_, _-_, _*_, _≤_, _<_, max}
-use native.Mathlib.Nat.{le-trans, sub-le}
+use native.Mathlib.Nat.{le-trans, le-of-eq, sub-le}
 use native.Mathlib.Numerals.{add-one}
 use native.Mathlib.Omega.{arith}
 use lib.Dec.{leb}
@@ -14,10 +14,10 @@ use borrow.Rule.Slice.PartMut.{midOf}
 use Rattle.decision.specs.Index.{tabulate, length-tabulate, first, all-fail}
 use Rattle.slices.specs.Stored.{stored, stored-front}
 use Rattle.decision.specs.Layers.{lookup}
-use Rattle.rules.specs.Contract.{Terms, topMost, termsOf, Returns, returnsOf}
-use Rattle.rules.specs.Date.{dynamic, freeAmount, admits, balanceAfter, guaranteeAfter, nextAccount}
-use Rattle.rules.specs.Product.{walkState, walkAmount, walkCash}
-use Rattle.rules.specs.FixedTerm.{State, startOf, reachBy, afterIn, cashIn, freeIn, admissibleIn, processOf, layoutOf, fixedTerm}
+use Rattle.rules.specs.Contract.{Terms, topMost, factorMost, termsOf, Returns, returnsOf}
+use Rattle.rules.specs.Date.{dynamic, freeAmount, admits, balanceAfter, guaranteeAfter}
+use Rattle.rules.specs.Product.{walkState, walkAmount, walkHeld, walkPaid, walkCash}
+use Rattle.rules.specs.FixedTerm.{State, Held, startOf, reachBy, paidBy, afterIn, cashIn, freeIn, admissibleIn, processOf, layoutOf, fixedTerm}
 use Rattle.rules.specs.Refusals.{Verdict, accepted, refused, verdict, numberOf, placeOf, onSuccess, recordChecks, listChecks}
 use Rattle.rules.specs.Operations.{productOf, tableSize, badDate, pathChecks, walkChecks, walkVerdict, walkCashes}
 use Rattle.laws.specs.Accepted.{Valid, not-not, then-accepted, then-refused}
@@ -26,69 +26,93 @@ use Rattle.contract.specs.Reading.{outcomeAt, outcomeOf}
 use Rattle.expect.specs.Expected.{Listing}
 use Rattle.dates.specs.Back.{at}
 use Rattle.dates.specs.Layer.{DateLayer, entry-within, layer-long, layer-entry}
-use Rattle.laws.specs.Date.{account-le, amount-most, guarantee-le, dynamic-is}
-use Rattle.laws.specs.Walk.{walk-first, walk-next}
-use Rattle.walk.specs.Walked.{Walking, Met, paid, paidLast, Walked}
+use Rattle.laws.specs.Date.{account-le, amount-most, guarantee-le, dynamic-is, excess-paid-le}
+use Rattle.laws.specs.Walk.{walk-first, walk-next, walk-after}
+use Rattle.walk.specs.declared.Place.{Place}
+use Rattle.walk.specs.Walked.{Walking, arrivalOf, Met, paid, paidLast, Walked}
 
 module _ {c : Terms} {count : ℕ} {list table path : List ℕ} (h : Walking c count list table path) where
-  pub first-met : Met c (returnsOf list) table path 1 (nextAccount (c .fee) (c .top) (c .premium) (returnsOf list .factor (getD path 0 0))) (c .premium)
-  unfolding fixedTerm processOf reachBy startOf
+  -- the factors on the path are those of returns
+  pub factor-small : (j : ℕ) → j < c .dates → returnsOf list .factor (getD path j 0) ≤ factorMost
+  factor-small j l = h .listing .valid .factor _ (le-trans (h .numbers j l) (le-of-eq (h .listing .all)))
+
+  pub first-met : Met c (returnsOf list) table path 1 (arrivalOf c (c .premium) (returnsOf list .factor (getD path 0 0)) (c .premium))
+  unfolding walkPaid walkHeld fixedTerm processOf reachBy paidBy startOf
   first-met = record {
     state = walk-first (fixedTerm c (returnsOf list)) table path (omega (arith, h .long, h .valid .dates-least));
+    paid = refl;
+    paid-small = excess-paid-le (c .fee) (c .top) (c .premium) _ (h .valid .premium) (factor-small 0 (h .valid .dates-least));
     account = account-le (c .fee) (c .top) (c .premium) (returnsOf list .factor (getD path 0 0));
     guarantee = omega arith;
   }
 
-  module _ {i w a : ℕ} (m : Met c (returnsOf list) table path i w a) (some : 0 < i) (before : i < c .dates) where
+  module _ {i : ℕ} {p : Place} (m : Met c (returnsOf list) table path i p) (some : 0 < i) (before : i < c .dates) where
     -- the entry of the state in the layer of the date
-    module _ {from to : ℕ} (p : DateLayer c i from to) where
-      pub entry-in : w * (c .premium + 1) + a < length (midOf from (to - from) table)
-      entry-in = rw (layer-long p table (h .entries)) (entry-within c (m .account) (m .guarantee))
+    module _ {from to : ℕ} (l : DateLayer c i from to) where
+      pub entry-in : p .account * (c .premium + 1) + p .guarantee < length (midOf from (to - from) table)
+      entry-in = rw (layer-long l table (h .entries)) (entry-within c (m .account) (m .guarantee))
 
       pub amount-is :
-          getD (midOf from (to - from) table) (w * (c .premium + 1) + a) 0 ≡ walkAmount (fixedTerm c (returnsOf list)) table path i
+          getD (midOf from (to - from) table) (p .account * (c .premium + 1) + p .guarantee) 0
+          ≡ walkAmount (fixedTerm c (returnsOf list)) table path i
       unfolding walkAmount fixedTerm
       amount-is =
-          layer-entry p table (h .entries) (m .account) (m .guarantee)
+          layer-entry l table (h .entries) (m .account) (m .guarantee)
           ∙ sym (ap (lookup (layoutOf c) table i) (m .state))
 
     pub next-met : (t : ℕ) → t ≡ walkAmount (fixedTerm c (returnsOf list)) table path i
-        → Met c (returnsOf list) table path (suc i) (nextAccount (c .fee) (c .top) (balanceAfter w t) (returnsOf list .factor (getD path i 0))) (guaranteeAfter (freeAmount (c .level) a) w a t)
-    unfolding fixedTerm processOf reachBy afterIn freeIn
-    next-met t e = record {
-      state =
-          walk-next (fixedTerm c (returnsOf list)) table path i some (omega (arith, h .long))
-          ∙ ap₂ (λ (s : State) (x : ℕ). reachBy c (returnsOf list) (afterIn c i s x) (getD path i 0)) (m .state) (sym e);
-      account = account-le (c .fee) (c .top) (balanceAfter w t) (returnsOf list .factor (getD path i 0));
-      guarantee = le-trans (guarantee-le (freeAmount (c .level) a) w a t) (le-trans (sub-le a t) (m .guarantee));
-    }
+        → Met c (returnsOf list) table path (suc i)
+        (arrivalOf c (balanceAfter (p .account) t) (returnsOf list .factor (getD path i 0))
+        (guaranteeAfter (freeAmount (c .level) (p .guarantee)) (p .account) (p .guarantee) t))
+    unfolding walkPaid fixedTerm processOf reachBy paidBy afterIn freeIn balanceAfter
+    next-met t e =
+        let held =
+        walk-after (fixedTerm c (returnsOf list)) table path i some ∙ ap₂ (λ (s : State) (x : ℕ). afterIn c i s x) (m .state) (sym e) in
+        let up : i ≡ suc i - 1 = omega arith in record {
+          state =
+              walk-next (fixedTerm c (returnsOf list)) table path i some (omega (arith, h .long))
+              ∙ ap₂ (λ (s : State) (x : ℕ). reachBy c (returnsOf list) (afterIn c i s x) (getD path i 0)) (m .state) (sym e);
+          paid =
+              sym (ap (λ (x : Held). paidBy c (returnsOf list) x (getD path i 0)) held)
+              ∙ ap (walkPaid (fixedTerm c (returnsOf list)) table path) up;
+          account = account-le (c .fee) (c .top) (p .account - t) (returnsOf list .factor (getD path i 0));
+          guarantee =
+              le-trans (guarantee-le (freeAmount (c .level) (p .guarantee)) (p .account) (p .guarantee) t)
+              (le-trans (sub-le (p .guarantee) t) (m .guarantee));
+          paid-small = excess-paid-le (c .fee) (c .top) _ _ (le-trans (sub-le (p .account) t) (m .account)) (factor-small i before);
+        }
 
-pub met-up : {c : Terms} {rs : Returns} {table path : List ℕ} {w a : ℕ} (i : ℕ) → Met c rs table path (suc i) w a → Met c rs table path (i + 1) w a
-met-up {c} {rs} {table} {path} {w} {a} i m = subst (λ (n : ℕ). Met c rs table path n w a) (sym (add-one i)) m
+pub met-up : {c : Terms} {rs : Returns} {table path : List ℕ} {p : Place} (i : ℕ) → Met c rs table path (suc i) p → Met c rs table path (i + 1) p
+met-up {c} {rs} {table} {path} {p} i m = subst (λ (n : ℕ). Met c rs table path n p) (sym (add-one i)) m
 
 -- ---- the amount of a date, by what is met there
-module _ {c : Terms} {rs : Returns} {table path : List ℕ} {i w a : ℕ} (m : Met c rs table path i w a) (some : 0 < i) where
+module _ {c : Terms} {rs : Returns} {table path : List ℕ} {i : ℕ} {p : Place} (m : Met c rs table path i p) (some : 0 < i) where
   up : suc (i - 1) ≡ i
   up = omega arith
 
-  pub bad-is : badDate c rs table path (i - 1) ≡ not (admits dynamic (freeAmount (c .level) a) w (walkAmount (fixedTerm c rs) table path i))
+  pub bad-is : badDate c rs table path (i - 1)
+      ≡ not (admits dynamic (freeAmount (c .level) (p .guarantee)) (p .account) (walkAmount (fixedTerm c rs) table path i))
   unfolding badDate admissibleIn freeIn
   bad-is =
       ap (λ (n : ℕ). not (admissibleIn c dynamic (walkState (fixedTerm c rs) table path n) (walkAmount (fixedTerm c rs) table path n))) up
       ∙ ap (λ (s : State). not (admissibleIn c dynamic s (walkAmount (fixedTerm c rs) table path i))) (m .state)
 
-  pub paid-is : cashIn c i (at w a) (walkAmount (fixedTerm c rs) table path i) ≡ paid c rs table path (i - 1)
+  pub paid-is : p .paid + cashIn c i (at (p .account) (p .guarantee)) (walkAmount (fixedTerm c rs) table path i)
+      ≡ paid c rs table path (i - 1)
   unfolding paid
   paid-is =
-      sym (ap (λ (n : ℕ). cashIn c n (walkState (fixedTerm c rs) table path n) (walkAmount (fixedTerm c rs) table path n)) up
-      ∙ ap (λ (s : State). cashIn c i s (walkAmount (fixedTerm c rs) table path i)) (m .state))
+      ap₂ _+_ (m .paid)
+      (sym (ap (λ (n : ℕ). cashIn c n (walkState (fixedTerm c rs) table path n) (walkAmount (fixedTerm c rs) table path n)) up
+      ∙ ap (λ (s : State). cashIn c i s (walkAmount (fixedTerm c rs) table path i)) (m .state)))
 
   -- where no date is bad
   pub amount-within : c .dates - 1 ≤ first (badDate c rs table path) (c .dates - 1) → i < c .dates
-      → walkAmount (fixedTerm c rs) table path i ≤ max w (freeAmount (c .level) a)
+      → walkAmount (fixedTerm c rs) table path i ≤ max (p .account) (freeAmount (c .level) (p .guarantee))
   amount-within none before =
+      let m = freeAmount (c .level) (p .guarantee) in
+      let t = walkAmount (fixedTerm c rs) table path i in
       let good = sym bad-is ∙ all-fail (badDate c rs table path) (c .dates - 1) none (i - 1) (omega arith) in
-      dynamic-is (freeAmount (c .level) a) w _ (not-not (admits dynamic (freeAmount (c .level) a) w (walkAmount (fixedTerm c rs) table path i)) (rw good tt))
+      dynamic-is m (p .account) _ (not-not (admits dynamic m (p .account) t) (rw good tt))
 
   -- .. and at most 4,000
   pub amount-small : Valid c → c .dates - 1 ≤ first (badDate c rs table path) (c .dates - 1) → i < c .dates
@@ -101,7 +125,7 @@ module _ {c : Terms} {rs : Returns} {table path : List ℕ} {i w a : ℕ} (m : M
 cash-list : (c : Terms) (rs : Returns) (table path cashes : List ℕ) → 1 ≤ c .dates → c .dates ≤ length cashes
     → set (stored cashes 0 (paid c rs table path) (c .dates - 1)) (c .dates - 1) (paidLast c rs table path)
     ≡ walkCash (fixedTerm c rs) table path ++ drop (c .dates) cashes
-unfolding walkCash fixedTerm processOf paid
+unfolding walkCash walkPaid fixedTerm processOf paid
 cash-list c rs table path cashes some room =
     let n = c .dates - 1 in
     let up : suc n ≡ c .dates = omega arith in

@@ -1,11 +1,11 @@
 -- Walking a path: what the loops hand to each other. Assumes nothing.
 use mathlib.Core.List.{List, _++_}
 use mathlib.Core.Path.{_≡_}
-use Prim.Native.Nat.{ℕ, suc, _+_, _-_, _≤_, _<_}
+use Prim.Native.Nat.{ℕ, suc, _+_, _-_, _*_, _≤_, _<_}
 use lib.ListN.{getD, length, drop}
 use Rattle.rules.specs.Contract.{Terms, Returns}
-use Rattle.rules.specs.Date.{maturityValue}
-use Rattle.rules.specs.Product.{walkState, walkAmount, walkCash}
+use Rattle.rules.specs.Date.{nextAccount, excessPaid, maturityValue}
+use Rattle.rules.specs.Product.{walkState, walkAmount, walkPaid, walkCash}
 use Rattle.rules.specs.FixedTerm.{cashIn, fixedTerm}
 use Rattle.rules.specs.Refusals.{Verdict, onSuccess}
 use Rattle.rules.specs.Operations.{tableSize}
@@ -14,6 +14,7 @@ use Rattle.contract.specs.declared.Outcome.{Outcome}
 use Rattle.contract.specs.Reading.{outcomeOf}
 use Rattle.expect.specs.Expected.{Listing}
 use Rattle.dates.specs.Back.{at}
+use Rattle.walk.specs.declared.Place.{Place}
 
 -- a path that can be walked
 pub record Walking (c : Terms) (count : ℕ) (list table path : List ℕ) : Type 0 where
@@ -23,19 +24,32 @@ pub record Walking (c : Terms) (count : ℕ) (list table path : List ℕ) : Type
   pub long : length path ≡ c .dates
   pub numbers : (j : ℕ) → j < c .dates → getD path j 0 < count
 
--- account w and guarantee a are met on date i
-pub record Met (c : Terms) (rs : Returns) (table path : List ℕ) (i w a : ℕ) : Type 0 where
-  pub state : walkState (fixedTerm c rs) table path i ≡ at w a
-  pub account : w ≤ c .top
-  pub guarantee : a ≤ c .premium
+-- the place that a return leads to from a balance, with a guarantee
+abbrev pub arrivalOf : Terms → ℕ → ℕ → ℕ → Place
+arrivalOf c balance factor guarantee = record {
+  account = nextAccount (c .fee) (c .top) balance factor;
+  guarantee = guarantee;
+  paid = excessPaid (c .fee) (c .top) balance factor;
+}
 
--- the cash of date suc j, the last of them the maturity payment
+-- what is met on date i, and was paid on arrival there
+pub record Met (c : Terms) (rs : Returns) (table path : List ℕ) (i : ℕ) (p : Place) : Type 0 where
+  pub state : walkState (fixedTerm c rs) table path i ≡ at (p .account) (p .guarantee)
+  pub paid : p .paid ≡ walkPaid (fixedTerm c rs) table path (i - 1)
+  pub account : p .account ≤ c .top
+  pub guarantee : p .guarantee ≤ c .premium
+  pub paid-small : p .paid ≤ 20000 * c .top
+
+-- the cash of date suc j, the last of them the maturity payment, each with what is paid on arrival
 unfoldable pub paid : Terms → Returns → List ℕ → List ℕ → ℕ → ℕ
 paid c rs table path j =
-    cashIn c (suc j) (walkState (fixedTerm c rs) table path (suc j)) (walkAmount (fixedTerm c rs) table path (suc j))
+    walkPaid (fixedTerm c rs) table path j
+    + cashIn c (suc j) (walkState (fixedTerm c rs) table path (suc j)) (walkAmount (fixedTerm c rs) table path (suc j))
 
 abbrev pub paidLast : Terms → Returns → List ℕ → List ℕ → ℕ
-paidLast c rs table path = let s = walkState (fixedTerm c rs) table path (c .dates) in maturityValue (s .account) (s .guarantee)
+paidLast c rs table path =
+    let s = walkState (fixedTerm c rs) table path (c .dates) in
+    walkPaid (fixedTerm c rs) table path (c .dates - 1) + maturityValue (s .account) (s .guarantee)
 
 -- the outcome of a verdict, and the cash slice
 pub record Walked (c : Terms) (rs : Returns) (v : Verdict) (table path cashes : List ℕ) (r : Outcome) (cashes' : List ℕ) : Type 0 where

@@ -6,8 +6,8 @@ ghost use lib.Dec.{leb};
 ghost use lib.ListN.{length, getD, set};
 ghost use Rattle.decision.specs.Index.{first};
 ghost use Rattle.slices.specs.Stored.{stored};
-ghost use Rattle.rules.specs.Contract.{topMost, returnsOf};
-ghost use Rattle.rules.specs.Date.{dynamic, freeAmount, admits};
+ghost use Rattle.rules.specs.Contract.{topMost, factorMost, returnsOf};
+ghost use Rattle.rules.specs.Date.{dynamic, freeAmount, admits, nextAccount, excessPaid, maturityValue};
 ghost use Rattle.rules.specs.Product.{walkAmount};
 ghost use Rattle.rules.specs.FixedTerm.{cashIn, fixedTerm};
 ghost use Rattle.rules.specs.Refusals.{short, verdict};
@@ -21,10 +21,11 @@ use contract::Agreement;
 use contract::Contract;
 use contract::Outcome;
 
-// The account and guarantee that are met.
+// The account and guarantee that are met, and what is paid on arrival there.
 pub struct Place {
     pub account: usize,
     pub guarantee: usize,
+    pub paid: usize,
 }
 
 // Refusal 11.
@@ -53,15 +54,35 @@ fn first_missing(path: &[u16], count: usize, n: usize) -> usize
     j
 }
 
+// The account that a return leads to, and what it pays on arrival.
+struct Arrival {
+    account: usize,
+    paid: usize,
+}
+
+fn arrive(c: Contract, balance: usize, factor: usize) -> Arrival
+    requires { ⌜ Valid (termsIn c) × (balance ≤ c .top) × (factor ≤ factorMost) ⌝ }
+    ensures { λ r. ⌜
+        (r .account ≡ nextAccount (c .fee) (c .top) balance factor) × (r .paid ≡ excessPaid (c .fee) (c .top) balance factor)
+        ⌝ }
+{
+    Arrival {
+        account: date::next_account(c.fee, c.top, balance, factor),
+        paid: date::excess_paid(c.fee, c.top, balance, factor),
+    }
+}
+
 // What the first return leads to.
 fn first_place(c: Contract, list: &[u8], count: usize, table: &[u16], path: &[u16]) -> Place
     requires { ⌜ Walking (termsIn c) count (now list) (now table) (now path) ⌝ }
-    ensures { λ r. ⌜ Met (termsIn c) (returnsOf (now (list .entry))) (now (table .entry)) (now (path .entry)) 1 (r .account) (r .guarantee) ⌝ }
+    ensures { λ r. ⌜ Met (termsIn c) (returnsOf (now (list .entry))) (now (table .entry)) (now (path .entry)) 1 r ⌝ }
 {
     let factor = contract::word(list, Contract::RETURN_BYTES * date::wide16(path[0]));
+    let first = arrive(c, c.premium, factor);
     Place {
-        account: date::next_account(c.fee, c.top, c.premium, factor),
+        account: first.account,
         guarantee: c.premium,
+        paid: first.paid,
     }
 }
 
@@ -82,7 +103,7 @@ fn amount_on(
     i: usize,
     place: Place,
 ) -> usize
-    requires { ⌜ Walking (termsIn c) count (now list) (now table) (now path) × Met (termsIn c) (returnsOf (now list)) (now table) (now path) i (place .account) (place .guarantee) × (0 < i) × (i < c .dates) ⌝ }
+    requires { ⌜ Walking (termsIn c) count (now list) (now table) (now path) × Met (termsIn c) (returnsOf (now list)) (now table) (now path) i place × (0 < i) × (i < c .dates) ⌝ }
     ensures { λ r. ⌜ r ≡ walkAmount (fixedTerm (termsIn c) (returnsOf (now (list .entry)))) (now (table .entry)) (now (path .entry)) i ⌝ }
 {
     let part = dates::layer_of(c, i);
@@ -107,15 +128,17 @@ fn next_place(
     place: Place,
     t: usize,
 ) -> Place
-    requires { ⌜ Walking (termsIn c) count (now list) (now table) (now path) × Met (termsIn c) (returnsOf (now list)) (now table) (now path) i (place .account) (place .guarantee) × (0 < i) × (i < c .dates) × (t ≡ walkAmount (fixedTerm (termsIn c) (returnsOf (now list))) (now table) (now path) i) × (t ≤ max (place .account) (freeAmount (c .level) (place .guarantee))) ⌝ }
-    ensures { λ r. ⌜ Met (termsIn c) (returnsOf (now (list .entry))) (now (table .entry)) (now (path .entry)) (suc i) (r .account) (r .guarantee) ⌝ }
+    requires { ⌜ Walking (termsIn c) count (now list) (now table) (now path) × Met (termsIn c) (returnsOf (now list)) (now table) (now path) i place × (0 < i) × (i < c .dates) × (t ≡ walkAmount (fixedTerm (termsIn c) (returnsOf (now list))) (now table) (now path) i) × (t ≤ max (place .account) (freeAmount (c .level) (place .guarantee))) ⌝ }
+    ensures { λ r. ⌜ Met (termsIn c) (returnsOf (now (list .entry))) (now (table .entry)) (now (path .entry)) (suc i) r ⌝ }
 {
     let m = date::free_amount(c.level, place.guarantee);
     let balance = date::balance_after(place.account, t);
     let factor = contract::word(list, Contract::RETURN_BYTES * date::wide16(path[i]));
+    let next = arrive(c, balance, factor);
     Place {
-        account: date::next_account(c.fee, c.top, balance, factor),
+        account: next.account,
         guarantee: date::guarantee_after(m, place.account, place.guarantee, t),
+        paid: next.paid,
     }
 }
 
@@ -149,13 +172,21 @@ fn first_refused(c: Contract, list: &[u8], count: usize, table: &[u16], path: &[
     i
 }
 
-// What t pays on date i.
+// What is paid on date i: on arrival, and for t.
 fn cash_on(c: Contract, i: usize, place: Place, t: usize) -> usize
-    requires { ⌜ Valid (termsIn c) × (i < c .dates) × (t ≤ topMost) ⌝ }
-    ensures { λ r. ⌜ (r ≡ cashIn (termsIn c) i (at (place .account) (place .guarantee)) t) × (r ≤ 40000000) ⌝ }
+    requires { ⌜ Valid (termsIn c) × (i < c .dates) × (t ≤ topMost) × (place .paid ≤ 20000 * topMost) ⌝ }
+    ensures { λ r. ⌜ r ≡ place .paid + cashIn (termsIn c) i (at (place .account) (place .guarantee)) t ⌝ }
 {
     let rate = date::rate_on(c.penalty, c.step, i);
-    date::cash(rate, date::free_amount(c.level, place.guarantee), t)
+    place.paid + date::cash(rate, date::free_amount(c.level, place.guarantee), t)
+}
+
+// What is paid at maturity: on arrival, and for account and guarantee.
+fn cash_last(place: Place) -> usize
+    requires { ⌜ (place .account ≤ topMost) × (place .guarantee ≤ topMost) × (place .paid ≤ 20000 * topMost) ⌝ }
+    ensures { λ r. ⌜ r ≡ place .paid + maturityValue (place .account) (place .guarantee) ⌝ }
+{
+    place.paid + date::maturity_value(place.account, place.guarantee)
 }
 
 // Pays the cash of each date, and at maturity.
@@ -172,7 +203,7 @@ fn pay(c: Contract, list: &[u8], count: usize, table: &[u16], path: &[u16], cash
         i += 1;
     }
     let last = c.dates - 1;
-    cash[last] = date::maturity_value(place.account, place.guarantee) as u64;
+    cash[last] = cash_last(place) as u64;
 }
 
 fn outcome(number: u32, place: usize) -> Outcome

@@ -5,8 +5,7 @@ use Prim.Native.Nat.{ℕ, _+_, _-_, _*_, _≤_, _<_}
 use native.Mathlib.Nat.{le-trans, sub-le, add-le-add}
 use Rattle.decision.specs.Choice.{largest, smallestBest, largest-eq, smallestBest-eq}
 use Rattle.rules.specs.Date.{Behaviour, freeAmount, largestAmount, admits, cash, balanceAfter, guaranteeAfter}
-use Rattle.laws.specs.Date.{guarantee-le}
-use Rattle.laws.specs.Bounds.{cash-le}
+use Rattle.laws.specs.Date.{guarantee-le, cash-le}
 use lib.ListN.{length, getD}
 use Rattle.keys.specs.declared.Date.{Date}
 use Rattle.keys.specs.declared.Block.{Block}

@@ -1,28 +1,20 @@
 -- `date::next_account` meets its contract. Assumes nothing.
-use Prim.Native.Nat.{_*_, _-_}
+use Prim.Native.Nat.{min}
 use borrow.Author.Needs.{needs}
-use native.Mathlib.Omega.{arith}
+use mathlib.Core.Path.{ap, _∙_}
 use Rattle.rules.specs.Date.{nextAccount}
-use Rattle.date.proofs.Laws.{product}
 use Rattle.date.proofs.next_account.Statement.{statement}
 use Rattle.date.proofs.next_account.Tie as tie
 
-mul-smaller : tie.Need-mul-smaller
-mul-smaller c = omega (arith, product 4000 30000 {x = c .args .balance} {y = c .args .factor} (omega arith) (omega arith))
-
-sub-smaller : tie.Need-sub-smaller
-sub-smaller c = search needs
-
-mul-smaller-2 : tie.Need-mul-smaller-2
-mul-smaller-2 c = omega (arith, product 120000000 10000 {x = c .args .balance * c .args .factor} {y = 10000 - c .args .fee} (product 4000 30000 (omega arith) (omega arith)) (omega arith))
+lifted-account-requires : tie.Need-lifted-account-requires
+lifted-account-requires c κs = search needs
 
 smaller-requires : tie.Need-smaller-requires
 smaller-requires c κs = search needs
 
 returns : tie.Need-returns
 unfolding nextAccount
-returns c = c .smaller .ensures
+returns c = c .smaller .ensures ∙ ap (min (c .before .before .args .top)) (c .before .lifted-account .ensures .0)
 
 pub next-account-spec : {M : Type 1} → statement M
-next-account-spec =
-    tie.close (tie.spec mul-smaller sub-smaller mul-smaller-2 smaller-requires returns)
+next-account-spec = tie.close (tie.spec lifted-account-requires smaller-requires returns)

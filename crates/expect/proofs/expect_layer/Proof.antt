@@ -15,7 +15,7 @@ use Rattle.expect.proofs.expect_layer.Statement.{statement}
 use Rattle.expect.proofs.expect_layer.Tie as tie
 
 abbrev Inv-loop : tie.InvT-loop
-Inv-loop work₀ list count c stride size weights average sums₀ starts₀ end balance₀ work sums starts balance =
+Inv-loop work₀ list count c stride size weights most sums₀ starts₀ end balance₀ work sums starts balance =
     (balance ≤ end)
     × (work
     ≡ stored work₀ size (flat stride (scaled (expected (termsIn c) (returnsOf list) (cells work₀ 0 stride)))) (balance * stride))
@@ -23,7 +23,7 @@ Inv-loop work₀ list count c stride size weights average sums₀ starts₀ end 
     × (64 ≤ length starts)
 
 abbrev μ-loop : tie.MeasureT-loop
-μ-loop work₀ list count c stride size weights average sums₀ starts₀ end balance₀ work sums starts balance = end - balance
+μ-loop work₀ list count c stride size weights most sums₀ starts₀ end balance₀ work sums starts balance = end - balance
 
 add-stride : tie.Need-add-stride Inv-loop μ-loop
 add-stride c =
@@ -73,11 +73,11 @@ expect-row-requires c κs =
     let loop = c .before .before .before .before .before .before .before in
     let most = loop .before .before in
     let start = most .before .before .before .before .before .before .before .before in
-    let b = layer-balance (loop .loop .work) _ _ (loop .loop .balance) (start .pre .0) (start .pre .1) (most .most .ensures .0) (most .most .ensures .1)
-    (filled _ _ _ (most .before .before .fill-weights .ensures) (start .pre .0 .few)) (loop .loop .inv .1)
-    (omega (arith, c .before .before .before .before .before .before .loop-test .taken)) in
     let told = c .before .before .before .before .fill-starts .ensures in
-    (balance-row b _ (filled _ _ _ told (le-trans (start .pre .0 .few) (loop .loop .inv .3))), loop .loop .inv .2)
+    let b = layer-balance (loop .loop .work) _ _ (loop .loop .balance) (start .pre .0) (start .pre .1) (most .most .ensures .0) (most .most .ensures .1)
+    (filled _ _ _ (most .before .before .fill-weights .ensures) (start .pre .0 .few)) (told .0) (loop .loop .inv .1)
+    (omega (arith, c .before .before .before .before .before .before .loop-test .taken)) in
+    (balance-row b _ (filled _ _ _ (told .1) (le-trans (start .pre .0 .few) (loop .loop .inv .3))), loop .loop .inv .2)
 
 add-balance : tie.Need-add-balance Inv-loop μ-loop
 add-balance c =
@@ -92,12 +92,13 @@ loop-again c =
     let loop = c .before .before .before .before .before .before .before .before .before .before in
     let most = loop .before .before in
     let start = most .before .before .before .before .before .before .before .before in
-    let b = layer-balance {weights = most .before .before .fill-weights .last .0} (loop .loop .work) _ _ (loop .loop .balance) (start .pre .0) (start .pre .1) (most .most .ensures .0) (most .most .ensures .1)
-    (filled _ _ _ (most .before .before .fill-weights .ensures) (start .pre .0 .few)) (loop .loop .inv .1)
+    let starts = c .before .before .before .before .before .before .before .fill-starts in
+    let told = starts .ensures .1 in
+    let b = layer-balance {weights = most .before .before .fill-weights .last .0} (loop .loop .work) _ _ (loop .loop .balance) (start .pre .0) (start .pre .1)
+    (most .most .ensures .0) (most .most .ensures .1)
+    (filled _ _ _ (most .before .before .fill-weights .ensures) (start .pre .0 .few)) (starts .ensures .0) (loop .loop .inv .1)
     (omega (arith, c .before .before .before .before .before .before .before .before .before .loop-test .taken)) in
     let row = c .before .before .expect-row in
-    let starts = c .before .before .before .before .before .before .before .fill-starts in
-    let told = starts .ensures in
     let c₀ = start .args .c in
     let is = balance-cells b (starts .last .0) (filled _ _ _ told (le-trans (start .pre .0 .few) (loop .loop .inv .3))) in
     let step = expect-step (termsIn c₀) (returnsOf (start .args .list .now)) (start .args .work .now) (c₀ .premium + 1)

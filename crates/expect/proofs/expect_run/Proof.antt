@@ -25,7 +25,7 @@ store-sums-requires c κs =
       pre .0 .discount-is,
       pre .1,
       omega (arith, pre .0 .room),
-      pre .0 .most-is,
+      pre .0 .paid-is,
       λ j l. rw (add-all .ensures .each j l) (row-sum-le (pre .0) (start .args .p .from + j) (omega arith)),
     )
 
@@ -36,7 +36,7 @@ returns : tie.Need-returns
 returns c =
     let args = c .before .before .before .before .before .before .before .before .before .before .args in
     let add-all = c .before .before .before .before .before .before .add-all in
-    let value : ℕ → ℕ = λ x. 8192 * discounted (args .average .discount) x in (
+    let value : ℕ → ℕ = λ x. 8192 * discounted (args .average .discount) (x + args .average .paid) in (
       c .before .before .store-sums .ensures ∙ stored-eq _ _ _ _ (args .p .n) (λ j l. ap value (add-all .ensures .each j l)),
       add-all .ensures .long,
     )

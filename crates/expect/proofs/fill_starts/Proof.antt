@@ -1,26 +1,32 @@
 -- `expect::fill_starts` meets its contract. Assumes nothing.
-use Prim.Native.Nat.{_-_, _*_, _≤_}
+use Prim.Native.Nat.{ℕ, _+_, _-_, _*_, _≤_}
 use lib.ListN.{set}
-use mathlib.Core.Path.{_≡_, refl, sym, ap, _∙_}
+use mathlib.Core.Path.{_≡_, refl, sym, ap, ap₂, _∙_}
 use native.Mathlib.Nat.{mul-le-mul, le-trans}
 use borrow.Author.Needs.{needs}
 use native.Mathlib.Omega.{arith}
+use Rattle.decision.specs.Index.{sum, sum-next}
 use Rattle.laws.specs.Date.{account-le}
 use Rattle.rules.specs.Contract.{returnsOf}
-use Rattle.rules.specs.Date.{nextAccount}
+use Rattle.rules.specs.Date.{nextAccount, excessPaid}
 use Rattle.slices.specs.Stored.{stored, stored-push}
+use Rattle.expect.specs.Expected.{paidSum}
 use Rattle.expect.proofs.fill_starts.Statement.{statement}
 use Rattle.expect.proofs.fill_starts.Tie as tie
 
 abbrev Inv-loop : tie.InvT-loop
-Inv-loop starts₀ list count c balance stride k₀ starts k = (k ≤ count) × (starts ≡ stored starts₀ 0 (λ j. nextAccount (c .fee) (c .top) balance (returnsOf list .factor j) * stride) k)
+Inv-loop starts₀ list count c balance stride paid₀ k₀ starts paid k =
+    (k ≤ count)
+    × (starts ≡ stored starts₀ 0 (λ j. nextAccount (c .fee) (c .top) balance (returnsOf list .factor j) * stride) k)
+    × (paid ≡ sum (λ j. returnsOf list .weight j * excessPaid (c .fee) (c .top) balance (returnsOf list .factor j)) k)
+    × (paid ≤ 1200000000000 * k)
 
 abbrev μ-loop : tie.MeasureT-loop
-μ-loop starts₀ list count c balance stride k₀ starts k = count - k
+μ-loop starts₀ list count c balance stride paid₀ k₀ starts paid k = count - k
 
 loop-holds : tie.Need-loop-holds Inv-loop μ-loop
-unfolding stored
-loop-holds c = (omega arith, refl)
+unfolding stored sum
+loop-holds c = (omega arith, refl, refl, omega arith)
 
 mul-word : tie.Need-mul-word Inv-loop μ-loop
 mul-word c = omega arith
@@ -28,19 +34,26 @@ mul-word c = omega arith
 word-requires : tie.Need-word-requires Inv-loop μ-loop
 word-requires c κs = omega arith
 
+mul-word-2 : tie.Need-mul-word-2 Inv-loop μ-loop
+mul-word-2 c = omega arith
+
+add-word : tie.Need-add-word Inv-loop μ-loop
+add-word c = omega arith
+
+word-requires-2 : tie.Need-word-requires-2 Inv-loop μ-loop
+word-requires-2 c κs = omega arith
+
 next-account-requires : tie.Need-next-account-requires Inv-loop μ-loop
 unfolding returnsOf
 next-account-requires c κs =
-    let pre = c .before .before .before .before .pre in
-    let loop = c .before .before .loop in
-    (search needs, pre .2, rw (c .word .ensures .0) (pre .0 .valid .factor (loop .k) (omega (arith, pre .0 .all))))
+    let pre = c .before .before .before .before .before .pre in
+    (search needs, pre .2, rw (c .before .word .ensures .0) (pre .0 .valid .factor (c .before .before .before .loop .k) (omega (arith, pre .0 .all))))
 
 mul-starts : tie.Need-mul-starts Inv-loop μ-loop
 mul-starts c =
-    let args = c .before .before .before .before .before .args in
-    let pre = c .before .before .before .before .before .pre in
-    let x = args in
-    let held = account-le _ (x .c .top) (x .balance) (c .before .word .result) in
+    let x = c .before .before .before .before .before .before .args in
+    let pre = c .before .before .before .before .before .before .pre in
+    let held = account-le _ (x .c .top) (x .balance) (c .before .before .word .result) in
     let small : c .next-account .result ≤ 4000 = rw (c .next-account .ensures) (le-trans held (pre .1 .top)) in
     omega (arith, mul-le-mul small (pre .3))
 
@@ -49,6 +62,27 @@ mul-starts-2 c = omega arith
 
 element-write-starts : tie.Need-element-write-starts Inv-loop μ-loop
 element-write-starts c = omega arith
+
+excess-paid-requires : tie.Need-excess-paid-requires Inv-loop μ-loop
+unfolding returnsOf
+excess-paid-requires c κs =
+    let pre = c .before .before .before .before .before .before .pre in
+    (search needs, pre .2, rw (c .before .before .word .ensures .0) (pre .0 .valid .factor (c .before .before .before .before .loop .k) (omega (arith, pre .0 .all))))
+
+-- weight × what is paid on arrival
+small : (c : tie.After-excess-paid Inv-loop μ-loop) → c .before .before .word2 .result * c .excess-paid .result ≤ 10000 * 120000000
+unfolding returnsOf
+small c =
+    let pre = c .before .before .before .before .before .before .before .pre in
+    let light : c .before .before .word2 .result ≤ 10000 =
+    rw (c .before .before .word2 .ensures .0) (pre .0 .valid .weight (c .before .before .before .before .before .loop .k) (omega (arith, pre .0 .all, c .before .before .before .before .loop-test .taken))) in
+    mul-le-mul {m₂ = 120000000} light (omega (arith, c .excess-paid .ensures .1, pre .2))
+
+mul-paid : tie.Need-mul-paid Inv-loop μ-loop
+mul-paid c = omega (arith, small c)
+
+add-paid : tie.Need-add-paid Inv-loop μ-loop
+add-paid c = omega (arith, small c, c .before .before .before .before .before .loop .inv .3, c .before .before .before .before .before .before .before .pre .0 .few)
 
 add-k : tie.Need-add-k Inv-loop μ-loop
 add-k c = omega arith
@@ -59,13 +93,23 @@ loop-less c = omega arith
 loop-again : tie.Need-loop-again Inv-loop μ-loop
 unfolding returnsOf
 loop-again c =
-    let args = c .before .before .before .before .before .args in
-    let loop = c .before .before .before .loop in
-    let next = c .next-account .ensures ∙ ap (nextAccount (args .c .fee) (args .c .top) (args .balance)) (c .before .word .ensures .0) in
-    (omega arith, (λ i. set (loop .inv .1 i) (loop .k) (next i * args .stride)) ∙ stored-push _ _ _)
+    let args = c .before .before .before .before .before .before .before .args in
+    let loop = c .before .before .before .before .before .loop in
+    let factor = c .before .before .before .word .ensures .0 in
+    let next = c .before .next-account .ensures ∙ ap (nextAccount (args .c .fee) (args .c .top) (args .balance)) factor in
+    let paid = c .excess-paid .ensures .0 ∙ ap (excessPaid (args .c .fee) (args .c .top) (args .balance)) factor in (
+      omega arith,
+      (λ i. set (loop .inv .1 i) (loop .k) (next i * args .stride)) ∙ stored-push _ _ _,
+      (λ i. loop .inv .2 i + c .before .before .word2 .ensures .0 i * paid i) ∙ sym (sum-next _ (loop .k)),
+      omega (arith, small c, loop .inv .3),
+    )
 
 returns : tie.Need-returns Inv-loop μ-loop
-returns c = let e : c .before .loop .k ≡ c .before .before .before .args .count = omega arith in rw (sym e) (c .before .loop .inv .1)
+unfolding paidSum
+returns c =
+    let e : c .before .loop .k ≡ c .before .before .before .args .count = omega arith in
+    let all = c .before .before .before .pre .0 .all in
+    (c .before .loop .inv .2 ∙ ap (sum _) (e ∙ all), rw (sym e) (c .before .loop .inv .1))
 
 pub fill-starts-spec : {M : Type 1} → statement M
 fill-starts-spec =
@@ -76,10 +120,16 @@ fill-starts-spec =
     loop-holds
     mul-word
     word-requires
+    mul-word-2
+    add-word
+    word-requires-2
     next-account-requires
     mul-starts
     mul-starts-2
     element-write-starts
+    excess-paid-requires
+    mul-paid
+    add-paid
     add-k
     loop-less
     loop-again

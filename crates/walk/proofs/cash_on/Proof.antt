@@ -1,7 +1,7 @@
 -- `walk::cash_on` meets its contract. Assumes nothing.
-use Prim.Native.Nat.{ℕ}
+use Prim.Native.Nat.{ℕ, _+_}
 use borrow.Author.Needs.{needs}
-use mathlib.Core.Path.{ap₂, _∙_}
+use mathlib.Core.Path.{ap, ap₂, _∙_}
 use Rattle.rules.specs.Date.{cash}
 use Rattle.rules.specs.FixedTerm.{freeIn, cashIn}
 use Rattle.walk.proofs.cash_on.Statement.{statement}
@@ -16,13 +16,17 @@ free-amount-requires c κs = search needs
 cash-requires : tie.Need-cash-requires
 cash-requires c κs = search needs
 
+add-result : tie.Need-add-result
+add-result c = search needs
+
 returns : tie.Need-returns
 unfolding cashIn freeIn
 returns c =
-    let t₀ = c .before .before .before .args .t in (
-      c .cash .ensures .0 ∙ ap₂ (λ (r m : ℕ). cash r m t₀) (c .before .before .rate-on .ensures .0) (c .before .free-amount .ensures),
-      c .cash .ensures .1,
-    )
+    let args = c .before .before .before .before .args in
+    ap (λ (x : ℕ). args .place .paid + x)
+    (c .before .cash .ensures .0
+    ∙ ap₂ (λ (r m : ℕ). cash r m (args .t)) (c .before .before .before .rate-on .ensures .0) (c .before .before .free-amount .ensures))
 
 pub cash-on-spec : {M : Type 1} → statement M
-cash-on-spec = tie.close (tie.spec rate-on-requires free-amount-requires cash-requires returns)
+cash-on-spec =
+    tie.close (tie.spec rate-on-requires free-amount-requires cash-requires add-result returns)

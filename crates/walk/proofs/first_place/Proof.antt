@@ -1,16 +1,23 @@
 -- `walk::first_place` meets its contract. Assumes nothing.
 use Prim.Native.Nat.{ℕ, _*_}
 use borrow.Author.Needs.{needs}
-use mathlib.Core.Path.{sym, ap, _∙_, subst}
-use native.Mathlib.Nat.{le-trans}
+use lib.ListN.{getD}
+use mathlib.Core.Path.{_≡_, sym, ap, _∙_, subst}
+use native.Mathlib.Nat.{le-trans, le-of-eq}
 use native.Mathlib.Omega.{arith}
 use Rattle.contract.specs.Reading.{termsIn}
 use Rattle.rules.specs.Contract.{word, returnsOf}
-use Rattle.rules.specs.Date.{nextAccount}
+use Rattle.rules.specs.Date.{nextAccount, excessPaid}
 use Rattle.walk.specs.Walked.{Met}
-use Rattle.walk.proofs.Laws.{first-met}
+use Rattle.walk.proofs.Laws.{first-met, factor-small}
 use Rattle.walk.proofs.first_place.Statement.{statement}
 use Rattle.walk.proofs.first_place.Tie as tie
+
+-- the factor of the first return
+factor-is : (c : tie.After-word)
+    → c .word .result ≡ returnsOf (c .before .before .before .before .before .before .args .list .now) .factor (getD (c .before .before .before .before .before .before .args .path .now) 0 0)
+unfolding returnsOf
+factor-is c = c .word .ensures .0 ∙ ap (λ (k : ℕ). word (c .before .before .before .before .before .before .args .list .now) (4 * k)) (c .before .wide16 .ensures .0)
 
 shared-slice-read-wide16 : tie.Need-shared-slice-read-wide16
 shared-slice-read-wide16 c = search needs
@@ -26,33 +33,20 @@ word-requires c κs =
     let pre = c .before .before .before .before .before .pre in
     let k = pre .numbers 0 (pre .valid .dates-least) in omega (arith, c .wide16 .ensures .0, pre .listing .long)
 
-next-account-requires : tie.Need-next-account-requires
-unfolding returnsOf
-next-account-requires c κs =
+arrive-requires : tie.Need-arrive-requires
+arrive-requires c κs =
     let pre = c .before .before .before .before .before .before .pre in
-    let k = pre .numbers 0 (pre .valid .dates-least) in
-    let v = pre .valid in (
-      v .fee,
-      le-trans (v .premium) (v .top),
-      rw (c .word .ensures .0) (pre .listing .valid .factor (c .before .wide16 .result) (omega (arith, c .before .wide16 .ensures .0, pre .listing .all))),
-    )
+    (pre .valid, pre .valid .premium, le-trans (le-of-eq (factor-is c)) (factor-small pre 0 (pre .valid .dates-least)))
 
 returns : tie.Need-returns
-unfolding returnsOf
 returns c =
     let args = c .before .before .before .before .before .before .before .args in
-    let list₀ = args .list .now in
-    let pre = c .before .before .before .before .before .before .before .pre in
-    let wide16 = c .before .before .wide16 in
-    subst (λ (x : ℕ). Met (termsIn (args .c)) (returnsOf list₀) (args .table .now) (args .path .now) 1 x (args .c .premium)) (sym (c .next-account .ensures ∙ ap (λ (f : ℕ). nextAccount (args .c .fee) (args .c .top) (args .c .premium) f) (c .before .word .ensures .0 ∙ ap (λ (k : ℕ). word list₀ (4 * k)) (wide16 .ensures .0)))) (first-met pre)
+    let at = Met (termsIn (args .c)) (returnsOf (args .list .now)) (args .table .now) (args .path .now) 1 in
+    let factor = factor-is (c .before) in
+    let account = c .arrive .ensures .0 ∙ ap (nextAccount (args .c .fee) (args .c .top) (args .c .premium)) factor in
+    let paid = c .arrive .ensures .1 ∙ ap (excessPaid (args .c .fee) (args .c .top) (args .c .premium)) factor in
+    subst at (sym (λ i. record { account = account i; guarantee = args .c .premium; paid = paid i })) (first-met (c .before .before .before .before .before .before .before .pre))
 
 pub first-place-spec : {M : Type 1} → statement M
 first-place-spec =
-    tie.close
-    (tie.spec
-    shared-slice-read-wide16
-    wide16-requires
-    mul-word
-    word-requires
-    next-account-requires
-    returns)
+    tie.close (tie.spec shared-slice-read-wide16 wide16-requires mul-word word-requires arrive-requires returns)

@@ -1,7 +1,7 @@
 -- `walk::pay` meets its contract. Assumes nothing.
 use Prim.Native.Nat.{ℕ, _+_, _-_, _≤_, _<_}
 use lib.ListN.{length, set, length-set}
-use mathlib.Core.Path.{_≡_, refl, ap, sym, _∙_, subst}
+use mathlib.Core.Path.{_≡_, refl, ap, ap₂, sym, _∙_, subst}
 use native.Mathlib.Nat.{le-trans, le-of-eq}
 use native.Mathlib.Omega.{arith}
 use Rattle.contract.specs.Reading.{termsIn}
@@ -17,7 +17,7 @@ use Rattle.walk.proofs.pay.Tie as tie
 
 abbrev Inv-loop : tie.InvT-loop
 Inv-loop c list count table path cash₀ place₀ i₀ cash place i =
-    (0 < i) × (i ≤ c .dates) × Met (termsIn c) (returnsOf list) table path i (place .account) (place .guarantee) × (cash ≡ stored cash₀ 0 (paid (termsIn c) (returnsOf list) table path) (i - 1))
+    (0 < i) × (i ≤ c .dates) × Met (termsIn c) (returnsOf list) table path i place × (cash ≡ stored cash₀ 0 (paid (termsIn c) (returnsOf list) table path) (i - 1))
 
 abbrev μ-loop : tie.MeasureT-loop
 μ-loop c list count table path cash₀ place₀ i₀ cash place i = c .dates - i
@@ -38,7 +38,7 @@ cash-on-requires c κs =
     let loop = c .before .before .before .loop in
     let v = pre .0 .valid in
     let inside = c .before .if1 .taken in
-    (v, inside, le-trans (le-of-eq (c .amount-on .ensures)) (amount-small (loop .inv .2) (loop .inv .0) v (pre .2) inside))
+    (v, inside, le-trans (le-of-eq (c .amount-on .ensures)) (amount-small (loop .inv .2) (loop .inv .0) v (pre .2) inside), omega (arith, loop .inv .2 .paid-small, v .top))
 
 sub-cash : tie.Need-sub-cash Inv-loop μ-loop
 sub-cash c = omega (arith, c .before .before .before .before .loop .inv .0)
@@ -90,8 +90,9 @@ loop-again c =
     let i' = loop .i in
     let cashes = paid (termsIn (args .c)) (returnsOf (args .list .now)) (args .table .now) (args .path .now) in
     let cash-is =
-    c .before .cash-on .ensures .0
-    ∙ ap (cashIn (termsIn (args .c)) i' (at (loop .place .account) (loop .place .guarantee))) (c .before .before .amount-on .ensures)
+    c .before .cash-on .ensures
+    ∙ ap (λ (t : ℕ). loop .place .paid + cashIn (termsIn (args .c)) i' (at (loop .place .account) (loop .place .guarantee)) t)
+    (c .before .before .amount-on .ensures)
     ∙ paid-is (loop .inv .2) (loop .inv .0) in
     let up : i' - 1 + 1 ≡ i' + 1 - 1 = omega (arith, loop .inv .0) in (
       omega arith,
@@ -103,11 +104,15 @@ loop-again c =
 sub-last : tie.Need-sub-last Inv-loop μ-loop
 sub-last c = omega (arith, c .before .before .before .before .before .before .before .before .before .pre .0 .valid .dates-least)
 
-maturity-value-requires : tie.Need-maturity-value-requires Inv-loop μ-loop
-maturity-value-requires c κs =
+cash-last-requires : tie.Need-cash-last-requires Inv-loop μ-loop
+cash-last-requires c κs =
     let pre = c .before .before .before .before .before .before .before .before .before .pre in
     let loop = c .before .before .before .loop in
-    let v = pre .0 .valid in (le-trans (loop .inv .2 .account) (v .top), le-trans (loop .inv .2 .guarantee) (le-trans (v .premium) (v .top)))
+    let v = pre .0 .valid in (
+      le-trans (loop .inv .2 .account) (v .top),
+      le-trans (loop .inv .2 .guarantee) (le-trans (v .premium) (v .top)),
+      omega (arith, loop .inv .2 .paid-small, v .top),
+    )
 
 mul-cash-2 : tie.Need-mul-cash-2 Inv-loop μ-loop
 mul-cash-2 c =
@@ -141,7 +146,14 @@ returns c =
     let c₀ = args .c in
     let loop = c .before .before .before .before .loop in
     let if1 = c .before .before .if1 in
-    let e : loop .i ≡ args .c .dates = omega (arith, loop .inv .1, if1 .left) in let met = subst (λ (n : ℕ). Met (termsIn c₀) (returnsOf list₀) table₀ path₀ n (loop .place .account) (loop .place .guarantee)) e (loop .inv .2) in let filled = loop .inv .3 ∙ ap (λ (n : ℕ). stored (args .cash .now) 0 (paid (termsIn c₀) (returnsOf list₀) table₀ path₀) (n - 1)) e in let last = c .maturity-value .ensures .0 ∙ sym (ap (λ (s : State). maturityValue (s .account) (s .guarantee)) (met .state)) in λ x. set (filled x) (args .c .dates - 1) (last x)
+    let e : loop .i ≡ args .c .dates = omega (arith, loop .inv .1, if1 .left) in
+    let met = subst (λ (n : ℕ). Met (termsIn c₀) (returnsOf list₀) table₀ path₀ n (loop .place)) e (loop .inv .2) in
+    let filled =
+    loop .inv .3 ∙ ap (λ (n : ℕ). stored (args .cash .now) 0 (paid (termsIn c₀) (returnsOf list₀) table₀ path₀) (n - 1)) e in
+    let last =
+    c .cash-last .ensures
+    ∙ ap₂ _+_ (met .paid) (sym (ap (λ (s : State). maturityValue (s .account) (s .guarantee)) (met .state))) in
+    λ x. set (filled x) (args .c .dates - 1) (last x)
 
 pub pay-spec : {M : Type 1} → statement M
 pay-spec =
@@ -161,7 +173,7 @@ pay-spec =
     loop-less
     loop-again
     sub-last
-    maturity-value-requires
+    cash-last-requires
     mul-cash-2
     slice-write-cash-2
     same-length
