@@ -1,8 +1,9 @@
 // One date on plain numbers: the leaves that every operation is made of.
 ghost use mathlib.Core.Path.{_≡_};
-ghost use Prim.Native.Nat.{ℕ, _-_, _*_, _≤_, _<_, max, min};
+ghost use Prim.Native.Nat.{_-_, _*_, _≤_, _<_, max, min};
 ghost use Rattle.rules.specs.Contract.{topMost, datesMost, rateMost, discountMost, factorMost};
-ghost use Rattle.rules.specs.Date.{dynamic, freeAmount, largestAmount, admits, rateOn, penalty, cash, guaranteeAfter, balanceAfter, liftedAccount, nextAccount, excessPaid, maturityValue, discounted};
+ghost use Rattle.rules.specs.Date.{dynamic, freeAmount, largestAmount, admits, rateOn, penalty, cash, guaranteeAfter};
+ghost use Rattle.rules.specs.Date.{balanceAfter, liftedAccount, nextAccount, excessPaid, maturityValue, discounted};
 
 // An entry of a working slice, and one of a table, as a number.
 pub fn wide(x: u64) -> usize

@@ -5,17 +5,20 @@ use mathlib.Core.Path.{_≡_, refl, ap, sym, _∙_, subst}
 use Prim.Native.Nat.{ℕ, suc, _+_, _-_, _*_, _≤_, _<_}
 use native.Mathlib.Decide.{decLe}
 use native.Mathlib.Nat.{le-trans, le-of-eq, zero-add}
+use native.Mathlib.Numerals.{add-one}
 use native.Mathlib.Omega.{arith}
 use lib.ListN.{length, getD}
 use borrow.Rule.Slice.PartMut.{midOf, putMid, mid-len}
 use Rattle.slices.specs.Stored.{stored, length-stored, stored-out}
 use Rattle.slices.specs.Rows.{cells, flat, flat-at, layer-stored, within-rows, rows-le, rows-before}
 use Rattle.slices.specs.Parts.{put-long, put-in, put-above}
-use Rattle.rules.specs.Contract.{Terms, Returns, rateMost, returnsOf}
+use Rattle.rules.specs.Contract.{Terms, Returns, returnsOf}
 use Rattle.rules.specs.Date.{Behaviour}
 use Rattle.rules.specs.Product.{recordedAmount}
 use Rattle.rules.specs.FixedTerm.{rateIn, layerSize, fixedTerm}
-use Rattle.rules.specs.Operations.{behaviourOf, tableSize}
+use Rattle.rules.specs.Operations.{behaviourOf}
+use Rattle.laws.specs.Step.{rate-le}
+use Rattle.laws.specs.Bounds.{stateMost}
 use Rattle.expect.specs.Expected.{expected, scaled, expected-le, expected-same}
 use Rattle.keys.specs.declared.Date.{Date}
 use Rattle.keys.specs.Sums.{Sums, sums}
@@ -26,7 +29,7 @@ use Rattle.dates.specs.Layer.{LentLayer, entry-within}
 use Rattle.dates.specs.Back.{at, valuesOn, values-most, value-back, amount-back, maturity-is, Valued, Starting}
 
 -- ---- the sums of a date
-module _ {c : Terms} {count rate : ℕ} {work list : List ℕ} (d : OneDate c count rate work list) where
+module _ {c : Terms} {count i : ℕ} {work list : List ℕ} (d : OneDate c count i work list) where
   abbrev expects : ℕ → ℕ → ℕ
   expects = expected c (returnsOf list) (cells work 0 (c .premium + 1))
 
@@ -38,35 +41,35 @@ module _ {c : Terms} {count rate : ℕ} {work list : List ℕ} (d : OneDate c co
         let second = layer-stored work size (c .premium + 1) (c .top + 1) (scaled expects) (d .first .layers .room) in
         ap (λ (xs : List ℕ). cells xs size (c .premium + 1) w a) is ∙ second .cell w a (omega arith) (omega arith)
 
-    sums-of : (w a : ℕ) → w ≤ c .top → a ≤ c .premium → sums work' (dateOf c rate) w a ≡ expects w a
+    sums-of : (w a : ℕ) → w ≤ c .top → a ≤ c .premium → sums work' (dateOf c i) w a ≡ expects w a
     sums-of w a h l = let e = cells-are w a h l in omega arith
 
     long : length work' ≡ length work
     long = ap length is ∙ length-stored work _ _ _
 
-    two-layers : Sums work' (dateOf c rate) (c .top + 1)
+    two-layers : Sums work' (dateOf c i) (c .top + 1)
     unfolding layerSize
     two-layers =
         let v = d .first .layers .valid in record {
           few = omega (arith, v .top);
           width = omega (arith, v .premium, v .top);
           level-is = omega (arith, v .level);
-          rate-is = d .rate-is;
+          rate-is = le-trans (rate-le (c .penalty) (c .step) i) (v .penalty);
           apart = omega arith;
           room = rw long (d .first .layers .room);
-          scaled = λ w a i k.
+          scaled = λ w a h k.
               cells-are w a (omega arith) (omega arith) ∙ ap (λ (x : ℕ). 8192 * x) (sym (sums-of w a (omega arith) (omega arith)));
-          small = λ w a i k.
+          small = λ w a h k.
               rw (sums-of w a (omega arith) (omega arith))
-              (expected-le c (returnsOf list) _ w a v (d .listing .valid) (omega arith) (λ x h. d .first .small x a h (omega arith)));
+              (expected-le c (returnsOf list) _ i w a v (d .listing .valid) (omega arith) (λ x l. d .first .small x a l (omega arith)));
         }
 
-    pub summed : Summed c (returnsOf list) work work' (dateOf c rate)
+    pub summed : Summed c (returnsOf list) work work' (dateOf c i)
     summed = record {
       long = long;
       layers = two-layers;
       sums-are = sums-of;
-      rest = λ i h. ap (λ (xs : List ℕ). getD xs i 0) is ∙ stored-out work _ _ _ i (inr h);
+      rest = λ x h. ap (λ (xs : List ℕ). getD xs x 0) is ∙ stored-out work _ _ _ x (inr h);
     }
 
 -- ---- .. and its states
@@ -81,48 +84,49 @@ first-end : (c : Terms) {i : ℕ} → layerSize c + layerSize c ≤ i → (c .to
 unfolding layerSize
 first-end c h = omega arith
 
-pub dated : {b : Behaviour} {c : Terms} {rs : Returns} {rate : ℕ} {work table work₁ work' table' : List ℕ} {d : Date} → d ≡ dateOf c rate
+pub dated : {b : Behaviour} {c : Terms} {rs : Returns} {i : ℕ} {work table work₁ work' table' : List ℕ} {d : Date} → d ≡ dateOf c i
     → Summed c rs work work₁ d → Decided b (sums work₁ d) work₁ table work' table' d 0 ((c .top + 1) * d .stride)
-    → Dated b c rs rate work table work' table'
-dated {b} {c} {rs} {rate} {work} {table} {work₁} {work'} {table'} is s x =
+    → Dated b c rs i work table work' table'
+dated {b} {c} {rs} {i} {work} {table} {work₁} {work'} {table'} is s x =
     go (subst (Summed c rs work work₁) is s) (subst
     (λ (d : Date). Decided b (sums work₁ d) work₁ table work' table' d 0 ((c .top + 1) * d .stride)) is x)
   where
-    go : Summed c rs work work₁ (dateOf c rate)
-        → Decided b (sums work₁ (dateOf c rate)) work₁ table work' table' (dateOf c rate) 0 ((c .top + 1) * (c .premium + 1))
-        → Dated b c rs rate work table work' table'
+    go : Summed c rs work work₁ (dateOf c i)
+        → Decided b (sums work₁ (dateOf c i)) work₁ table work' table' (dateOf c i) 0 ((c .top + 1) * (c .premium + 1))
+        → Dated b c rs i work table work' table'
     go s x = record {
       long = x .long ∙ s .long;
       long-table = x .long-table;
       values = λ w a h l.
           x .values _ (omega arith) (entry-in c h l)
-          ∙ entry-flat c (bestValue b (sums work₁ (dateOf c rate)) rate (c .level)) w a l
-          ∙ value-same b _ _ rate (c .level) w a (λ y z p q. s .sums-are y z (le-trans p h) (le-trans q l));
+          ∙ entry-flat c (bestValue b (sums work₁ (dateOf c i)) (rateIn c i) (c .level)) w a l
+          ∙ value-same b _ _ (rateIn c i) (c .level) w a (λ y z p q. s .sums-are y z (le-trans p h) (le-trans q l));
       amounts = λ w a h l room.
           x .amounts _ (omega arith) (entry-in c h l) (omega arith)
-          ∙ entry-flat c (bestAmount b (sums work₁ (dateOf c rate)) rate (c .level)) w a l
-          ∙ amount-same b _ _ rate (c .level) w a (λ y z p q. s .sums-are y z (le-trans p h) (le-trans q l));
-      rest = λ i h. x .rest i (inr (first-end c h)) ∙ s .rest i h;
+          ∙ entry-flat c (bestAmount b (sums work₁ (dateOf c i)) (rateIn c i) (c .level)) w a l
+          ∙ amount-same b _ _ (rateIn c i) (c .level) w a (λ y z p q. s .sums-are y z (le-trans p h) (le-trans q l));
+      rest = λ y h. x .rest y (inr (first-end c h)) ∙ s .rest y h;
     }
 
 -- ---- from one date to the date before it
 module _ {behaviour : ℕ} {c : Terms} {count : ℕ} {work₀ table₀ list work table : List ℕ} (s : Starting behaviour c count work₀ list)
     {i : ℕ} (v : Valued (behaviourOf behaviour) c (returnsOf list) work₀ table₀ work table i)
   where
-    pub dating : {rate : ℕ} → rate ≤ rateMost → OneDate c count rate work list
-    dating small-rate = record {
-      rate-is = small-rate;
+    pub dating : i < c .dates → OneDate c count i work list
+    dating before = record {
+      before = before;
       listing = s .listing;
       first = record {
         layers = record { valid = s .layers .valid; room = omega (arith, s .layers .room, v .long) };
         small = λ w a h k.
             le-trans (le-of-eq (v .values w a h k))
-            (values-most c (returnsOf list) (behaviourOf behaviour) (s .layers .valid) (s .listing .valid) (suc i) (omega arith) w a h k);
+            (subst (λ (n : ℕ). valuesOn c (returnsOf list) (behaviourOf behaviour) (suc i) w a ≤ stateMost c n) (sym (add-one i))
+            (values-most c (returnsOf list) (behaviourOf behaviour) (s .layers .valid) (s .listing .valid) (suc i) w a h k));
       };
     }
 
     module _ {from to : ℕ} (p : LentLayer c i (length table) from to) (some : 0 < i) (before : i < c .dates) (work₁ part₁ : List ℕ)
-        (d : Dated (behaviourOf behaviour) c (returnsOf list) (rateIn c i) work (midOf from (to - from) table) work₁ part₁)
+        (d : Dated (behaviourOf behaviour) c (returnsOf list) i work (midOf from (to - from) table) work₁ part₁)
       where
         starts : from ≤ to
         starts = omega (arith, p .start, p .end)

@@ -1,18 +1,18 @@
 -- The best of a date over the next date's values is the rules' value and recorded amount. Assumes nothing.
 use mathlib.Core.List.{List}
-use mathlib.Core.Path.{_≡_, refl, sym, _∙_}
+use mathlib.Core.Path.{_≡_, refl, sym}
 use Prim.Native.Nat.{ℕ, suc, _+_, _-_, _*_, _≤_, _<_}
 use lib.ListN.{length, getD}
-use Rattle.decision.specs.Choice.{largest, smallestBest}
 use Rattle.decision.specs.Process.{reached, worth, recorded}
 use Rattle.decision.specs.Optimal.{value-step, value-last}
 use Rattle.slices.specs.Rows.{cells}
-use Rattle.rules.specs.Contract.{Terms, Returns, returnsOf}
+use Rattle.rules.specs.Contract.{Terms, Returns}
 use Rattle.rules.specs.Date.{Behaviour, maturityValue}
 use Rattle.rules.specs.Product.{stateValue, recordedAmount}
 use Rattle.laws.specs.Accepted.{Valid, ValidReturns}
-use Rattle.laws.specs.Bounds.{stateMost, state-value-most}
-use Rattle.rules.specs.FixedTerm.{State, freeIn, admissibleIn, limitIn, rateIn, cashIn, afterIn, reachBy, paidBy, expectOver, processOf, layerSize, fixedTerm}
+use Rattle.laws.specs.Bounds.{stateMost, state-value-le}
+use Rattle.rules.specs.FixedTerm.{State, freeIn, admissibleIn, limitIn, rateIn, cashIn, afterIn, reachBy, paidBy, expectOver}
+use Rattle.rules.specs.FixedTerm.{processOf, layerSize, fixedTerm}
 use Rattle.expect.specs.Expected.{reachedSum, expected, Listing, Layers}
 use Rattle.worth.specs.Worth.{worthOver, bestValue, bestAmount}
 
@@ -25,13 +25,15 @@ valuesOn c rs b i w a = stateValue (fixedTerm c rs) b i (at w a)
 
 pub value-back : (c : Terms) (rs : Returns) (b : Behaviour) (i w a : ℕ) → i < c .dates
     → bestValue b (expected c rs (valuesOn c rs b (suc i))) (rateIn c i) (c .level) w a ≡ valuesOn c rs b i w a
-unfolding stateValue fixedTerm processOf admissibleIn limitIn freeIn cashIn afterIn reachBy paidBy expectOver reached worth bestValue worthOver
+unfolding stateValue fixedTerm processOf admissibleIn limitIn freeIn cashIn afterIn reachBy paidBy expectOver reached worth bestValue
+    worthOver
     expected reachedSum
 value-back c rs b i w a l = sym (value-step (processOf c rs) (admissibleIn c b) i (at w a) l)
 
 pub amount-back : (c : Terms) (rs : Returns) (b : Behaviour) (i w a : ℕ)
     → bestAmount b (expected c rs (valuesOn c rs b (suc i))) (rateIn c i) (c .level) w a ≡ recordedAmount (fixedTerm c rs) b i (at w a)
-unfolding stateValue recordedAmount recorded fixedTerm processOf admissibleIn limitIn freeIn cashIn afterIn reachBy paidBy expectOver reached worth
+unfolding stateValue recordedAmount recorded fixedTerm processOf admissibleIn limitIn freeIn cashIn afterIn reachBy paidBy expectOver
+    reached worth
     bestAmount worthOver expected reachedSum
 amount-back c rs b i w a = refl
 
@@ -41,8 +43,8 @@ maturity-is c rs b w a = value-last (processOf c rs) (admissibleIn c b) (at w a)
 
 -- no value is above what a contract's values can be
 pub values-most : (c : Terms) (rs : Returns) (b : Behaviour) → Valid c → ValidReturns rs
-    → (i : ℕ) → 1 ≤ i → (w a : ℕ) → w ≤ c .top → a ≤ c .premium → valuesOn c rs b i w a ≤ stateMost c 1
-values-most c rs b v u i l w a h k = state-value-most c rs v u b i (at w a) l (record { account = h; guarantee = k })
+    → (i w a : ℕ) → w ≤ c .top → a ≤ c .premium → valuesOn c rs b i w a ≤ stateMost c i
+values-most c rs b v u i w a h k = state-value-le c rs v u b i (at w a) (record { account = h; guarantee = k })
 
 -- ---- what the loop over the dates holds: the dates above i are valued, and recorded as far as the table goes
 pub record Valued (b : Behaviour) (c : Terms) (rs : Returns) (work table work' table' : List ℕ) (i : ℕ) : Type 0 where

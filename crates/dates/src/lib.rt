@@ -44,24 +44,24 @@ pub fn clear(work: &mut [u64], from: usize, n: usize)
     }
 }
 
-// The discounted sums of a date, in the second layer. Gives where they stand, with the date's terms.
-pub fn sum_date(work: &mut [u64], list: &[u8], count: usize, c: Contract, rate: usize) -> Date
-    requires { ⌜ OneDate (termsIn c) count rate (now work) (now list) ⌝ }
+// The discounted sums of date i, in the second layer. Gives where they stand, with the date's terms.
+pub fn sum_date(work: &mut [u64], list: &[u8], count: usize, c: Contract, i: usize) -> Date
+    requires { ⌜ OneDate (termsIn c) count i (now work) (now list) ⌝ }
     ensures { λ r. ⌜
-        (r ≡ dateOf (termsIn c) rate)
+        (r ≡ dateOf (termsIn c) i)
         × Summed (termsIn c) (returnsOf (now (list .entry))) (now (work .entry)) (now (work .exit)) r
         ⌝ }
 {
-    expect::expect_layer(work, list, count, c);
+    expect::expect_layer(work, list, count, c, i);
     Date {
         base: c.layer_size(),
         stride: c.premium + 1,
         level: c.level,
-        rate,
+        rate: date::rate_on(c.penalty, c.step, i),
     }
 }
 
-// The values and amounts of one date.
+// The values and amounts of date i.
 fn one_date(
     behaviour: usize,
     work: &mut [u64],
@@ -69,15 +69,15 @@ fn one_date(
     list: &[u8],
     count: usize,
     c: Contract,
-    rate: usize,
+    i: usize,
 )
-    requires { ⌜ (behaviour ≤ 2) × OneDate (termsIn c) count rate (now work) (now list) ⌝ }
+    requires { ⌜ (behaviour ≤ 2) × OneDate (termsIn c) count i (now work) (now list) ⌝ }
     ensures { λ _. ⌜
-        Dated (behaviourOf behaviour) (termsIn c) (returnsOf (now (list .entry))) rate (now (work .entry)) (now (table .entry))
+        Dated (behaviourOf behaviour) (termsIn c) (returnsOf (now (list .entry))) i (now (work .entry)) (now (table .entry))
         (now (work .exit)) (now (table .exit))
         ⌝ }
 {
-    let d = sum_date(work, list, count, c, rate);
+    let d = sum_date(work, list, count, c, i);
     states::decide_layer(behaviour, work, table, d, c.top + 1);
 }
 
@@ -132,8 +132,7 @@ pub fn all_dates(
         let part = lent_layer(c, i, table.len());
         let from = part.from;
         let to = part.to;
-        let rate = date::rate_on(c.penalty, c.step, i);
-        one_date(behaviour, work, &mut table[from..to], list, count, c, rate);
+        one_date(behaviour, work, &mut table[from..to], list, count, c, i);
         i -= 1;
     }
 }

@@ -4,7 +4,8 @@ use mathlib.Core.List.{List, [], _∷_}
 use mathlib.Core.Path.{_≡_, refl, ap, ap₂}
 use Prim.Native.Nat.{ℕ, zero, suc, _+_, _<_}
 use Rattle.decision.specs.Choice.{largest-eq, smallestBest-eq}
-use Rattle.decision.specs.Process.{Process, Rule, Table, reached, worth, valueOver, tableOver, left, value, recorded, tableValue, startValue, startTableValue, met, startMet, Monotone}
+use Rattle.decision.specs.Process.{Process, Rule, Table, reached, worth, valueOver, tableOver, left, value, recorded}
+use Rattle.decision.specs.Process.{tableValue, startValue, startTableValue, met, startMet, Monotone}
 use Rattle.decision.specs.Optimal.{expect-eq}
 
 -- the process that pays otherwise on arrival and is the same in all else

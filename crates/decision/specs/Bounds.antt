@@ -6,7 +6,8 @@ use native.Mathlib.Nat.{le-trans, le-of-eq, add-le-add, le-refl}
 use native.Mathlib.Omega.{arith}
 use lib.Dec.{T}
 use Rattle.decision.specs.Choice.{smallestBest, best-is}
-use Rattle.decision.specs.Process.{Process, Rule, Table, reached, worth, valueOver, tableOver, left, value, tableValue, startValue, startTableValue, Decides, Open, Closed}
+use Rattle.decision.specs.Process.{Process, Rule, Table, reached, worth, valueOver, tableOver, left, value, tableValue}
+use Rattle.decision.specs.Process.{startValue, startTableValue, Decides, Open, Closed}
 
 module _ {S H : Type 0} (P : Process S H) (r : Rule S) (o : Open P r) (InRange : S → Type 0) (c : Closed P r InRange) (B C : ℕ)
     (ends : (s : S) → InRange s → P .final s ≤ B)

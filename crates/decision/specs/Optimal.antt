@@ -8,7 +8,10 @@ use native.Mathlib.Omega.{arith}
 use lib.Dec.{T}
 use lib.ListN.{length, length-append}
 use Rattle.decision.specs.Choice.{largest, smallestBest, le-largest, Best, best-is, best-unique}
-use Rattle.decision.specs.Process.{Process, Rule, Strategy, Table, reached, worth, valueOver, tableOver, left, value, recorded, tableValue, startValue, startTableValue, earnedOver, KeepsOver, earned, Keeps, startEarned, StartKeeps, met, startMet, follow, startFollow, Decides, Attained, Monotone, Open, Closed}
+use Rattle.decision.specs.Process.{Process, Rule, Strategy, Table, reached, worth, valueOver, tableOver, left, value}
+use Rattle.decision.specs.Process.{recorded, tableValue, startValue, startTableValue, earnedOver, KeepsOver, earned, Keeps}
+use Rattle.decision.specs.Process.{startEarned, StartKeeps, met, startMet, follow, startFollow, Decides, Attained, Monotone}
+use Rattle.decision.specs.Process.{Open, Closed}
 
 module _ {S H : Type 0} (P : Process S H) where
   -- ---- the values of a date, by those of the next
@@ -120,7 +123,8 @@ module _ {S H : Type 0} (P : Process S H) where
       unfolding earnedOver tableOver worth Steps
       earns b at steps zero i p s l e m = refl
       earns b at steps (suc n) i p s l e m =
-          ap (λ (x : S). P .cash i s (d i x) + P .expect i (P .after i s (d i x)) (λ k. reached P (earnedOver P (λ j q. d j (at q)) n (suc i) (p ++ (k ∷ []))) (P .after i s (d i x)) k)) m
+          ap (λ (x : S). P .cash i s (d i x) + P .expect i (P .after i s (d i x)) (λ k.
+          reached P (earnedOver P (λ j q. d j (at q)) n (suc i) (p ++ (k ∷ []))) (P .after i s (d i x)) k)) m
           ∙ ap (λ (x : ℕ). P .cash i s (d i s) + x) (expect-eq i _ _ _ (λ k f. reached-eq _ _ _ k
           (earns b at steps n (suc i) (p ++ (k ∷ [])) _ (omega arith) (simp length-append (omega arith))
           (steps i k p l e ∙ ap (λ (x : S). P .reach (P .after i x (d i x)) k) m))))
@@ -128,7 +132,8 @@ module _ {S H : Type 0} (P : Process S H) where
       pub start-table-earned : startEarned P (startFollow P d) ≡ startTableValue P d
       unfolding startEarned startFollow startTableValue tableValue startMet met
       start-table-earned =
-          expect-eq 0 _ _ _ (λ k l. reached-eq _ _ _ k (earns 0 (startMet P d) (startMet-steps d) (left P 1) 1 (k ∷ []) _ (le-refl 1) refl refl))
+          expect-eq 0 _ _ _ (λ k l. reached-eq _ _ _ k
+          (earns 0 (startMet P d) (startMet-steps d) (left P 1) 1 (k ∷ []) _ (le-refl 1) refl refl))
 
       pub table-earned : (i : ℕ) (s : S) → 1 ≤ i → earned P (follow P d i s) i s ≡ tableValue P d i s
       unfolding earned follow tableValue met
@@ -181,7 +186,8 @@ module _ {S H : Type 0} (P : Process S H) where
 
         pub start-filled : 1 ≤ P .dates → startTableValue P d ≡ startValue P r
         unfolding startTableValue startValue
-        start-filled one = expect-eq 0 _ _ _ (λ k l. reached-eq _ _ _ k (filled-value (left P 1) 1 _ (le-refl 1) (omega arith) (c .starts k l)))
+        start-filled one =
+            expect-eq 0 _ _ _ (λ k l. reached-eq _ _ _ k (filled-value (left P 1) 1 _ (le-refl 1) (omega arith) (c .starts k l)))
 
         -- the whole claim
         pub attained : 1 ≤ P .dates → Attained P r InRange d

@@ -2,9 +2,8 @@
 use mathlib.Core.List.{List}
 use mathlib.Core.Logic.{inl, inr}
 use mathlib.Core.Path.{_≡_, refl, ap, ap₂, sym, _∙_, subst}
-use Prim.Native.Nat.{ℕ, zero, suc, _+_, _*_, _%_, _≤_, _<_, max}
-use native.Mathlib.Nat.{le-trans, le-of-eq, mul-le-mul, mul-le-mul-left, zero-add, mod-eq-of-lt}
-use native.Mathlib.Decide.{decLe}
+use Prim.Native.Nat.{ℕ, zero, suc, _+_, _*_, _%_, _≤_, _<_}
+use native.Mathlib.Nat.{le-trans, le-of-eq, mul-le-mul, mul-le-mul-left, zero-add, add-zero, mod-eq-of-lt}
 use native.Mathlib.Omega.{arith}
 use lib.ListN.{getD, length, replicate, getD-replicate}
 use Rattle.decision.specs.Index.{sum, sum-le, sum-eq, sum-next, sum-times}
@@ -13,19 +12,17 @@ use Rattle.slices.specs.Rows.{cells, flat, flat-at, within-rows, rows-le, rows-
 use Rattle.rules.specs.Contract.{Terms, Returns, returnsOf, weightTotal, weightMost}
 use Rattle.rules.specs.Date.{nextAccount, excessPaid, discounted}
 use Rattle.rules.specs.FixedTerm.{layerSize}
+use Rattle.laws.specs.Accepted.{Valid}
 use Rattle.laws.specs.Bounds.{stateMost, value-room, value-most, entryMost}
+use Rattle.laws.specs.Narrow.{value-narrow}
 use Rattle.laws.specs.Date.{account-le}
-use Rattle.expect.specs.Expected.{reachedSum, expected, paidSum, stateSum, two-sums, paid-sum-le, scaled, term, productMost}
-use Rattle.expect.specs.Expected.{Largest, Reached, Run, Summed, Row, Listing, Layers, Values, Within, Balance}
+use Rattle.expect.specs.Expected.{reachedSum, expected, paidSum, stateSum, two-sums, paid-sum-le, scaled, term, lowMost, productMost}
+use Rattle.expect.specs.Expected.{Reached, Run, Open, Summed, Row, Listing, Layers, Values, Within, Balance}
 
 -- ---- sums along the guarantees
 -- a product is small
-pub product-small : {x y : ℕ} → x ≤ weightMost → y ≤ entryMost → x * y ≤ productMost
-product-small h l = mul-le-mul {n₂ = weightMost} {m₂ = entryMost} h l
-
-pub reached-up : {work starts weights : List ℕ} {most a k : ℕ} (m : ℕ)
-    → Reached work starts weights most a k → most ≤ m → Reached work starts weights m a k
-reached-up m r l = record { light = r .light; within = r .within; small = le-trans (r .small) l }
+pub product-small : {x y : ℕ} → x ≤ weightMost → y ≤ lowMost → x * y ≤ productMost
+product-small h l = mul-le-mul {n₂ = weightMost} {m₂ = lowMost} h l
 
 pub sum-four : (f : ℕ → ℕ) (k : ℕ) → sum f (k + 4) ≡ sum f k + (f k + f (k + 1) + f (k + 2) + f (k + 3))
 sum-four f k =
@@ -43,115 +40,114 @@ twice-four f k x y p q = let e : sum f (k + 4 + 4) ≡ sum f (k + 8) = ap (sum f
 pub low-part : {x : ℕ} → x ≤ 4294967295 → x % 4294967296 ≡ x
 low-part h = mod-eq-of-lt (omega arith)
 
--- ---- the largest of some numbers
-pub largest-none : (xs : List ℕ) → Largest xs 0 0
-largest-none xs = record { above = λ i l. absurd (omega arith); least = λ m h. omega arith }
-
-pub largest-next : (xs : List ℕ) (n r x : ℕ) {r' : ℕ} → x ≡ getD xs n 0 → r' ≡ max r x → Largest xs n r → Largest xs (n + 1) r'
-largest-next xs n r x {r'} p q o = record {
-  above = λ i l. go i l (decLe n i);
-  least = λ m h. let a = o .least m (λ i l. h i (omega arith)) in let b = h n (omega arith) in omega arith;
-}
-  where
-    go : (i : ℕ) → i < n + 1 → Dec (n ≤ i) → getD xs i 0 ≤ r'
-    go i l (yes m) = let e : getD xs i 0 ≡ getD xs n 0 = ap (λ (z : ℕ). getD xs z 0) (omega arith) in omega arith
-    go i l (no m) = let b = o .above i (omega arith) in omega arith
-
-module _ {work starts weights : List ℕ} {count most from n : ℕ} (r : Run work starts weights count most from n) where
-  pub sum-small : (j k : ℕ) → j < n → k ≤ count → sum (term work starts weights (from + j)) k ≤ productMost * k
+module _ {work starts weights : List ℕ} {count from n : ℕ} (r : Run work starts weights count from n) where
+  sum-small : (j k : ℕ) → j < n → k ≤ count → sum (term work starts weights (from + j)) k ≤ productMost * k
   unfolding sum
   sum-small j zero l h = omega arith
   sum-small j (suc k) l h =
       let before = sum-small j k l (omega arith) in
       let x = r .reached k j (omega arith) l in
-      let last = product-small (x .light) (le-trans (x .small) (r .most-is)) in
+      let last = product-small (x .light) (x .small) in
       omega arith
 
-  -- fewer returns, or a larger bound
-  pub run-part : (k m : ℕ) → k ≤ count → most ≤ m → m ≤ entryMost → Run work starts weights k m from n
-  run-part k m h l e = record {
-    few = omega (arith, r .few);
-    short = r .short;
-    most-is = e;
-    reached = λ i j g p. reached-up m (r .reached i j (omega arith) p) l;
-  }
+  -- fewer returns
+  pub run-part : (k : ℕ) → k ≤ count → Run work starts weights k from n
+  run-part k h = record { few = omega (arith, r .few); short = r .short; reached = λ i j g p. r .reached i j (omega arith) p }
 
--- an entry that is not added to yet
-pub sum-read : {work starts weights sums sums' : List ℕ} {from n k j : ℕ} (f : ℕ → ℕ) → Summed work starts weights sums from n k
-    → sums' ≡ stored sums 0 f j → j < n → getD sums' j 0 ≡ sum (term work starts weights (from + j)) k
-sum-read {sums = sums} {j = j} f s e l =
-    ap (λ (xs : List ℕ). getD xs j 0) e ∙ stored-out sums 0 _ j j (inr (le-of-eq (zero-add j))) ∙ s .each j l
+  -- sums over some returns have room for one product more
+  pub summed-open : {sums : List ℕ} {paid k : ℕ} → Summed work starts weights sums paid from n k → paid ≤ productMost → k ≤ count
+      → Open sums n k
+  summed-open {k = k} s few h = record {
+    long = s .long;
+    small = λ j l. let x = sum-small j k l h in omega (arith, s .each j l);
+  }
 
 -- a list filled from its front
 pub filled : {xs : List ℕ} (l : List ℕ) (f : ℕ → ℕ) (n : ℕ) → xs ≡ stored l 0 f n → n ≤ length l
     → (k : ℕ) → k < n → getD xs k 0 ≡ f k
 filled l f n e fits k h = ap (λ (z : List ℕ). getD z k 0) e ∙ stored-first l f n k fits h
 
--- the first n entries stored
-pub summed : {work starts weights sums' : List ℕ} {from n k j : ℕ} (sums : List ℕ)
-    → sums' ≡ stored sums 0 (λ i. sum (term work starts weights (from + i)) k) j → j ≡ n → n ≤ 512 → 512 ≤ length sums
-    → Summed work starts weights sums' from n k
-summed {j = j} sums e all short long = record {
-  long = let l = ap length e ∙ length-stored sums 0 _ j in omega arith;
-  each = λ i l. filled sums _ j e (omega arith) i (omega arith);
+-- n entries stored: whatever stood there ..
+pub summed : {work starts weights sums' : List ℕ} {paid from n k : ℕ} (sums : List ℕ)
+    → sums' ≡ stored sums 0 (λ i. paid + sum (term work starts weights (from + i)) k) n → n ≤ 512 → 512 ≤ length sums
+    → Summed work starts weights sums' paid from n k
+summed {n = n} sums e short long = record {
+  long = let l = ap length e ∙ length-stored sums 0 _ n in omega arith;
+  each = λ i l. filled sums _ n e (omega arith) i l;
 }
 
-module _ {work starts weights : List ℕ} {count discount most paid to stride : ℕ} (r : Row work starts weights count discount most paid to stride) where
-  -- the rows that are read lie before the row that is written
-  row-kept : (g : ℕ → ℕ) (n k a : ℕ) → k < count → a < stride
-      → getD (stored work to g n) (getD starts k 0 + a) 0 ≡ getD work (getD starts k 0 + a) 0
-  row-kept g n k a m l = stored-out work to g n (getD starts k 0 + a) (inl (let b = r .below k m in omega arith))
+-- .. or what later returns add to the sums that stood there
+pub summed-more : {work starts weights sums sums' : List ℕ} {paid from n k : ℕ} (k' : ℕ) (g : ℕ → ℕ)
+    → Summed work starts weights sums paid from n k → sums' ≡ stored sums 0 (λ j. getD sums j 0 + g j) n → n ≤ 512
+    → ((j : ℕ) → sum (term work starts weights (from + j)) k' ≡ sum (term work starts weights (from + j)) k + g j)
+    → Summed work starts weights sums' paid from n k'
+summed-more {sums = sums} {n = n} k' g s e short more = record {
+  long = let l = ap length e ∙ length-stored sums 0 _ n in omega (arith, s .long);
+  each = λ j l. let x = filled sums _ n e (omega (arith, s .long)) j l in omega (arith, s .each j l, more j);
+}
 
-  pub row-sum : (g : ℕ → ℕ) (n a : ℕ) → a < stride
-      → sum (term (stored work to g n) starts weights a) count ≡ sum (term work starts weights a) count
-  row-sum g n a l = sum-eq _ _ count (λ k m. ap (λ (x : ℕ). getD weights k 0 * x) (row-kept g n k a m l))
+-- an entry that is not added to yet
+pub kept-yet : {sums' : List ℕ} (sums : List ℕ) (f : ℕ → ℕ) (j : ℕ) → sums' ≡ stored sums 0 f j → getD sums' j 0 ≡ getD sums j 0
+kept-yet sums f j e = ap (λ (xs : List ℕ). getD xs j 0) e ∙ stored-out sums 0 f j j (inr (le-of-eq (zero-add j)))
 
-  pub row-reached : (k a : ℕ) → k < count → a < stride → Reached work starts weights most a k
-  row-reached k a m l = record {
-    light = r .light k m;
-    within = let b = r .below k m in omega (arith, r .room);
-    small = r .small k a m l;
-  }
+module _ {work starts weights : List ℕ} {count discount most paid to stride : ℕ}
+    (r : Row work starts weights count discount most paid to stride)
+  where
+    -- the rows that are read lie before the row that is written
+    row-kept : (g : ℕ → ℕ) (n k a : ℕ) → k < count → a < stride
+        → getD (stored work to g n) (getD starts k 0 + a) 0 ≡ getD work (getD starts k 0 + a) 0
+    row-kept g n k a m l = stored-out work to g n (getD starts k 0 + a) (inl (let b = r .below k m in omega arith))
 
-  pub row-sum-le : (a : ℕ) → a < stride → sum (term work starts weights a) count ≤ weightTotal * most
-  row-sum-le a l =
-      le-trans
-      (sum-le (term work starts weights a) (λ k. getD weights k 0 * most) count
-      (λ k m. mul-le-mul-left (getD weights k 0) (r .small k a m l)))
-      (le-of-eq (sum-times (λ k. getD weights k 0) most count ∙ ap (λ (x : ℕ). x * most) (r .total)))
+    pub row-sum : (g : ℕ → ℕ) (n a : ℕ) → a < stride
+        → sum (term (stored work to g n) starts weights a) count ≡ sum (term work starts weights a) count
+    row-sum g n a l = sum-eq _ _ count (λ k m. ap (λ (x : ℕ). getD weights k 0 * x) (row-kept g n k a m l))
 
-  -- the first m guarantees, some of the row filled
-  pub row-part : (work' : List ℕ) (g : ℕ → ℕ) (n m : ℕ) → work' ≡ stored work to g n → m ≤ stride
-      → Row work' starts weights count discount most paid to m
-  row-part work' g n m e h = record {
-    few = r .few;
-    discount-is = r .discount-is;
-    most-is = r .most-is;
-    paid-is = r .paid-is;
-    total = r .total;
-    light = r .light;
-    small = λ k a l p.
-        rw (ap (λ (xs : List ℕ). getD xs (getD starts k 0 + a) 0) e ∙ row-kept g n k a l (omega arith))
-        (r .small k a l (omega arith));
-    below = λ k l. let b = r .below k l in omega arith;
-    room = let l = ap length e ∙ length-stored work to g n in omega (arith, r .room);
-  }
+    pub row-reached : (k a : ℕ) → k < count → a < stride → Reached work starts weights a k
+    row-reached k a m l = record {
+      light = r .light k m;
+      within = let b = r .below k m in omega (arith, r .room);
+      small = le-trans (r .small k a m l) (r .most-is);
+    }
+
+    pub row-sum-le : (a : ℕ) → a < stride → sum (term work starts weights a) count ≤ weightTotal * most
+    row-sum-le a l =
+        le-trans
+        (sum-le (term work starts weights a) (λ k. getD weights k 0 * most) count
+        (λ k m. mul-le-mul-left (getD weights k 0) (r .small k a m l)))
+        (le-of-eq (sum-times (λ k. getD weights k 0) most count ∙ ap (λ (x : ℕ). x * most) (r .total)))
+
+    -- the first m guarantees, some of the row filled
+    pub row-part : (work' : List ℕ) (g : ℕ → ℕ) (n m : ℕ) → work' ≡ stored work to g n → m ≤ stride
+        → Row work' starts weights count discount most paid to m
+    row-part work' g n m e h = record {
+      few = r .few;
+      discount-is = r .discount-is;
+      most-is = r .most-is;
+      paid-small = r .paid-small;
+      sums-small = r .sums-small;
+      total = r .total;
+      light = r .light;
+      small = λ k a l p.
+          rw (ap (λ (xs : List ℕ). getD xs (getD starts k 0 + a) 0) e ∙ row-kept g n k a l (omega arith))
+          (r .small k a l (omega arith));
+      below = λ k l. let b = r .below k l in omega arith;
+      room = let l = ap length e ∙ length-stored work to g n in omega (arith, r .room);
+    }
 
 -- the last n guarantees of a row
 pub row-run : {work starts weights : List ℕ} {count discount most paid to : ℕ} (from n : ℕ)
     → Row work starts weights count discount most paid to (from + n) → n ≤ 512
-    → Run work starts weights count most from n
+    → Run work starts weights count from n
 row-run from n r h = record {
   few = r .few;
   short = h;
-  most-is = r .most-is;
   reached = λ k j l m. row-reached r k (from + j) l (omega arith);
 }
 
 -- no returns yet
-pub summed-none : {work starts weights : List ℕ} (from n : ℕ) → n ≤ 512 → Summed work starts weights (replicate 512 0) from n 0
+pub summed-none : {work starts weights : List ℕ} (paid from n : ℕ) → n ≤ 512 → Summed work starts weights (replicate 512 paid) paid from n 0
 unfolding sum
-summed-none from n h = record { long = le-of-eq refl; each = λ j l. getD-replicate 512 j 0 0 (omega arith) }
+summed-none paid from n h = record { long = le-of-eq refl; each = λ j l. getD-replicate 512 j paid 0 (omega arith) ∙ sym (add-zero paid) }
 
 -- the row of a balance in the second layer
 pub row-room : {c : Terms} {work : List ℕ} (b : ℕ) → Layers c work → b ≤ c .top
@@ -168,15 +164,9 @@ module _ {c : Terms} {work list weights : List ℕ} {count discount most paid ba
     reached-within : (x : ℕ) → x ≤ c .top → x * stride + stride ≤ size
     reached-within x l = let m = rows-le stride (x + 1) (c .top + 1) (omega arith) in omega (arith, rows-step stride x, b .size-is)
 
-    -- values of the layer, with what is paid on arrival, are within the bound on an entry
-    bound : 20000 * c .top + stateMost c 1 ≤ entryMost
-    bound = le-trans (value-room c (returnsOf list) (b .layers .valid) (b .listing .valid)) (value-most (b .layers .valid))
-
-    most-small : most ≤ entryMost
-    most-small = omega (arith, bound, b .most-is)
-
-    sums-small : weightTotal * most + paid ≤ weightTotal * entryMost
-    sums-small = omega (arith, bound, b .most-is, b .paid-is, paid-sum-le c (returnsOf list) balance (b .listing .valid) (b .balance-is))
+    -- what is paid on arrival
+    paid-le : paid ≤ weightTotal * (20000 * c .top)
+    paid-le = le-trans (le-of-eq (b .paid-is)) (paid-sum-le c (returnsOf list) balance (b .listing .valid) (b .balance-is))
 
     balance-room : size + balance * stride + stride ≤ length work
     balance-room = rw (b .size-is, b .stride-is) (row-room balance (b .layers) (b .balance-is))
@@ -194,8 +184,9 @@ module _ {c : Terms} {work list weights : List ℕ} {count discount most paid ba
         balance-row = record {
           few = b .listing .few;
           discount-is = le-trans (le-of-eq (b .discount-is)) (b .layers .valid .discount);
-          most-is = most-small;
-          paid-is = sums-small;
+          most-is = b .most-low;
+          paid-small = omega (arith, paid-le, b .layers .valid .top);
+          sums-small = omega (arith, paid-le, b .most-is);
           total = sum-eq _ _ count (b .weights-are) ∙ ap (sum (returnsOf list .weight)) (b .listing .all) ∙ b .listing .valid .total;
           light = λ k l. rw (b .weights-are k l) (b .listing .valid .weight k (omega (arith, b .listing .all)));
           small = λ k a l m.
@@ -215,22 +206,31 @@ module _ {c : Terms} {work list weights : List ℕ} {count discount most paid ba
             ∙ ap (sum _) (b .listing .all)
 
         pub balance-cells : (a : ℕ)
-            → discounted discount (sum (term work starts weights a) count + paid)
+            → discounted discount (paid + sum (term work starts weights a) count)
             ≡ expected c (returnsOf list) (cells work 0 stride) balance a
         unfolding expected
         balance-cells a =
             ap₂ discounted (b .discount-is)
-            (ap₂ _+_ (states-are a) (b .paid-is) ∙ two-sums c (returnsOf list) (cells work 0 stride) balance a)
+            (ap₂ _+_ (b .paid-is) (states-are a) ∙ two-sums c (returnsOf list) (cells work 0 stride) balance a)
+
+-- the bound on the values of date i + 1
+bounds : {c : Terms} {list : List ℕ} {count : ℕ} (i : ℕ) → Listing list count → Valid c
+    → (20000 * c .top + stateMost c (i + 1) ≤ entryMost) × (stateMost c (i + 1) ≤ lowMost)
+bounds {c} {list} i h v =
+    let room = le-trans (value-room c (returnsOf list) v (h .valid) (i + 1) (omega arith)) (value-most v) in
+    let low = value-narrow c (returnsOf list) v (h .valid) (i + 1) in
+    (room, omega arith)
 
 -- ---- the balance of the start
-pub start-balance : {c : Terms} {work list weights : List ℕ} {count paid : ℕ} → Listing list count → Values c work
+pub start-balance : {c : Terms} {work list weights : List ℕ} {count paid : ℕ} → Listing list count → Values c 0 work
     → ((k : ℕ) → k < count → getD weights k 0 ≡ returnsOf list .weight k) → paid ≡ paidSum c (returnsOf list) (c .premium)
     → Balance c work list weights count (c .discount) (stateMost c 1) paid (c .premium) (c .premium + 1) ((c .top + 1) * (c .premium + 1))
 start-balance h v w p = record {
   listing = h;
   layers = v .layers;
   discount-is = refl;
-  most-is = le-of-eq refl;
+  most-is = bounds 0 h (v .layers .valid) .0;
+  most-low = bounds 0 h (v .layers .valid) .1;
   paid-is = p;
   small = v .small;
   weights-are = w;
@@ -240,16 +240,17 @@ start-balance h v w p = record {
 }
 
 -- .. and of any other: the first layer stays as the second is filled
-pub layer-balance : {c : Terms} {work list weights : List ℕ} {count most paid : ℕ} (work' : List ℕ) (f : ℕ → ℕ) (n b : ℕ)
-    → Listing list count → Values c work → most ≤ stateMost c 1 → Within c work most
+pub layer-balance : {c : Terms} {work list weights : List ℕ} {count i most paid : ℕ} (work' : List ℕ) (f : ℕ → ℕ) (n b : ℕ)
+    → Listing list count → Values c i work → most ≡ stateMost c (i + 1)
     → ((k : ℕ) → k < count → getD weights k 0 ≡ returnsOf list .weight k) → paid ≡ paidSum c (returnsOf list) b
     → work' ≡ stored work ((c .top + 1) * (c .premium + 1)) f n → b ≤ c .top
     → Balance c work' list weights count (c .discount) most paid b (c .premium + 1) ((c .top + 1) * (c .premium + 1))
-layer-balance {c = c} {work = work} {most = most} work' f n b h v few small w p e top = record {
+layer-balance {c = c} {work = work} {i = i} {most = most} work' f n b h v m w p e top = record {
   listing = h;
   layers = record { valid = v .layers .valid; room = omega (arith, v .layers .room, ap length e ∙ length-stored _ _ _ _) };
   discount-is = refl;
-  most-is = few;
+  most-is = rw m (bounds i h (v .layers .valid) .0);
+  most-low = rw m (bounds i h (v .layers .valid) .1);
   paid-is = p;
   small = kept-within;
   weights-are = w;
@@ -261,7 +262,7 @@ layer-balance {c = c} {work = work} {most = most} work' f n b h v few small w p 
     kept-within : Within c work' most
     kept-within w a h l =
         let i = within-rows (c .premium + 1) (c .top + 1) w a (omega arith) (omega arith) in
-        rw (ap (λ (xs : List ℕ). cells xs 0 (c .premium + 1) w a) e ∙ stored-out work _ f n _ (inl (omega arith))) (small w a h l)
+        rw (m, ap (λ (xs : List ℕ). cells xs 0 (c .premium + 1) w a) e ∙ stored-out work _ f n _ (inl (omega arith))) (v .small w a h l)
 
 -- ---- row after row
 module _ (c : Terms) (rs : Returns) (work : List ℕ) (stride size : ℕ) (size-is : size ≡ (c .top + 1) * stride) where

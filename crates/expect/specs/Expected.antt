@@ -12,7 +12,7 @@ use Rattle.rules.specs.Date.{nextAccount, excessPaid, discounted}
 use Rattle.rules.specs.FixedTerm.{layerSize}
 use Rattle.laws.specs.Accepted.{Valid, ValidReturns}
 use Rattle.laws.specs.Date.{account-le, excess-paid-le}
-use Rattle.laws.specs.Bounds.{discounted-average, stateMost, valueMost, value-room, value-most, entryMost}
+use Rattle.laws.specs.Bounds.{discounted-average, stateMost, value-room, value-most, entryMost}
 
 -- the sum of weight × value reached
 unfoldable pub reachedSum : Terms → Returns → (ℕ → ℕ → ℕ) → ℕ → ℕ → ℕ
@@ -37,7 +37,7 @@ unfoldable pub stateSum : Terms → Returns → (ℕ → ℕ → ℕ) → ℕ �
 stateSum c rs v balance a = sum (λ k. rs .weight k * v (nextAccount (c .fee) (c .top) balance (rs .factor k)) a) (rs .count)
 
 pub two-sums : (c : Terms) (rs : Returns) (v : ℕ → ℕ → ℕ) (balance a : ℕ)
-    → stateSum c rs v balance a + paidSum c rs balance ≡ reachedSum c rs v balance a
+    → paidSum c rs balance + stateSum c rs v balance a ≡ reachedSum c rs v balance a
 unfolding reachedSum paidSum stateSum
 two-sums c rs v balance a = sym (sum-eq _ _ (rs .count) (λ k l. omega arith) ∙ sum-add _ _ (rs .count))
 
@@ -46,34 +46,42 @@ two-sums c rs v balance a = sym (sum-eq _ _ (rs .count) (λ k l. omega arith) �
 abbrev pub term : List ℕ → List ℕ → List ℕ → ℕ → ℕ → ℕ
 term work starts weights a k = getD weights k 0 * getD work (getD starts k 0 + a) 0
 
--- what no such product passes
-abbrev pub productMost : ℕ
-productMost = weightMost * entryMost
+-- what no value of a layer passes: it has 32 bits; and no such product
+abbrev pub lowMost : ℕ
+lowMost = 4294967295
 
--- the value that return k reaches with guarantee a: in the slice, and at most `most`
-pub record Reached (work starts weights : List ℕ) (most a k : ℕ) : Type 0 where
+abbrev pub productMost : ℕ
+productMost = weightMost * lowMost
+
+-- the value that return k reaches with guarantee a: in the slice, and of 32 bits
+pub record Reached (work starts weights : List ℕ) (a k : ℕ) : Type 0 where
   pub light : getD weights k 0 ≤ weightMost
   pub within : getD starts k 0 + a < length work
-  pub small : getD work (getD starts k 0 + a) 0 ≤ most
+  pub small : getD work (getD starts k 0 + a) 0 ≤ lowMost
 
 -- n guarantees, from `from` on
-pub record Run (work starts weights : List ℕ) (count most from n : ℕ) : Type 0 where
+pub record Run (work starts weights : List ℕ) (count from n : ℕ) : Type 0 where
   pub few : count ≤ returnsMost
   pub short : n ≤ 512
-  pub most-is : most ≤ entryMost
-  pub reached : (k j : ℕ) → k < count → j < n → Reached work starts weights most (from + j) k
+  pub reached : (k j : ℕ) → k < count → j < n → Reached work starts weights (from + j) k
 
--- .. and their sums over the first k returns
-pub record Summed (work starts weights sums : List ℕ) (from n k : ℕ) : Type 0 where
+-- n sums to which return k and later ones are still to be added
+pub record Open (sums : List ℕ) (n k : ℕ) : Type 0 where
   pub long : 512 ≤ length sums
-  pub each : (j : ℕ) → j < n → getD sums j 0 ≡ sum (term work starts weights (from + j)) k
+  pub small : (j : ℕ) → j < n → getD sums j 0 ≤ productMost * (k + 1)
+
+-- the sums of n guarantees over the first k returns, with what is paid on arrival
+pub record Summed (work starts weights sums : List ℕ) (paid from n k : ℕ) : Type 0 where
+  pub long : 512 ≤ length sums
+  pub each : (j : ℕ) → j < n → getD sums j 0 ≡ paid + sum (term work starts weights (from + j)) k
 
 -- a row to be filled at `to`, from rows that lie before it; the returns pay `paid` on arrival, by weight
 pub record Row (work starts weights : List ℕ) (count discount most paid to stride : ℕ) : Type 0 where
   pub few : count ≤ returnsMost
   pub discount-is : discount ≤ discountMost
-  pub most-is : most ≤ entryMost
-  pub paid-is : weightTotal * most + paid ≤ weightTotal * entryMost
+  pub most-is : most ≤ lowMost
+  pub paid-small : paid ≤ productMost
+  pub sums-small : paid + weightTotal * most ≤ weightTotal * entryMost
   pub total : sum (λ k. getD weights k 0) count ≡ weightTotal
   pub light : (k : ℕ) → k < count → getD weights k 0 ≤ weightMost
   pub small : (k a : ℕ) → k < count → a < stride → getD work (getD starts k 0 + a) 0 ≤ most
@@ -92,26 +100,22 @@ pub record Layers (c : Terms) (work : List ℕ) : Type 0 where
   pub valid : Valid c
   pub room : layerSize c + layerSize c ≤ length work
 
--- r is the largest of the first n numbers
-pub record Largest (xs : List ℕ) (n r : ℕ) : Type 0 where
-  pub above : (i : ℕ) → i < n → getD xs i 0 ≤ r
-  pub least : (m : ℕ) → ((i : ℕ) → i < n → getD xs i 0 ≤ m) → r ≤ m
-
 -- no value of the first layer is above `most`
 abbrev pub Within : Terms → List ℕ → ℕ → Type 0
 Within c work most = (w a : ℕ) → w ≤ c .top → a ≤ c .premium → cells work 0 (c .premium + 1) w a ≤ most
 
--- .. in a layer of values
-pub record Values (c : Terms) (work : List ℕ) : Type 0 where
+-- .. which holds the values of date i + 1
+pub record Values (c : Terms) (i : ℕ) (work : List ℕ) : Type 0 where
   pub layers : Layers c work
-  pub small : Within c work (stateMost c 1)
+  pub small : Within c work (stateMost c (i + 1))
 
 -- a balance whose row is to be filled
 pub record Balance (c : Terms) (work list weights : List ℕ) (count discount most paid balance stride size : ℕ) : Type 0 where
   pub listing : Listing list count
   pub layers : Layers c work
   pub discount-is : discount ≡ c .discount
-  pub most-is : most ≤ stateMost c 1
+  pub most-is : 20000 * c .top + most ≤ entryMost
+  pub most-low : most ≤ lowMost
   pub paid-is : paid ≡ paidSum c (returnsOf list) balance
   pub small : Within c work most
   pub weights-are : (k : ℕ) → k < count → getD weights k 0 ≡ returnsOf list .weight k
@@ -139,13 +143,13 @@ state-sum-le c rs v balance a most returns h =
     (le-of-eq (sum-times (rs .weight) most (rs .count) ∙ ap (λ (z : ℕ). z * most) (returns .total)))
 
 -- a discounted sum over the values of a layer is within the bound on an entry
-pub expected-le : (c : Terms) (rs : Returns) (v : ℕ → ℕ → ℕ) (balance a : ℕ) → Valid c → ValidReturns rs → balance ≤ c .top
-    → ((w : ℕ) → w ≤ c .top → v w a ≤ stateMost c 1) → expected c rs v balance a ≤ entryMost
+pub expected-le : (c : Terms) (rs : Returns) (v : ℕ → ℕ → ℕ) (i balance a : ℕ) → Valid c → ValidReturns rs → balance ≤ c .top
+    → ((w : ℕ) → w ≤ c .top → v w a ≤ stateMost c (i + 1)) → expected c rs v balance a ≤ entryMost
 unfolding expected
-expected-le c rs v balance a valid returns top h =
+expected-le c rs v i balance a valid returns top h =
     let paid = paid-sum-le c rs balance returns top in
-    let states = state-sum-le c rs v balance a (stateMost c 1) returns h in
-    let room = value-room c rs valid returns in
+    let states = state-sum-le c rs v balance a (stateMost c (i + 1)) returns h in
+    let room = value-room c rs valid returns (i + 1) (omega arith) in
     discounted-average (c .discount) _ entryMost (valid .discount)
     (omega (arith, two-sums c rs v balance a, value-most valid))
 

@@ -1,18 +1,18 @@
 // The discounted sum of every balance and guarantee: a layer filled from the layer of the next date's values.
 ghost use mathlib.Core.Bool.{true};
 ghost use mathlib.Core.Path.{_≡_};
-ghost use Prim.Native.Nat.{ℕ, _+_, _*_, _≤_, _<_};
+ghost use Prim.Native.Nat.{ℕ, _+_, _-_, _*_, _≤_, _<_};
 ghost use lib.ListN.{length, getD};
 ghost use Rattle.decision.specs.Index.{sum};
 ghost use Rattle.slices.specs.Stored.{stored};
 ghost use Rattle.slices.specs.Rows.{cells, flat};
-ghost use Rattle.rules.specs.Contract.{topMost, weightTotal, returnsMost, discountMost, returnsOf};
+ghost use Rattle.rules.specs.Contract.{topMost, datesMost, weightTotal, weightMost, returnsMost, discountMost, returnsOf};
 ghost use Rattle.laws.specs.Bounds.{stateMost, entryMost};
 ghost use Rattle.rules.specs.Date.{nextAccount, discounted};
 ghost use Rattle.rules.specs.FixedTerm.{layerSize};
 ghost use Rattle.laws.specs.Accepted.{Valid};
 ghost use Rattle.contract.specs.Reading.{termsIn};
-ghost use Rattle.expect.specs.Expected.{term, productMost, Largest, Reached, Run, Summed, Row, Listing, Values, Within};
+ghost use Rattle.expect.specs.Expected.{term, productMost, Reached, Run, Open, Summed, Row, Listing, Values};
 ghost use Rattle.expect.specs.Expected.{paidSum, expected, scaled};
 use contract::Contract;
 
@@ -33,62 +33,75 @@ fn reached(work: &[u64], starts: &[usize; 64], k: usize, a: usize) -> u64
     work[starts[k] + a]
 }
 
-// What return k adds to the sum of guarantee a.
+// What return k adds to the sum of guarantee a. Of a value the low half is taken, which is all of it: a product of two numbers of
+// 32 bits can be widened.
 fn product(work: &[u64], starts: &[usize; 64], weights: &[u32; 64], k: usize, a: usize) -> usize
-    requires { ⌜ (k < returnsMost) × Reached (now work) (now starts) (now weights) entryMost a k ⌝ }
-    ensures { λ r. ⌜ (r ≡ term (now (work .entry)) (now (starts .entry)) (now (weights .entry)) a k) × (r ≤ productMost) ⌝ }
-{
-    weights[k] as usize * date::wide(reached(work, starts, k, a))
-}
-
-// The same where the value has 32 bits: a product of two such numbers can be widened.
-fn low_product(work: &[u64], starts: &[usize; 64], weights: &[u32; 64], k: usize, a: usize) -> usize
-    requires { ⌜ (k < returnsMost) × Reached (now work) (now starts) (now weights) 4294967295 a k ⌝ }
+    requires { ⌜ (k < returnsMost) × Reached (now work) (now starts) (now weights) a k ⌝ }
     ensures { λ r. ⌜ (r ≡ term (now (work .entry)) (now (starts .entry)) (now (weights .entry)) a k) × (r ≤ productMost) ⌝ }
 {
     weights[k] as usize * date::wide(reached(work, starts, k, a) % 4294967296)
 }
 
 // .. and of four returns.
-fn low_four(work: &[u64], starts: &[usize; 64], weights: &[u32; 64], k: usize, a: usize) -> usize
-    requires { ⌜ (k + 4 ≤ returnsMost) × ((i : ℕ) → i < k + 4 → Reached (now work) (now starts) (now weights) 4294967295 a i) ⌝ }
+fn four_products(
+    work: &[u64],
+    starts: &[usize; 64],
+    weights: &[u32; 64],
+    k: usize,
+    a: usize,
+) -> usize
+    requires { ⌜ (k + 4 ≤ returnsMost) × ((i : ℕ) → i < k + 4 → Reached (now work) (now starts) (now weights) a i) ⌝ }
     ensures { λ r. ⌜
         (sum (term (now (work .entry)) (now (starts .entry)) (now (weights .entry)) a) (k + 4)
         ≡ sum (term (now (work .entry)) (now (starts .entry)) (now (weights .entry)) a) k + r)
         × (r ≤ 4 * productMost)
         ⌝ }
 {
-    let first = low_product(work, starts, weights, k, a);
-    let second = low_product(work, starts, weights, k + 1, a);
-    let third = low_product(work, starts, weights, k + 2, a);
-    let fourth = low_product(work, starts, weights, k + 3, a);
+    let first = product(work, starts, weights, k, a);
+    let second = product(work, starts, weights, k + 1, a);
+    let third = product(work, starts, weights, k + 2, a);
+    let fourth = product(work, starts, weights, k + 3, a);
     first + second + third + fourth
 }
 
 // .. and of eight.
-fn low_eight(work: &[u64], starts: &[usize; 64], weights: &[u32; 64], k: usize, a: usize) -> usize
-    requires { ⌜ (k + 8 ≤ returnsMost) × ((i : ℕ) → i < k + 8 → Reached (now work) (now starts) (now weights) 4294967295 a i) ⌝ }
+fn eight_products(
+    work: &[u64],
+    starts: &[usize; 64],
+    weights: &[u32; 64],
+    k: usize,
+    a: usize,
+) -> usize
+    requires { ⌜ (k + 8 ≤ returnsMost) × ((i : ℕ) → i < k + 8 → Reached (now work) (now starts) (now weights) a i) ⌝ }
     ensures { λ r. ⌜
         (sum (term (now (work .entry)) (now (starts .entry)) (now (weights .entry)) a) (k + 8)
         ≡ sum (term (now (work .entry)) (now (starts .entry)) (now (weights .entry)) a) k + r)
         × (r ≤ 8 * productMost)
         ⌝ }
 {
-    low_four(work, starts, weights, k, a) + low_four(work, starts, weights, k + 4, a)
+    four_products(work, starts, weights, k, a) + four_products(work, starts, weights, k + 4, a)
 }
 
-// The sum over the returns for guarantee a.
+// The sum over the returns for guarantee a, with what is paid on arrival.
 fn reached_sum(
     work: &[u64],
     starts: &[usize; 64],
     weights: &[u32; 64],
+    paid: usize,
     count: usize,
     a: usize,
 ) -> usize
-    requires { ⌜ (count ≤ returnsMost) × ((k : ℕ) → k < count → Reached (now work) (now starts) (now weights) entryMost a k) ⌝ }
-    ensures { λ r. ⌜ (r ≡ sum (term (now (work .entry)) (now (starts .entry)) (now (weights .entry)) a) count) × (r ≤ productMost * returnsMost) ⌝ }
+    requires { ⌜
+        (paid ≤ productMost)
+        × (count ≤ returnsMost)
+        × ((k : ℕ) → k < count → Reached (now work) (now starts) (now weights) a k)
+        ⌝ }
+    ensures { λ r. ⌜
+        (r ≡ paid + sum (term (now (work .entry)) (now (starts .entry)) (now (weights .entry)) a) count)
+        × (r ≤ productMost * (returnsMost + 1))
+        ⌝ }
 {
-    let mut s: usize = 0;
+    let mut s = paid;
     for k in 0..count {
         s += product(work, starts, weights, k, a);
     }
@@ -105,11 +118,14 @@ fn add_one(
     from: usize,
     n: usize,
 )
-    requires { ⌜
-        Run (now work) (now starts) (now weights) (k + 1) entryMost from n
-        × Summed (now work) (now starts) (now weights) (now sums) from n k
+    requires { ⌜ Run (now work) (now starts) (now weights) (k + 1) from n × Open (now sums) n k ⌝ }
+    ensures { λ _. ⌜
+        now (sums .exit)
+        ≡ stored (now (sums .entry)) 0
+        (λ (j : ℕ).
+        getD (now (sums .entry)) j 0 + term (now (work .entry)) (now (starts .entry)) (now (weights .entry)) (from + j) k)
+        n
         ⌝ }
-    ensures { λ _. ⌜ Summed (now (work .entry)) (now (starts .entry)) (now (weights .entry)) (now (sums .exit)) from n (k + 1) ⌝ }
 {
     for j in 0..n {
         sums[j] += product(work, starts, weights, k, from + j);
@@ -126,35 +142,41 @@ fn add_eight(
     from: usize,
     n: usize,
 )
-    requires { ⌜
-        Run (now work) (now starts) (now weights) (k + 8) 4294967295 from n
-        × Summed (now work) (now starts) (now weights) (now sums) from n k
+    requires { ⌜ Run (now work) (now starts) (now weights) (k + 8) from n × Open (now sums) n k ⌝ }
+    ensures { λ _. ⌜
+        now (sums .exit)
+        ≡ stored (now (sums .entry)) 0
+        (λ (j : ℕ).
+        getD (now (sums .entry)) j 0
+        + sum (λ (e : ℕ). term (now (work .entry)) (now (starts .entry)) (now (weights .entry)) (from + j) (k + e)) 8)
+        n
         ⌝ }
-    ensures { λ _. ⌜ Summed (now (work .entry)) (now (starts .entry)) (now (weights .entry)) (now (sums .exit)) from n (k + 8) ⌝ }
 {
     for j in 0..n {
-        sums[j] += low_eight(work, starts, weights, k, from + j);
+        sums[j] += eight_products(work, starts, weights, k, from + j);
     }
 }
 
-// The first eight: their sums are stored, whatever stood there, so that no zeros need be written and read before.
+// What is paid on arrival and the first eight: their sums are stored, whatever stood there, so that no zeros need be written and
+// read before.
 fn set_eight(
     sums: &mut [usize; 512],
     work: &[u64],
     starts: &[usize; 64],
     weights: &[u32; 64],
+    paid: usize,
     from: usize,
     n: usize,
 )
-    requires { ⌜ Run (now work) (now starts) (now weights) 8 4294967295 from n × (512 ≤ length (now sums)) ⌝ }
-    ensures { λ _. ⌜ Summed (now (work .entry)) (now (starts .entry)) (now (weights .entry)) (now (sums .exit)) from n 8 ⌝ }
+    requires { ⌜ Run (now work) (now starts) (now weights) 8 from n × (512 ≤ length (now sums)) × (paid ≤ productMost) ⌝ }
+    ensures { λ _. ⌜ Summed (now (work .entry)) (now (starts .entry)) (now (weights .entry)) (now (sums .exit)) paid from n 8 ⌝ }
 {
     for j in 0..n {
-        sums[j] = low_eight(work, starts, weights, 0, from + j);
+        sums[j] = paid + eight_products(work, starts, weights, 0, from + j);
     }
 }
 
-// The sums of the first eight returns, or of none where there are fewer or a value has more than 32 bits. Gives the number of the
+// What is paid on arrival, and the sums of the first eight returns, or of none where there are fewer. Gives the number of the
 // return after them.
 fn set_first(
     sums: &mut [usize; 512],
@@ -166,23 +188,24 @@ fn set_first(
     n: usize,
 ) -> usize
     requires { ⌜
-        Run (now work) (now starts) (now weights) (average .count) (average .most) from n
+        Run (now work) (now starts) (now weights) (average .count) from n
         × (512 ≤ length (now sums))
+        × (average .paid ≤ productMost)
         ⌝ }
     ensures { λ r. ⌜
-        Summed (now (work .entry)) (now (starts .entry)) (now (weights .entry)) (now (sums .exit)) from n r
+        Summed (now (work .entry)) (now (starts .entry)) (now (weights .entry)) (now (sums .exit)) (average .paid) from n r
         × (r ≤ average .count)
         ⌝ }
 {
-    if 8 <= average.count && average.most < 4294967296 {
-        set_eight(sums, work, starts, weights, from, n);
+    if 8 <= average.count {
+        set_eight(sums, work, starts, weights, average.paid, from, n);
         return 8;
     }
-    *sums = [0usize; 512];
+    *sums = [average.paid; 512];
     0
 }
 
-// The next eight returns, or one where fewer are left or a value has more than 32 bits. Gives the number of the return after them.
+// The next eight returns, or one where fewer are left. Gives the number of the return after them.
 fn add_next(
     sums: &mut [usize; 512],
     work: &[u64],
@@ -194,17 +217,18 @@ fn add_next(
     n: usize,
 ) -> usize
     requires { ⌜
-        Run (now work) (now starts) (now weights) (average .count) (average .most) from n
-        × Summed (now work) (now starts) (now weights) (now sums) from n k
+        Run (now work) (now starts) (now weights) (average .count) from n
+        × Summed (now work) (now starts) (now weights) (now sums) (average .paid) from n k
         × (k < average .count)
+        × (average .paid ≤ productMost)
         ⌝ }
     ensures { λ r. ⌜
-        Summed (now (work .entry)) (now (starts .entry)) (now (weights .entry)) (now (sums .exit)) from n r
+        Summed (now (work .entry)) (now (starts .entry)) (now (weights .entry)) (now (sums .exit)) (average .paid) from n r
         × (k < r)
         × (r ≤ average .count)
         ⌝ }
 {
-    if k + 8 <= average.count && average.most < 4294967296 {
+    if k + 8 <= average.count {
         add_eight(sums, work, starts, weights, k, from, n);
         return k + 8;
     }
@@ -212,7 +236,7 @@ fn add_next(
     k + 1
 }
 
-// The sums of n guarantees, from `from` on, whatever stood in `sums`.
+// The sums of n guarantees, from `from` on, with what is paid on arrival; whatever stood in `sums`.
 fn add_all(
     sums: &mut [usize; 512],
     work: &[u64],
@@ -223,10 +247,14 @@ fn add_all(
     n: usize,
 )
     requires { ⌜
-        Run (now work) (now starts) (now weights) (average .count) (average .most) from n
+        Run (now work) (now starts) (now weights) (average .count) from n
         × (512 ≤ length (now sums))
+        × (average .paid ≤ productMost)
         ⌝ }
-    ensures { λ _. ⌜ Summed (now (work .entry)) (now (starts .entry)) (now (weights .entry)) (now (sums .exit)) from n (average .count) ⌝ }
+    ensures { λ _. ⌜
+        Summed (now (work .entry)) (now (starts .entry)) (now (weights .entry)) (now (sums .exit)) (average .paid) from n
+        (average .count)
+        ⌝ }
 {
     let mut k = set_first(sums, work, starts, weights, average, from, n);
     while k < average.count {
@@ -249,25 +277,23 @@ fn scaled_sum(low: bool, discount: usize, sum: usize) -> u64
     8192 * date::discounted(discount, sum) as u64
 }
 
-// The sums and what is paid on arrival, discounted and times 8,192.
+// The sums, discounted and times 8,192.
 fn store_sums(work: &mut [u64], sums: &[usize; 512], average: Average, to: usize, n: usize)
     requires { ⌜
         (average .discount ≤ discountMost)
         × (n ≤ 512)
         × (to + n ≤ length (now work))
-        × (weightTotal * average .most + average .paid ≤ weightTotal * entryMost)
-        × ((j : ℕ) → j < n → getD (now sums) j 0 ≤ weightTotal * average .most)
+        × (average .paid + weightTotal * average .most ≤ weightTotal * entryMost)
+        × ((j : ℕ) → j < n → getD (now sums) j 0 ≤ average .paid + weightTotal * average .most)
         ⌝ }
     ensures { λ _. ⌜
         now (work .exit)
-        ≡ stored (now (work .entry)) to
-        (λ (j : ℕ). 8192 * discounted (average .discount) (getD (now (sums .entry)) j 0 + average .paid))
-        n
+        ≡ stored (now (work .entry)) to (λ (j : ℕ). 8192 * discounted (average .discount) (getD (now (sums .entry)) j 0)) n
         ⌝ }
 {
-    let low = 10000 * average.most + average.paid <= 18000000000000;
+    let low = average.paid + 10000 * average.most <= 18000000000000;
     for j in 0..n {
-        work[to + j] = scaled_sum(low, average.discount, sums[j] + average.paid);
+        work[to + j] = scaled_sum(low, average.discount, sums[j]);
     }
 }
 
@@ -299,7 +325,7 @@ fn expect_run(
         (λ (j : ℕ).
         8192
         * discounted (average .discount)
-        (sum (term (now (work .entry)) (now (starts .entry)) (now (weights .entry)) (p .from + j)) (average .count) + average .paid))
+        (average .paid + sum (term (now (work .entry)) (now (starts .entry)) (now (weights .entry)) (p .from + j)) (average .count)))
         (p .n))
         × (512 ≤ length (now (sums .exit)))
         ⌝ }
@@ -328,7 +354,7 @@ fn expect_row(
         (λ (a : ℕ).
         8192
         * discounted (average .discount)
-        (sum (term (now (work .entry)) (now (starts .entry)) (now (weights .entry)) a) (average .count) + average .paid))
+        (average .paid + sum (term (now (work .entry)) (now (starts .entry)) (now (weights .entry)) a) (average .count)))
         stride)
         × (512 ≤ length (now (sums .exit)))
         ⌝ }
@@ -348,6 +374,17 @@ fn fill_weights(weights: &mut [u32; 64], list: &[u8], count: usize)
     for k in 0..count {
         weights[k] = contract::word(list, Contract::RETURN_BYTES * k + 2) as u32;
     }
+}
+
+// What one more return pays on arrival, by its weight. Below top there is nothing to multiply.
+fn with_excess(paid: usize, weight: usize, lifted: usize, top: usize) -> usize
+    requires { ⌜ (paid ≤ productMost * returnsMost) × (weight ≤ weightMost) × (lifted ≤ 3 * topMost) ⌝ }
+    ensures { λ r. ⌜ r ≡ paid + weight * (10000 * (lifted - top)) ⌝ }
+{
+    if lifted <= top {
+        return paid;
+    }
+    paid + weight * (10000 * (lifted - top))
 }
 
 // Where the rows start to which the returns lead from a balance. Gives what they pay on arrival, by weight.
@@ -373,39 +410,27 @@ fn fill_starts(
         let factor = contract::word(list, Contract::RETURN_BYTES * k);
         let weight = contract::word(list, Contract::RETURN_BYTES * k + 2);
         starts[k] = date::next_account(c.fee, c.top, balance, factor) * stride;
-        paid += weight * date::excess_paid(c.fee, c.top, balance, factor);
+        paid = with_excess(
+            paid,
+            weight,
+            date::lifted_account(c.fee, balance, factor),
+            c.top,
+        );
     }
     paid
 }
 
-// The largest of the first n entries, 0 where there are none.
-fn largest(work: &[u64], n: usize) -> usize
-    requires { ⌜ n ≤ length (now work) ⌝ }
-    ensures { λ r. ⌜ Largest (now (work .entry)) n r ⌝ }
+// What no value of date i + 1 passes.
+fn most_after(c: Contract, i: usize) -> usize
+    requires { ⌜ Valid (termsIn c) × (i ≤ datesMost) ⌝ }
+    ensures { λ r. ⌜ r ≡ stateMost (termsIn c) (i + 1) ⌝ }
 {
-    let mut r: usize = 0;
-    for i in 0..n {
-        r = date::larger(r, date::wide(work[i]));
-    }
-    r
+    10000 * c.top + date::less(c.dates, i + 1) * (20000 * c.top)
 }
 
-// A number that no value of the first layer passes. The values are looked at only where the sums of such a contract could be too
-// large for one product.
-fn most(work: &[u64], size: usize, c: Contract) -> usize
-    requires { ⌜ Values (termsIn c) (now work) × (size ≡ layerSize (termsIn c)) ⌝ }
-    ensures { λ r. ⌜ (r ≤ stateMost (termsIn c) 1) × Within (termsIn c) (now (work .entry)) r ⌝ }
-{
-    let most = 10000 * c.top + (c.dates - 1) * (20000 * c.top);
-    if most <= 1700000000 {
-        return most;
-    }
-    date::smaller(most, largest(work, size))
-}
-
-// The second layer: the discounted sum of every balance and guarantee, times 8,192, where the first holds the next date's values.
-pub fn expect_layer(work: &mut [u64], list: &[u8], count: usize, c: Contract)
-    requires { ⌜ Listing (now list) count × Values (termsIn c) (now work) ⌝ }
+// The second layer: the discounted sum of every balance and guarantee, times 8,192, where the first holds the values of date i + 1.
+pub fn expect_layer(work: &mut [u64], list: &[u8], count: usize, c: Contract, i: usize)
+    requires { ⌜ Listing (now list) count × Values (termsIn c) i (now work) × (i ≤ datesMost) ⌝ }
     ensures { λ _. ⌜
         now (work .exit)
         ≡ stored (now (work .entry)) (layerSize (termsIn c))
@@ -418,7 +443,7 @@ pub fn expect_layer(work: &mut [u64], list: &[u8], count: usize, c: Contract)
     let size = (c.top + 1) * stride;
     let mut weights = [0u32; 64];
     fill_weights(&mut weights, list, count);
-    let most = most(&work[..], size, c);
+    let most = most_after(c, i);
     // One array of each kind for all balances: what a balance leaves there does not matter to the next, and clearing takes time.
     let mut sums = [0usize; 512];
     let mut starts = [0usize; 64];
@@ -438,14 +463,19 @@ pub fn expect_layer(work: &mut [u64], list: &[u8], count: usize, c: Contract)
 
 // The discounted sum over the first return, from balance and guarantee U.
 pub fn start_value(work: &[u64], list: &[u8], count: usize, c: Contract) -> u64
-    requires { ⌜ Listing (now list) count × Values (termsIn c) (now work) ⌝ }
-    ensures { λ r. ⌜ (r ≡ expected (termsIn c) (returnsOf (now (list .entry))) (cells (now (work .entry)) 0 (c .premium + 1)) (c .premium) (c .premium)) × (r ≤ entryMost) ⌝ }
+    requires { ⌜ Listing (now list) count × Values (termsIn c) 0 (now work) ⌝ }
+    ensures { λ r. ⌜
+        (r
+        ≡ expected (termsIn c) (returnsOf (now (list .entry))) (cells (now (work .entry)) 0 (c .premium + 1)) (c .premium)
+        (c .premium))
+        × (r ≤ entryMost)
+        ⌝ }
 {
     let stride = c.premium + 1;
     let mut weights = [0u32; 64];
     fill_weights(&mut weights, list, count);
     let mut starts = [0usize; 64];
     let paid = fill_starts(&mut starts, list, count, c, c.premium, stride);
-    let s = reached_sum(work, &starts, &weights, count, c.premium);
-    date::discounted(c.discount, s + paid) as u64
+    let s = reached_sum(work, &starts, &weights, paid, count, c.premium);
+    date::discounted(c.discount, s) as u64
 }

@@ -1,7 +1,8 @@
 -- Values, amounts and accounts of an accepted contract fit the widths of the slices. Assumes nothing.
 use mathlib.Core.Path.{_≡_, ap, _∙_}
 use Prim.Native.Nat.{ℕ, suc, _+_, _-_, _*_, _^_, _≤_, _<_}
-use native.Mathlib.Nat.{le-trans, le-of-eq, mul-le-mul, mul-le-mul-left, mul-le-mul-right, mul-comm, mul-assoc, div-le-of-le-mul, sub-le-sub-left, max-le, min-le-left}
+use native.Mathlib.Nat.{le-trans, le-of-eq, mul-le-mul, mul-le-mul-left, mul-le-mul-right, mul-comm, mul-assoc, div-le-of-le-mul}
+use native.Mathlib.Nat.{sub-le-sub-left, max-le, min-le-left}
 use native.Mathlib.Omega.{arith}
 use lib.Dec.{T}
 use Rattle.decision.specs.Index.{sum-le, sum-times}
@@ -11,7 +12,8 @@ use Rattle.decision.specs.Bounds.{value-bounded, start-bounded, table-bounded, 
 use Rattle.rules.specs.Contract.{Terms, Returns, topMost, datesMost, factorMost, discountMost, weightTotal}
 use Rattle.rules.specs.Date.{Behaviour, dynamic, liftedAccount, nextAccount, maturityValue, discounted}
 use Rattle.rules.specs.Product.{stateValue, recordedAmount, contractValue}
-use Rattle.rules.specs.FixedTerm.{State, Held, InRange, freeIn, admissibleIn, rateIn, cashIn, afterIn, reachBy, paidBy, expectOver, startOf, processOf, fixedTerm}
+use Rattle.rules.specs.FixedTerm.{State, Held, InRange, freeIn, admissibleIn, rateIn, cashIn, afterIn, reachBy, paidBy}
+use Rattle.rules.specs.FixedTerm.{expectOver, startOf, processOf, fixedTerm}
 use Rattle.laws.specs.Accepted.{Valid, ValidReturns}
 use Rattle.laws.specs.Date.{admits-within, amount-most, cash-le, excess-paid-le, period-le}
 use Rattle.laws.specs.FixedTerm.{opened, closed}
@@ -93,32 +95,22 @@ module _ (c : Terms) (rs : Returns) (v : Valid c) (u : ValidReturns rs) where
       start-bounded (processOf c rs) (admissibleIn c b) (opened c rs b) (InRange c) (closed c rs b) (10000 * c .top) (20000 * c .top)
       ends (pays b) (arrives b) starts averages
 
-  pub table-start-le : (d : Table State) → ((i : ℕ) (s : State) → Decides (processOf c rs) (InRange c) i s → T (admissibleIn c dynamic s (d i s)))
+  pub table-start-le : (d : Table State)
+      → ((i : ℕ) (s : State) → Decides (processOf c rs) (InRange c) i s → T (admissibleIn c dynamic s (d i s)))
       → startTableValue (processOf c rs) d ≤ 20000 * c .top + stateMost c 1
   unfolding processOf
   table-start-le d admits =
       start-table-bounded (processOf c rs) (admissibleIn c dynamic) (opened c rs dynamic) (InRange c) (closed c rs dynamic)
       (10000 * c .top) (20000 * c .top) ends (pays dynamic) (arrives dynamic) starts averages d admits (v .dates-least)
 
-  -- values fall with the decisions to come, so that of date 1 bounds every layer ..
-  pub state-most-first : (i : ℕ) → 1 ≤ i → stateMost c i ≤ stateMost c 1
-  state-most-first i l = let n = mul-le-mul-right (20000 * c .top) (sub-le-sub-left l (c .dates)) in omega arith
-
-  -- .. and with what is paid on arrival it is within the bound on an entry
-  pub value-room : 20000 * c .top + stateMost c 1 ≤ valueMost c
-  value-room =
+  -- with what is paid on arrival, a value is within the bound on an entry
+  pub value-room : (i : ℕ) → 1 ≤ i → 20000 * c .top + stateMost c i ≤ valueMost c
+  value-room i l =
+      let fewer = mul-le-mul-right (20000 * c .top) (sub-le-sub-left l (c .dates)) in
       let n : c .dates ≡ suc (c .dates - 1) = omega (arith, v .dates-least) in
       let e : c .top * c .dates ≡ (c .dates - 1) * c .top + c .top =
       ap (λ (x : ℕ). c .top * x) n ∙ (let z = mul-comm (c .top) (c .dates - 1) in omega arith) in
       omega (arith, mul-assoc (c .dates - 1) 20000 (c .top), mul-comm (c .dates - 1) 20000)
-
-  pub state-value-most : (b : Behaviour) (i : ℕ) (s : State) → 1 ≤ i → InRange c s → stateValue (fixedTerm c rs) b i s ≤ stateMost c 1
-  state-value-most b i s l g = le-trans (state-value-le b i s g) (state-most-first i l)
-
-  pub table-value-most : (d : Table State)
-      → ((i : ℕ) (s : State) → Decides (processOf c rs) (InRange c) i s → T (admissibleIn c dynamic s (d i s)))
-      → (i : ℕ) (s : State) → 1 ≤ i → i ≤ c .dates → InRange c s → tableValue (processOf c rs) d i s ≤ stateMost c 1
-  table-value-most d admits i s l m g = le-trans (table-value-le d admits i s l m g) (state-most-first i l)
 
   -- amounts and accounts fit 16 bits
   pub amount-fits : (b : Behaviour) (s : State) (t : ℕ) → InRange c s → T (admissibleIn c b s t) → t < 2 ^ 16

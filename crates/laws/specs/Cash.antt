@@ -7,12 +7,13 @@ use native.Mathlib.Omega.{arith}
 use lib.ListN.{getD, length, drop, List·getD-append}
 use Rattle.decision.specs.Index.{sum, sum-eq, sum-add, sum-times, tabulate, getD-tabulate}
 use Rattle.rules.specs.Contract.{Terms, Returns, termsOf, returnsOf}
-use Rattle.rules.specs.Date.{rateOn, penalty, cash, excess, excessPaid, maturityValue}
+use Rattle.rules.specs.Date.{penalty, cash, excess, excessPaid, maturityValue}
 use Rattle.rules.specs.Product.{walkState, walkAmount, walkHeld, walkPaid, walkCash}
 use Rattle.rules.specs.FixedTerm.{freeIn, rateIn, cashIn, paidBy, processOf, fixedTerm}
 use Rattle.rules.specs.Refusals.{accepted, onSuccess}
 use Rattle.rules.specs.Operations.{productOf, walkChecks, walkVerdict, walkCashes}
 use Rattle.laws.specs.Accepted.{Valid, then-earlier, both-terms}
+use Rattle.laws.specs.Step.{rate-le}
 
 -- the penalty on date j + 1, and the excess of the return that leads to date j + 1
 abbrev pub walkPenalty : Terms → Returns → List ℕ → List ℕ → ℕ → ℕ
@@ -61,10 +62,11 @@ module _ (c : Terms) (rs : Returns) (table path : List ℕ) (v : Valid c) where
       + cashIn c (suc j) (walkState (fixedTerm c rs) table path (suc j)) (walkAmount (fixedTerm c rs) table path (suc j))
       + walkPenalty c rs table path j
       ≡ walkAmount (fixedTerm c rs) table path (suc j) * 10000 + walkExcess c rs table path j * 10000
-  unfolding walkPaid fixedTerm processOf paidBy excessPaid cashIn rateOn
+  unfolding walkPaid fixedTerm processOf paidBy excessPaid cashIn
   cash-of j =
-      let rate : rateIn c (suc j) ≤ 10000 = le-trans (sub-le _ _) (v .penalty) in
-      let e = cash-penalty (rateIn c (suc j)) (freeIn c (walkState (fixedTerm c rs) table path (suc j))) (walkAmount (fixedTerm c rs) table path (suc j)) rate in
+      let rate = le-trans (rate-le (c .penalty) (c .step) (suc j)) (v .penalty) in
+      let s = walkState (fixedTerm c rs) table path (suc j) in
+      let e = cash-penalty (rateIn c (suc j)) (freeIn c s) (walkAmount (fixedTerm c rs) table path (suc j)) rate in
       omega arith
 
   cash-long : length (walkCash (fixedTerm c rs) table path) ≡ c .dates

@@ -8,7 +8,8 @@ use native.Mathlib.Omega.{arith}
 use lib.Dec.{T, leb, ltb, eqb, eqb→eq, eqb-refl, leb→le, le→leb, ltb→lt, lt→ltb}
 use Rattle.decision.specs.Choice.{and-left, and-right, and-intro}
 use Rattle.rules.specs.Contract.{factorMost}
-use Rattle.rules.specs.Date.{Behaviour, static, mixed, dynamic, freeAmount, largestAmount, surrenders, admits, cash, guaranteeAfter, balanceAfter, nextAccount, excess, excessPaid}
+use Rattle.rules.specs.Date.{Behaviour, static, mixed, dynamic, freeAmount, largestAmount, surrenders, admits, cash}
+use Rattle.rules.specs.Date.{guaranteeAfter, balanceAfter, nextAccount, excess, excessPaid}
 use Rattle.rules.specs.Facts.{lifted-le}
 
 -- ---- admissible amounts

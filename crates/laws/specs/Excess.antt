@@ -11,8 +11,10 @@ use Rattle.decision.specs.Arrivals.{arriving, Alike, value-same, recorded-same,
 use Rattle.decision.specs.Layers.{lookup, layer, layers}
 use Rattle.rules.specs.Contract.{Terms, Returns}
 use Rattle.rules.specs.Date.{Behaviour, balanceAfter, liftedAccount, excess, excessPaid}
-use Rattle.rules.specs.Product.{Product, stateValue, recordedAmount, contractValue, valueLayer, amountLayers, suppliedValue, suppliedLayer, walkState, walkAmount, walkHeld, walkPaid, walkCash}
-use Rattle.rules.specs.FixedTerm.{State, Held, InRange, admissibleIn, cashIn, afterIn, paidBy, startOf, processOf, layerSize, layoutOf, fixedTerm}
+use Rattle.rules.specs.Product.{Product, stateValue, recordedAmount, contractValue, valueLayer, amountLayers, suppliedValue}
+use Rattle.rules.specs.Product.{suppliedLayer, walkState, walkAmount, walkHeld, walkPaid, walkCash}
+use Rattle.rules.specs.FixedTerm.{State, Held, InRange, admissibleIn, cashIn, afterIn, paidBy, startOf, processOf, layerSize}
+use Rattle.rules.specs.FixedTerm.{layoutOf, fixedTerm}
 use Rattle.laws.specs.Accepted.{Valid}
 use Rattle.laws.specs.FixedTerm.{monotone, reached-in-range, after-falls, placed-in-range, size-some}
 use Rattle.laws.specs.Walk.{walk-held}

@@ -6,11 +6,11 @@ pub mod FixedTerm
 pub mod Valuing
 pub mod ThirdDemand
 pub mod Bounds
+pub mod Step
 pub mod Walk
 pub mod Cash
 pub mod Booking
 pub mod Supplied
-pub mod Step
 pub mod Excess
 pub mod Map
 pub mod Narrow

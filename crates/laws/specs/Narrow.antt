@@ -12,11 +12,15 @@ use Rattle.decision.specs.Process.{Table, tableValue, startTableValue, Decides}
 use Rattle.decision.specs.Layers.{lookup, layer}
 use Rattle.rules.specs.Contract.{Terms, Returns, termsOf, returnsOf}
 use Rattle.rules.specs.Date.{Behaviour, dynamic}
-use Rattle.rules.specs.Product.{stateValue, contractValue, valueLayer, suppliedValue, suppliedLayer, walkState, walkAmount, walkPaid, walkCash}
+use Rattle.rules.specs.Product.{stateValue, contractValue, valueLayer, suppliedValue, suppliedLayer, walkState, walkAmount}
+use Rattle.rules.specs.Product.{walkPaid, walkCash}
 use Rattle.rules.specs.FixedTerm.{State, InRange, freeIn, admissibleIn, rateIn, cashIn, processOf, layerSize, layoutOf, fixedTerm}
 use Rattle.rules.specs.Refusals.{checkEach, accepted, recordChecks, listChecks}
-use Rattle.rules.specs.Operations.{productOf, answer, behaviourOf, tableSize, valuingVerdict, valuingAnswer, badEntry, tableChecks, suppliedChecks, suppliedVerdict, suppliedAnswer, badDate, pathChecks, walkChecks, walkVerdict}
-use Rattle.laws.specs.Accepted.{Valid, ValidReturns, AllPass, all-pass, pass-right, not-not, then-earlier, both-terms, both-returns, success-reports}
+use Rattle.rules.specs.Operations.{productOf, answer, behaviourOf, tableSize, valuingVerdict, valuingAnswer, badEntry}
+use Rattle.rules.specs.Operations.{tableChecks, suppliedChecks, suppliedVerdict, suppliedAnswer, badDate, pathChecks, walkChecks}
+use Rattle.rules.specs.Operations.{walkVerdict}
+use Rattle.laws.specs.Accepted.{Valid, ValidReturns, AllPass, all-pass, pass-right, not-not, then-earlier, both-terms}
+use Rattle.laws.specs.Accepted.{both-returns, success-reports}
 use Rattle.laws.specs.Date.{cash-le}
 use Rattle.laws.specs.FixedTerm.{placed-in-range}
 use Rattle.laws.specs.Bounds.{amount-le, ends, stateMost, state-value-le, table-value-le, contract-value-le, table-start-le}

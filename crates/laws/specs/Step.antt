@@ -2,7 +2,7 @@
 use mathlib.Core.List.{List, _++_}
 use mathlib.Core.Path.{_≡_, ap, _∙_}
 use Prim.Native.Nat.{ℕ, suc, _-_, _*_, _≤_}
-use native.Mathlib.Nat.{le-refl, sub-le-sub-left, mul-le-mul}
+use native.Mathlib.Nat.{le-refl, sub-le, sub-le-sub-left, mul-le-mul}
 use native.Mathlib.Omega.{arith}
 use Rattle.rules.specs.Contract.{Terms, Returns, bytesOf}
 use Rattle.rules.specs.Date.{Behaviour, freeAmount, rateOn, penalty, cash, guaranteeAfter, balanceAfter}
@@ -22,6 +22,11 @@ unfolding rateOn
 rate-falls rate step i =
     let l : (i - 1) * step ≤ (suc i - 1) * step = mul-le-mul (omega arith) (le-refl step) in
     sub-le-sub-left l rate
+
+-- .. so no date has more than the record's
+pub rate-le : (rate step i : ℕ) → rateOn rate step i ≤ rate
+unfolding rateOn
+rate-le rate step i = sub-le _ _
 
 -- with step 0 it is the record's on every date
 pub rate-zero : (rate i : ℕ) → rateOn rate 0 i ≡ rate

@@ -12,13 +12,23 @@ use Rattle.decision.specs.Layers.{lookup, layers, entry}
 use Rattle.decision.specs.Choice.{largest, smallestBest}
 use Rattle.decision.specs.Process.{reached, worth, valueOver, value, recorded, startValue, met, startMet}
 use Rattle.rules.specs.Contract.{word, long, bytesOf, Terms, termsOf, returnsOf}
-use Rattle.rules.specs.Date.{Behaviour, static, mixed, dynamic, freeAmount, largestAmount, surrenders, admits, rateOn, penalty, cash, guaranteeAfter, balanceAfter, liftedAccount, nextAccount, excess, excessPaid, maturityValue, discounted, margin}
-use Rattle.rules.specs.Product.{stateValue, recordedAmount, contractValue, amountLayers, walkState, walkAmount, walkHeld, walkPaid, walkCash}
-use Rattle.rules.specs.FixedTerm.{State, freeIn, admissibleIn, limitIn, cashIn, afterIn, reachBy, paidBy, expectOver, startOf, processOf, layerSize, layoutOf, fixedTerm}
-use Rattle.rules.specs.Refusals.{checkEach, Verdict, accepted, refused, verdict, numberOf, placeOf, onSuccess, outside, short, termsChecks, recordChecks, badReturn, listChecks}
-use Rattle.rules.specs.Operations.{productOf, Answer, answer, behaviourNumber, behaviourOf, tableSize, lentChecks, recordVerdict, valuingChecks, valuingVerdict, valuingAnswer, amountChecks, bookingChecks, bookingVerdict, bookingBytes, bookingBuffer, badDate, pathChecks, walkChecks, walkVerdict, walkCashes}
-use Rattle.rules.specs.Map.{surrendered, surrenderMap, surrenderCount, mapSize, mapChecks, mappingChecks, mappingVerdict, mappingTable, mappingMap, mappingCount}
-use Rattle.rules.specs.Printed.{digits, decimal, numbered, line, nameOf, linesOf, valueLine, returnLine, lineCount, valuesText, textOf, programVerdict, printed}
+use Rattle.rules.specs.Date.{Behaviour, static, mixed, dynamic, freeAmount, largestAmount, surrenders, admits, rateOn}
+use Rattle.rules.specs.Date.{penalty, cash, guaranteeAfter, balanceAfter, liftedAccount, nextAccount, excess, excessPaid}
+use Rattle.rules.specs.Date.{maturityValue, discounted, margin}
+use Rattle.rules.specs.Product.{stateValue, recordedAmount, contractValue, amountLayers, walkState, walkAmount, walkHeld}
+use Rattle.rules.specs.Product.{walkPaid, walkCash}
+use Rattle.rules.specs.FixedTerm.{State, freeIn, admissibleIn, limitIn, cashIn, afterIn, reachBy, paidBy, expectOver}
+use Rattle.rules.specs.FixedTerm.{startOf, processOf, layerSize, layoutOf, fixedTerm}
+use Rattle.rules.specs.Refusals.{checkEach, Verdict, accepted, refused, verdict, numberOf, placeOf, onSuccess, outside}
+use Rattle.rules.specs.Refusals.{short, termsChecks, recordChecks, badReturn, listChecks}
+use Rattle.rules.specs.Operations.{productOf, Answer, answer, behaviourNumber, behaviourOf, tableSize, lentChecks}
+use Rattle.rules.specs.Operations.{recordVerdict, valuingChecks, valuingVerdict, valuingAnswer, amountChecks, bookingChecks}
+use Rattle.rules.specs.Operations.{bookingVerdict, bookingBytes, bookingBuffer, badDate, pathChecks, walkChecks}
+use Rattle.rules.specs.Operations.{walkVerdict, walkCashes}
+use Rattle.rules.specs.Map.{surrendered, surrenderMap, surrenderCount, mapSize, mapChecks, mappingChecks, mappingVerdict}
+use Rattle.rules.specs.Map.{mappingTable, mappingMap, mappingCount}
+use Rattle.rules.specs.Printed.{digits, decimal, numbered, line, nameOf, linesOf, valueLine, returnLine, lineCount}
+use Rattle.rules.specs.Printed.{valuesText, textOf, programVerdict, printed}
 
 -- ---- contracts P and Q
 -- a record's bytes
@@ -167,7 +177,13 @@ marked =
     ∷ []
 
 pub marked-cases : map (λ r. tell (r .asked)) marked ≡ map (λ r. r .told) marked
-unfolding sum first firstFrom largest smallestBest reached worth valueOver value recorded startValue word long bytesOf termsOf returnsOf freeAmount largestAmount surrenders admits rateOn penalty cash guaranteeAfter balanceAfter liftedAccount nextAccount excess excessPaid maturityValue discounted margin stateValue recordedAmount contractValue freeIn admissibleIn limitIn cashIn afterIn reachBy paidBy expectOver startOf processOf layerSize layoutOf fixedTerm checkEach verdict numberOf placeOf onSuccess outside short termsChecks recordChecks badReturn listChecks productOf answer behaviourNumber behaviourOf tableSize lentChecks valuingChecks valuingVerdict valuingAnswer amountChecks bookingChecks bookingVerdict bookingBytes bookingBuffer packed P P-one P-discounted Q returnsP at unless-refused booked valued tell row marked
+unfolding sum first firstFrom largest smallestBest reached worth valueOver value recorded startValue word long bytesOf termsOf returnsOf
+    freeAmount largestAmount surrenders admits rateOn penalty cash guaranteeAfter balanceAfter liftedAccount nextAccount excess
+    excessPaid maturityValue discounted margin stateValue recordedAmount contractValue freeIn admissibleIn limitIn cashIn afterIn
+    reachBy paidBy expectOver startOf processOf layerSize layoutOf fixedTerm checkEach verdict numberOf placeOf onSuccess outside short
+    termsChecks recordChecks badReturn listChecks productOf answer behaviourNumber behaviourOf tableSize lentChecks valuingChecks
+    valuingVerdict valuingAnswer amountChecks bookingChecks bookingVerdict bookingBytes bookingBuffer packed P P-one P-discounted Q
+    returnsP at unless-refused booked valued tell row marked
 marked-cases = refl
 
 -- ---- document 02 (i): contract P with N 4 at steps 0, 100 and 1,000; bookings by date; the ends of the two fields
@@ -194,7 +210,13 @@ step-rows =
     ∷ []
 
 pub step-cases : map (λ r. tell (r .asked)) step-rows ≡ map (λ r. r .told) step-rows
-unfolding sum first firstFrom largest smallestBest reached worth valueOver value recorded startValue word long bytesOf termsOf returnsOf freeAmount largestAmount surrenders admits rateOn penalty cash guaranteeAfter balanceAfter liftedAccount nextAccount excess excessPaid maturityValue discounted margin stateValue recordedAmount contractValue freeIn admissibleIn limitIn cashIn afterIn reachBy paidBy expectOver startOf processOf layerSize layoutOf fixedTerm checkEach verdict numberOf placeOf onSuccess outside short termsChecks recordChecks badReturn listChecks productOf answer behaviourNumber behaviourOf tableSize lentChecks recordVerdict valuingChecks valuingVerdict valuingAnswer amountChecks bookingChecks bookingVerdict bookingBytes bookingBuffer packed P-spare P-step returnsP at unless-refused booked valued tell row step-rows
+unfolding sum first firstFrom largest smallestBest reached worth valueOver value recorded startValue word long bytesOf termsOf returnsOf
+    freeAmount largestAmount surrenders admits rateOn penalty cash guaranteeAfter balanceAfter liftedAccount nextAccount excess
+    excessPaid maturityValue discounted margin stateValue recordedAmount contractValue freeIn admissibleIn limitIn cashIn afterIn
+    reachBy paidBy expectOver startOf processOf layerSize layoutOf fixedTerm checkEach verdict numberOf placeOf onSuccess outside short
+    termsChecks recordChecks badReturn listChecks productOf answer behaviourNumber behaviourOf tableSize lentChecks recordVerdict
+    valuingChecks valuingVerdict valuingAnswer amountChecks bookingChecks bookingVerdict bookingBytes bookingBuffer packed P-spare
+    P-step returnsP at unless-refused booked valued tell row step-rows
 step-cases = refl
 
 -- ---- document 02 (ii): the maps of contract P, in words that held ones before; a word behind them; a word too few; two
@@ -215,7 +237,13 @@ map-rows =
     ∷ []
 
 pub map-cases : map (λ r. tell (r .asked)) map-rows ≡ map (λ r. r .told) map-rows
-unfolding sum tabulate first firstFrom largest smallestBest reached worth valueOver value recorded startValue word long bytesOf termsOf returnsOf freeAmount largestAmount surrenders admits rateOn penalty cash guaranteeAfter balanceAfter liftedAccount nextAccount excess excessPaid maturityValue discounted recordedAmount amountLayers layers freeIn admissibleIn limitIn cashIn afterIn reachBy paidBy expectOver startOf processOf layerSize layoutOf fixedTerm checkEach verdict onSuccess outside short termsChecks recordChecks badReturn listChecks productOf behaviourNumber behaviourOf tableSize lentChecks valuingChecks bit fromBits wordsFor wordOf wordsOf setBits surrendered surrenderMap surrenderCount mapSize mapChecks mappingChecks mappingVerdict mappingTable mappingMap mappingCount packed P P-one P-three returnsP unless-refused tell row map-rows
+unfolding sum tabulate first firstFrom largest smallestBest reached worth valueOver value recorded startValue word long bytesOf termsOf
+    returnsOf freeAmount largestAmount surrenders admits rateOn penalty cash guaranteeAfter balanceAfter liftedAccount nextAccount
+    excess excessPaid maturityValue discounted recordedAmount amountLayers layers freeIn admissibleIn limitIn cashIn afterIn reachBy
+    paidBy expectOver startOf processOf layerSize layoutOf fixedTerm checkEach verdict onSuccess outside short termsChecks recordChecks
+    badReturn listChecks productOf behaviourNumber behaviourOf tableSize lentChecks valuingChecks bit fromBits wordsFor wordOf wordsOf
+    setBits surrendered surrenderMap surrenderCount mapSize mapChecks mappingChecks mappingVerdict mappingTable mappingMap mappingCount
+    packed P P-one P-three returnsP unless-refused tell row map-rows
 map-cases = refl
 
 -- ---- document 02 (iv): contract P with N 3, and its walks along the dynamic table; with top 12, where the first return pays
@@ -237,7 +265,13 @@ excess-rows =
     ∷ []
 
 pub excess-cases : map (λ r. tell (r .asked)) excess-rows ≡ map (λ r. r .told) excess-rows
-unfolding sum tabulate first firstFrom largest smallestBest reached worth valueOver value recorded startValue met startMet word long bytesOf termsOf returnsOf freeAmount largestAmount surrenders admits rateOn penalty cash guaranteeAfter balanceAfter liftedAccount nextAccount excess excessPaid maturityValue discounted margin recordedAmount contractValue amountLayers walkState walkAmount walkHeld walkPaid walkCash lookup layers entry freeIn admissibleIn limitIn cashIn afterIn reachBy paidBy expectOver startOf processOf layerSize layoutOf fixedTerm checkEach verdict onSuccess outside short termsChecks recordChecks badReturn listChecks productOf answer behaviourNumber behaviourOf tableSize lentChecks valuingChecks valuingVerdict valuingAnswer badDate pathChecks walkChecks walkVerdict walkCashes packed P-three P-tight returnsP unless-refused valued tell row excess-rows
+unfolding sum tabulate first firstFrom largest smallestBest reached worth valueOver value recorded startValue met startMet word long
+    bytesOf termsOf returnsOf freeAmount largestAmount surrenders admits rateOn penalty cash guaranteeAfter balanceAfter liftedAccount
+    nextAccount excess excessPaid maturityValue discounted margin recordedAmount contractValue amountLayers walkState walkAmount
+    walkHeld walkPaid walkCash lookup layers entry freeIn admissibleIn limitIn cashIn afterIn reachBy paidBy expectOver startOf
+    processOf layerSize layoutOf fixedTerm checkEach verdict onSuccess outside short termsChecks recordChecks badReturn listChecks
+    productOf answer behaviourNumber behaviourOf tableSize lentChecks valuingChecks valuingVerdict valuingAnswer badDate pathChecks
+    walkChecks walkVerdict walkCashes packed P-three P-tight returnsP unless-refused valued tell row excess-rows
 excess-cases = refl
 
 -- "The program .. prints exactly": the five lines for P, as ASCII codes
@@ -247,7 +281,12 @@ pub printed-P : printed (packed P) returnsP
     100 ∷ 121 ∷ 110 ∷ 97 ∷ 109 ∷ 105 ∷ 99 ∷ 32 ∷ 49 ∷ 51 ∷ 48 ∷ 48 ∷ 48 ∷ 48 ∷ 10 ∷
     48 ∷ 32 ∷ 53 ∷ 32 ∷ 49 ∷ 48 ∷ 32 ∷ 53 ∷ 32 ∷ 53 ∷ 32 ∷ 48 ∷ 10 ∷
     49 ∷ 32 ∷ 49 ∷ 53 ∷ 32 ∷ 49 ∷ 48 ∷ 32 ∷ 53 ∷ 32 ∷ 53 ∷ 32 ∷ 48 ∷ 10 ∷ []
-unfolding sum first firstFrom largest smallestBest reached worth valueOver value recorded startValue word long bytesOf termsOf returnsOf freeAmount largestAmount surrenders admits rateOn penalty cash guaranteeAfter balanceAfter liftedAccount nextAccount excess excessPaid maturityValue discounted stateValue recordedAmount contractValue freeIn admissibleIn limitIn cashIn afterIn reachBy paidBy expectOver startOf processOf layerSize layoutOf fixedTerm checkEach verdict outside short termsChecks recordChecks badReturn listChecks productOf behaviourNumber tableSize lentChecks valuingChecks valuingVerdict digits decimal numbered line nameOf linesOf valueLine returnLine lineCount valuesText textOf programVerdict printed packed P returnsP
+unfolding sum first firstFrom largest smallestBest reached worth valueOver value recorded startValue word long bytesOf termsOf returnsOf
+    freeAmount largestAmount surrenders admits rateOn penalty cash guaranteeAfter balanceAfter liftedAccount nextAccount excess
+    excessPaid maturityValue discounted stateValue recordedAmount contractValue freeIn admissibleIn limitIn cashIn afterIn reachBy
+    paidBy expectOver startOf processOf layerSize layoutOf fixedTerm checkEach verdict outside short termsChecks recordChecks badReturn
+    listChecks productOf behaviourNumber tableSize lentChecks valuingChecks valuingVerdict digits decimal numbered line nameOf linesOf
+    valueLine returnLine lineCount valuesText textOf programVerdict printed packed P returnsP
 printed-P = refl
 
 -- "the program lends 4,096 working numbers, refusing by 11 what needs more": two layers of 64 × 32 entries, and of 683 × 3
@@ -266,5 +305,6 @@ P-wide premium top = record {
 
 pub program-room : (programVerdict (packed (P-wide 31 63)) returnsP ≡ accepted)
     × (programVerdict (packed (P-wide 2 682)) returnsP ≡ refused 11 0)
-unfolding sum first firstFrom word long bytesOf termsOf returnsOf layerSize checkEach verdict outside short termsChecks recordChecks badReturn listChecks behaviourNumber tableSize lentChecks valuingChecks valuingVerdict programVerdict packed returnsP
+unfolding sum first firstFrom word long bytesOf termsOf returnsOf layerSize checkEach verdict outside short termsChecks recordChecks
+    badReturn listChecks behaviourNumber tableSize lentChecks valuingChecks valuingVerdict programVerdict packed returnsP
 program-room = (refl, refl)

@@ -5,7 +5,8 @@ use mathlib.Core.List.{List, [], _∷_, _++_}
 use mathlib.Core.Logic.{_↔_}
 use mathlib.Core.Path.{_≡_, refl, subst}
 use Prim.Native.Nat.{ℕ, zero, suc, _+_, _-_, _*_, _/_, _%_, _^_, _≤_, _<_}
-use native.Mathlib.Nat.{le-trans, mul-le-mul, mul-le-mul-left, sub-le, div-le-of-le-mul, le-min, min-le-left, min-le-right, le-div-iff-mul-le, div-lt-iff-lt-mul, pow-suc}
+use native.Mathlib.Nat.{le-trans, mul-le-mul, mul-le-mul-left, sub-le, div-le-of-le-mul, le-min, min-le-left, min-le-right}
+use native.Mathlib.Nat.{le-div-iff-mul-le, div-lt-iff-lt-mul, pow-suc}
 use native.Mathlib.Decide.{decLe}
 use native.Mathlib.Omega.{arith}
 use lib.Dec.{lit<, ltb}
@@ -15,7 +16,8 @@ use Rattle.rules.specs.Contract.{factorMost}
 use Rattle.rules.specs.Date.{liftedAccount, nextAccount, excess, discounted, margin}
 use Rattle.rules.specs.Refusals.{checkEach, numbers, termsChecks, recordChecks, listChecks}
 use Rattle.rules.specs.Printed.{digits, decimal}
-use Rattle.rules.specs.Operations.{lentChecks, valuingChecks, tableChecks, suppliedChecks, amountChecks, bookingChecks, pathChecks, walkChecks}
+use Rattle.rules.specs.Operations.{lentChecks, valuingChecks, tableChecks, suppliedChecks, amountChecks, bookingChecks}
+use Rattle.rules.specs.Operations.{pathChecks, walkChecks}
 use Rattle.rules.specs.Map.{mapChecks, mappingChecks}
 
 -- ---- "Checks run in the order of the table; an operation makes those for which it has the input."

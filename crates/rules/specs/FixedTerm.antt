@@ -5,7 +5,8 @@ use Rattle.decision.specs.Index.{sum}
 use Rattle.decision.specs.Process.{Process}
 use Rattle.decision.specs.Layers.{Layout}
 use Rattle.rules.specs.Contract.{Terms, Returns}
-use Rattle.rules.specs.Date.{Behaviour, freeAmount, largestAmount, admits, rateOn, cash, guaranteeAfter, balanceAfter, nextAccount, excessPaid, maturityValue, discounted}
+use Rattle.rules.specs.Date.{Behaviour, freeAmount, largestAmount, admits, rateOn, cash, guaranteeAfter, balanceAfter}
+use Rattle.rules.specs.Date.{nextAccount, excessPaid, maturityValue, discounted}
 use Rattle.rules.specs.Product.{Product}
 
 -- "State: account W from 0 to top, guarantee A from 0 to U."

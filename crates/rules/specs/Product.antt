@@ -1,6 +1,5 @@
 -- A withdrawal product: a decision process, its three behaviours, and the layers in which its states have entries.
 -- What its values, tables and walks are, and what the third demand says of it. Assumes nothing.
-use mathlib.Core.Bool.{Bool}
 use mathlib.Core.List.{List, [], _∷_, _++_}
 use mathlib.Core.Path.{_≡_}
 use Prim.Native.Nat.{ℕ, zero, suc, _+_, _-_, _≤_}

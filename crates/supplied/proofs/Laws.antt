@@ -4,6 +4,7 @@ use mathlib.Core.Logic.{inr}
 use mathlib.Core.Path.{_≡_, refl, ap, ap₂, sym, _∙_, subst}
 use Prim.Native.Nat.{ℕ, suc, _+_, _-_, _*_, _≤_, _<_, max}
 use native.Mathlib.Nat.{zero-add, le-trans, le-of-eq}
+use native.Mathlib.Numerals.{add-one}
 use native.Mathlib.Omega.{arith}
 use lib.Dec.{T}
 use lib.ListN.{length, getD, drop, replicate}
@@ -15,16 +16,18 @@ use Rattle.decision.specs.Layers.{low-digit, lookup, layer}
 use Rattle.slices.specs.Parts.{part-at}
 use Rattle.slices.specs.Stored.{stored, length-stored, stored-out}
 use Rattle.slices.specs.Rows.{cells, flat, rows-le, rows-step, row-next, layer-stored}
-use Rattle.rules.specs.Contract.{Terms, topMost, rateMost, termsOf, Returns, returnsOf}
+use Rattle.rules.specs.Contract.{Terms, topMost, termsOf, Returns, returnsOf}
 use Rattle.rules.specs.Date.{dynamic, freeAmount, admits, maturityValue, margin}
 use Rattle.rules.specs.Product.{suppliedValue, suppliedLayer}
 use Rattle.rules.specs.Refusals.{Verdict, accepted, refused, verdict, numberOf, placeOf, onSuccess, recordChecks, listChecks}
-use Rattle.rules.specs.FixedTerm.{freeIn, admissibleIn, rateIn, cashIn, afterIn, reachBy, paidBy, expectOver, startOf, processOf, layerSize, layoutOf, fixedTerm}
-use Rattle.rules.specs.Operations.{productOf, answer, workAfter, tableSize, badAt, badEntry, tableChecks, suppliedChecks, suppliedVerdict, suppliedAnswer, suppliedWork}
+use Rattle.rules.specs.FixedTerm.{freeIn, admissibleIn, rateIn, cashIn, afterIn, reachBy, paidBy, expectOver, startOf, processOf}
+use Rattle.rules.specs.FixedTerm.{layerSize, layoutOf, fixedTerm}
+use Rattle.rules.specs.Operations.{productOf, answer, workAfter, tableSize, badAt, badEntry, tableChecks, suppliedChecks}
+use Rattle.rules.specs.Operations.{suppliedVerdict, suppliedAnswer, suppliedWork}
 use Rattle.laws.specs.Supplied.{all-admitted}
 use Rattle.laws.specs.Date.{dynamic-is}
 use Rattle.laws.specs.Accepted.{Valid, ValidReturns, then-accepted, then-refused}
-use Rattle.laws.specs.Bounds.{table-value-most, stateMost, entryMost}
+use Rattle.laws.specs.Bounds.{table-value-le, stateMost, entryMost}
 use Rattle.expect.specs.Expected.{expected, reachedSum, Listing, expected-same}
 use Rattle.keys.specs.declared.Date.{Date}
 use Rattle.keys.specs.Sums.{sums, Sums, sum-in, row-in, sums-less, sums-kept, sums-same}
@@ -96,10 +99,10 @@ module _ {work layer : List ℕ} {d : Date} {n : ℕ} (f : Following work layer 
         ap (λ (e : ℕ → ℕ → ℕ). followed e (cells layer 0 (d .stride)) (d .rate) (d .level) w a) same)
 
 -- ---- one date
-module _ {c : Terms} {count rate : ℕ} {work layer list work₁ : List ℕ} {date : Date} (d : Dating c count rate work layer list)
-    (is : date ≡ dateOf c rate) (told : Summed c (returnsOf list) work work₁ date)
+module _ {c : Terms} {count i : ℕ} {work layer list work₁ : List ℕ} {date : Date} (d : Dating c count i work layer list)
+    (is : date ≡ dateOf c i) (told : Summed c (returnsOf list) work work₁ date)
   where
-    s : Summed c (returnsOf list) work work₁ (dateOf c rate)
+    s : Summed c (returnsOf list) work work₁ (dateOf c i)
     s = subst (Summed c (returnsOf list) work work₁) is told
 
     pub following : Following work₁ layer date (c .top + 1)
@@ -111,7 +114,7 @@ module _ {c : Terms} {count rate : ℕ} {work layer list work₁ : List ℕ} {da
     })
 
     pub back : {work₂ : List ℕ} → work₂ ≡ stored work₁ 0 (flat (date .stride) (followedOn date work₁ layer)) ((c .top + 1) * date .stride)
-        → Back c (returnsOf list) rate work layer work₂
+        → Back c (returnsOf list) i work layer work₂
     unfolding layerSize
     back e =
         let values = e ∙ ap (λ (x : Date). stored work₁ 0 (flat (x .stride) (followedOn x work₁ layer)) ((c .top + 1) * x .stride)) is in record {
@@ -120,7 +123,7 @@ module _ {c : Terms} {count rate : ℕ} {work layer list work₁ : List ℕ} {da
               let first = layer-stored work₁ 0 (c .premium + 1) (c .top + 1) _ (let r = s .layers .room in omega arith) in
               ap (λ (xs : List ℕ). cells xs 0 (c .premium + 1) w a) values
               ∙ first .cell w a (omega arith) (omega arith)
-              ∙ worth-same _ _ rate (freeAmount (c .level) a) w a _ (λ x y p q. s .sums-are x y (le-trans p h) (le-trans q l));
+              ∙ worth-same _ _ (rateIn c i) (freeAmount (c .level) a) w a _ (λ x y p q. s .sums-are x y (le-trans p h) (le-trans q l));
           rest = λ i h. ap (λ (xs : List ℕ). getD xs i 0) values ∙ stored-out work₁ 0 _ _ i (inr (omega arith)) ∙ s .rest i h;
         }
 
@@ -156,10 +159,10 @@ admitted-at c rs table valid none i w a some before h l =
 -- no value of a table whose entries are admitted is above what a contract's values can be
 pub table-on-most : {c : Terms} (rs : Returns) (table : List ℕ) → Valid c → ValidReturns rs
     → tableSize c ≤ first (badEntry c table) (tableSize c)
-    → (i w a : ℕ) → 1 ≤ i → i ≤ c .dates → w ≤ c .top → a ≤ c .premium → tableOn c rs table i w a ≤ stateMost c 1
+    → (i w a : ℕ) → 1 ≤ i → i ≤ c .dates → w ≤ c .top → a ≤ c .premium → tableOn c rs table i w a ≤ stateMost c i
 table-on-most {c} rs table v u none i w a some before h l =
     let good = all-admitted c rs table v none in
-    table-value-most c rs v u (lookup (layoutOf c) table) good i (at w a) some before (record { account = h; guarantee = l })
+    table-value-le c rs v u (lookup (layoutOf c) table) good i (at w a) some before (record { account = h; guarantee = l })
 
 module _ {c : Terms} {count : ℕ} {work₀ table list work : List ℕ} (s : Starting c count work₀ table list)
     {i from to : ℕ} (p : DateLayer c i from to) (some : 0 < i) (before : i < c .dates)
@@ -172,16 +175,18 @@ module _ {c : Terms} {count : ℕ} {work₀ table list work : List ℕ} (s : Sta
         ap (λ (x : ℕ). getD (midOf from (to - from) table) x 0) (zero-add (w * (c .premium + 1) + a))
         ∙ layer-entry p table (s .entries) h l
 
-    pub dating : {rate : ℕ} → rate ≤ rateMost → Dating c count rate work (midOf from (to - from) table) list
-    dating small-rate = record {
+    pub dating : Dating c count i work (midOf from (to - from) table) list
+    dating = record {
       date = record {
-        rate-is = small-rate;
+        before = before;
         listing = s .listing;
         first = record {
           layers = record { valid = s .layers .valid; room = omega (arith, s .layers .room, v .long) };
           small = λ w a h l.
               le-trans (le-of-eq (v .values w a h l))
-              (table-on-most (returnsOf list) table (s .layers .valid) (s .listing .valid) (s .none-bad) (suc i) w a (omega arith) (omega arith) h l);
+              (subst (λ (n : ℕ). tableOn c (returnsOf list) table (suc i) w a ≤ stateMost c n) (sym (add-one i))
+              (table-on-most (returnsOf list) table (s .layers .valid) (s .listing .valid) (s .none-bad) (suc i) w a (omega arith) (omega arith)
+              h l));
         };
       };
       layer-is = layer-long p table (s .entries);
@@ -196,7 +201,7 @@ module _ {c : Terms} {count : ℕ} {work₀ table list work : List ℕ} (s : Sta
         ≡ expected c (returnsOf list) (tableOn c (returnsOf list) table (suc i)) x y
     next-sums x y k = expected-same c (returnsOf list) _ _ x y (λ w h. v .values w y h k)
 
-    pub first-before : (work₁ : List ℕ) → Back c (returnsOf list) (rateIn c i) work (midOf from (to - from) table) work₁
+    pub first-before : (work₁ : List ℕ) → Back c (returnsOf list) i work (midOf from (to - from) table) work₁
         → First (tableOn c (returnsOf list) table (suc (i - 1))) c work₀ work₁
     first-before work₁ d = record {
       long = d .long ∙ v .long;

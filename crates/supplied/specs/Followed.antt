@@ -8,13 +8,13 @@ use Rattle.decision.specs.Index.{first}
 use Rattle.decision.specs.Process.{tableValue}
 use Rattle.decision.specs.Layers.{lookup}
 use Rattle.slices.specs.Rows.{cells}
-use Rattle.rules.specs.Contract.{Terms, Returns, rateMost}
+use Rattle.rules.specs.Contract.{Terms, Returns}
 use Rattle.rules.specs.Date.{dynamic, freeAmount, admits, maturityValue}
 use Rattle.rules.specs.Product.{suppliedValue, suppliedLayer}
-use Rattle.rules.specs.FixedTerm.{layerSize, layoutOf, processOf, fixedTerm}
+use Rattle.rules.specs.FixedTerm.{rateIn, layerSize, layoutOf, processOf, fixedTerm}
 use Rattle.rules.specs.Refusals.{Verdict}
 use Rattle.rules.specs.Operations.{answer, workAfter, tableSize, badEntry}
-use Rattle.expect.specs.Expected.{expected, Listing, Layers, Values}
+use Rattle.expect.specs.Expected.{expected, Listing, Layers}
 use Rattle.keys.specs.declared.Date.{Date}
 use Rattle.keys.specs.Sums.{sums, Sums}
 use Rattle.worth.specs.Worth.{worthOver}
@@ -39,17 +39,17 @@ pub record Following (work layer : List ℕ) (d : Date) (n : ℕ) : Type 0 where
       → T (admits dynamic (freeAmount (d .level) a) w (cells layer 0 (d .stride) w a))
 
 -- one date back, by its layer of the table
-pub record Dating (c : Terms) (count rate : ℕ) (work layer list : List ℕ) : Type 0 where
-  pub date : OneDate c count rate work list
+pub record Dating (c : Terms) (count i : ℕ) (work layer list : List ℕ) : Type 0 where
+  pub date : OneDate c count i work list
   pub layer-is : length layer ≡ layerSize c
   pub admitted : (w a : ℕ) → w ≤ c .top → a ≤ c .premium → T (admits dynamic (freeAmount (c .level) a) w (cells layer 0 (c .premium + 1) w a))
 
-pub record Back (c : Terms) (rs : Returns) (rate : ℕ) (work layer work' : List ℕ) : Type 0 where
+pub record Back (c : Terms) (rs : Returns) (i : ℕ) (work layer work' : List ℕ) : Type 0 where
   pub long : length work' ≡ length work
   pub values : (w a : ℕ) → w ≤ c .top → a ≤ c .premium
       → cells work' 0 (c .premium + 1) w a
-      ≡ followed (expected c rs (cells work 0 (c .premium + 1))) (cells layer 0 (c .premium + 1)) rate (c .level) w a
-  pub rest : (i : ℕ) → layerSize c + layerSize c ≤ i → getD work' i 0 ≡ getD work i 0
+      ≡ followed (expected c rs (cells work 0 (c .premium + 1))) (cells layer 0 (c .premium + 1)) (rateIn c i) (c .level) w a
+  pub rest : (x : ℕ) → layerSize c + layerSize c ≤ x → getD work' x 0 ≡ getD work x 0
 
 -- every date
 abbrev pub tableOn : Terms → Returns → List ℕ → ℕ → ℕ → ℕ → ℕ

@@ -112,12 +112,14 @@ fn follow_layer(work: &mut [u64], layer: &[u16], d: Date, n: usize)
     }
 }
 
-// The values of one date, at its penalty rate.
-fn follow_date(work: &mut [u64], layer: &[u16], list: &[u8], count: usize, c: Contract, rate: usize)
-    requires { ⌜ Dating (termsIn c) count rate (now work) (now layer) (now list) ⌝ }
-    ensures { λ _. ⌜ Back (termsIn c) (returnsOf (now (list .entry))) rate (now (work .entry)) (now (layer .entry)) (now (work .exit)) ⌝ }
+// The values of date i.
+fn follow_date(work: &mut [u64], layer: &[u16], list: &[u8], count: usize, c: Contract, i: usize)
+    requires { ⌜ Dating (termsIn c) count i (now work) (now layer) (now list) ⌝ }
+    ensures { λ _. ⌜
+        Back (termsIn c) (returnsOf (now (list .entry))) i (now (work .entry)) (now (layer .entry)) (now (work .exit))
+        ⌝ }
 {
-    let d = dates::sum_date(work, list, count, c, rate);
+    let d = dates::sum_date(work, list, count, c, i);
     follow_layer(work, layer, d, c.top + 1);
 }
 
@@ -131,8 +133,7 @@ fn follow_dates(work: &mut [u64], table: &[u16], list: &[u8], count: usize, c: C
         let part = dates::layer_of(c, i);
         let from = part.from;
         let to = part.to;
-        let rate = date::rate_on(c.penalty, c.step, i);
-        follow_date(work, &table[from..to], list, count, c, rate);
+        follow_date(work, &table[from..to], list, count, c, i);
         i -= 1;
     }
 }

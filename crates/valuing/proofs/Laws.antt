@@ -20,7 +20,8 @@ use Rattle.rules.specs.Date.{Behaviour, maturityValue, margin}
 use Rattle.rules.specs.Product.{contractValue, valueLayer, amountLayers, stateValue, recordedAmount, Claim}
 use Rattle.rules.specs.FixedTerm.{fixedTerm, processOf, expectOver, startOf, reachBy, paidBy, layoutOf, layerSize}
 use Rattle.rules.specs.Refusals.{refused, verdict, numberOf, placeOf, onSuccess, short, recordChecks, listChecks}
-use Rattle.rules.specs.Operations.{productOf, answer, workAfter, behaviourOf, tableSize, lentChecks, valuingChecks, valuingVerdict, valuingAnswer, valuingTable}
+use Rattle.rules.specs.Operations.{productOf, answer, workAfter, behaviourOf, tableSize, lentChecks, valuingChecks}
+use Rattle.rules.specs.Operations.{valuingVerdict, valuingAnswer, valuingTable}
 use Rattle.laws.specs.Accepted.{Valid, then-accepted, then-refused}
 use Rattle.laws.specs.FixedTerm.{size-some}
 use Rattle.laws.specs.ThirdDemand.{valuing-claim}

@@ -11,7 +11,8 @@ use Rattle.rules.specs.Date.{Behaviour, margin}
 use Rattle.rules.specs.Product.{contractValue, valueLayer, amountLayers}
 use Rattle.rules.specs.FixedTerm.{fixedTerm, layerSize}
 use Rattle.rules.specs.Refusals.{Verdict, accepted, refused, numberOf, placeOf, onSuccess}
-use Rattle.rules.specs.Operations.{productOf, Answer, answer, workAfter, behaviourOf, tableSize, valuingVerdict, valuedAnswer, valuedWork, valuedTable}
+use Rattle.rules.specs.Operations.{productOf, Answer, answer, workAfter, behaviourOf, tableSize, valuingVerdict, valuedAnswer}
+use Rattle.rules.specs.Operations.{valuedWork, valuedTable}
 use Rattle.laws.specs.Accepted.{Valid}
 use Rattle.expect.specs.Expected.{expected, Listing, Values}
 use Rattle.contract.specs.declared.Agreement.{Agreement}
@@ -48,7 +49,7 @@ pub record Lent (behaviour : ℕ) (c : Terms) (count : ℕ) (list work table : L
 
 pub record Settling (c : Terms) (count : ℕ) (work list : List ℕ) : Type 0 where
   pub listing : Listing list count
-  pub first : Values c work
+  pub first : Values c 0 work
 
 -- once the first layer holds the values of date 1
 pub record Settled (c : Terms) (rs : Returns) (work : List ℕ) (r : declared.Answer) (work' : List ℕ) : Type 0 where

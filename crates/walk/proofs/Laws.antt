@@ -17,7 +17,8 @@ use Rattle.decision.specs.Layers.{lookup}
 use Rattle.rules.specs.Contract.{Terms, topMost, factorMost, termsOf, Returns, returnsOf}
 use Rattle.rules.specs.Date.{dynamic, freeAmount, admits, balanceAfter, guaranteeAfter}
 use Rattle.rules.specs.Product.{walkState, walkAmount, walkHeld, walkPaid, walkCash}
-use Rattle.rules.specs.FixedTerm.{State, Held, startOf, reachBy, paidBy, afterIn, cashIn, freeIn, admissibleIn, processOf, layoutOf, fixedTerm}
+use Rattle.rules.specs.FixedTerm.{State, Held, startOf, reachBy, paidBy, afterIn, cashIn, freeIn, admissibleIn, processOf}
+use Rattle.rules.specs.FixedTerm.{layoutOf, fixedTerm}
 use Rattle.rules.specs.Refusals.{Verdict, accepted, refused, verdict, numberOf, placeOf, onSuccess, recordChecks, listChecks}
 use Rattle.rules.specs.Operations.{productOf, tableSize, badDate, pathChecks, walkChecks, walkVerdict, walkCashes}
 use Rattle.laws.specs.Accepted.{Valid, not-not, then-accepted, then-refused}
@@ -82,7 +83,8 @@ module _ {c : Terms} {count : ℕ} {list table path : List ℕ} (h : Walking c c
           paid-small = excess-paid-le (c .fee) (c .top) _ _ (le-trans (sub-le (p .account) t) (m .account)) (factor-small i before);
         }
 
-pub met-up : {c : Terms} {rs : Returns} {table path : List ℕ} {p : Place} (i : ℕ) → Met c rs table path (suc i) p → Met c rs table path (i + 1) p
+pub met-up : {c : Terms} {rs : Returns} {table path : List ℕ} {p : Place} (i : ℕ)
+    → Met c rs table path (suc i) p → Met c rs table path (i + 1) p
 met-up {c} {rs} {table} {path} {p} i m = subst (λ (n : ℕ). Met c rs table path n p) (sym (add-one i)) m
 
 -- ---- the amount of a date, by what is met there

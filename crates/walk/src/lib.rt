@@ -103,7 +103,12 @@ fn amount_on(
     i: usize,
     place: Place,
 ) -> usize
-    requires { ⌜ Walking (termsIn c) count (now list) (now table) (now path) × Met (termsIn c) (returnsOf (now list)) (now table) (now path) i place × (0 < i) × (i < c .dates) ⌝ }
+    requires { ⌜
+        Walking (termsIn c) count (now list) (now table) (now path)
+        × Met (termsIn c) (returnsOf (now list)) (now table) (now path) i place
+        × (0 < i)
+        × (i < c .dates)
+        ⌝ }
     ensures { λ r. ⌜ r ≡ walkAmount (fixedTerm (termsIn c) (returnsOf (now (list .entry)))) (now (table .entry)) (now (path .entry)) i ⌝ }
 {
     let part = dates::layer_of(c, i);
@@ -128,7 +133,14 @@ fn next_place(
     place: Place,
     t: usize,
 ) -> Place
-    requires { ⌜ Walking (termsIn c) count (now list) (now table) (now path) × Met (termsIn c) (returnsOf (now list)) (now table) (now path) i place × (0 < i) × (i < c .dates) × (t ≡ walkAmount (fixedTerm (termsIn c) (returnsOf (now list))) (now table) (now path) i) × (t ≤ max (place .account) (freeAmount (c .level) (place .guarantee))) ⌝ }
+    requires { ⌜
+        Walking (termsIn c) count (now list) (now table) (now path)
+        × Met (termsIn c) (returnsOf (now list)) (now table) (now path) i place
+        × (0 < i)
+        × (i < c .dates)
+        × (t ≡ walkAmount (fixedTerm (termsIn c) (returnsOf (now list))) (now table) (now path) i)
+        × (t ≤ max (place .account) (freeAmount (c .level) (place .guarantee)))
+        ⌝ }
     ensures { λ r. ⌜ Met (termsIn c) (returnsOf (now (list .entry))) (now (table .entry)) (now (path .entry)) (suc i) r ⌝ }
 {
     let m = date::free_amount(c.level, place.guarantee);
@@ -156,7 +168,9 @@ fn admitted(c: Contract, place: Place, t: usize) -> bool
 // The first date whose amount is not admissible, or N. Nothing is written.
 fn first_refused(c: Contract, list: &[u8], count: usize, table: &[u16], path: &[u16]) -> usize
     requires { ⌜ Walking (termsIn c) count (now list) (now table) (now path) ⌝ }
-    ensures { λ r. ⌜ r ≡ 1 + first (badDate (termsIn c) (returnsOf (now (list .entry))) (now (table .entry)) (now (path .entry))) (c .dates - 1) ⌝ }
+    ensures { λ r. ⌜
+        r ≡ 1 + first (badDate (termsIn c) (returnsOf (now (list .entry))) (now (table .entry)) (now (path .entry))) (c .dates - 1)
+        ⌝ }
 {
     let mut place = first_place(c, list, count, table, path);
     let mut i: usize = 1;
@@ -191,8 +205,20 @@ fn cash_last(place: Place) -> usize
 
 // Pays the cash of each date, and at maturity.
 fn pay(c: Contract, list: &[u8], count: usize, table: &[u16], path: &[u16], cash: &mut [u64])
-    requires { ⌜ Walking (termsIn c) count (now list) (now table) (now path) × (c .dates ≤ length (now cash)) × (c .dates - 1 ≤ first (badDate (termsIn c) (returnsOf (now list)) (now table) (now path)) (c .dates - 1)) ⌝ }
-    ensures { λ _. ⌜ now (cash .exit) ≡ set (stored (now (cash .entry)) 0 (paid (termsIn c) (returnsOf (now (list .entry))) (now (table .entry)) (now (path .entry))) (c .dates - 1)) (c .dates - 1) (paidLast (termsIn c) (returnsOf (now (list .entry))) (now (table .entry)) (now (path .entry))) ⌝ }
+    requires { ⌜
+        Walking (termsIn c) count (now list) (now table) (now path)
+        × (c .dates ≤ length (now cash))
+        × (c .dates - 1 ≤ first (badDate (termsIn c) (returnsOf (now list)) (now table) (now path)) (c .dates - 1))
+        ⌝ }
+    ensures { λ _. ⌜
+        now (cash .exit)
+        ≡ set
+        (stored (now (cash .entry)) 0
+        (paid (termsIn c) (returnsOf (now (list .entry))) (now (table .entry)) (now (path .entry)))
+        (c .dates - 1))
+        (c .dates - 1)
+        (paidLast (termsIn c) (returnsOf (now (list .entry))) (now (table .entry)) (now (path .entry)))
+        ⌝ }
 {
     let mut place = first_place(c, list, count, table, path);
     let mut i: usize = 1;
@@ -225,7 +251,12 @@ fn walked(
     cash: &mut [u64],
 ) -> Outcome
     requires { ⌜ Ready (termsIn c) count (now list) ⌝ }
-    ensures { λ r. ⌜ Walked (termsIn c) (returnsOf (now (list .entry))) (verdict (pathChecks (termsIn c) (returnsOf (now (list .entry))) (now (table .entry)) (now (path .entry)) (now (cash .entry)))) (now (table .entry)) (now (path .entry)) (now (cash .entry)) r (now (cash .exit)) ⌝ }
+    ensures { λ r. ⌜
+        Walked (termsIn c) (returnsOf (now (list .entry)))
+        (verdict
+        (pathChecks (termsIn c) (returnsOf (now (list .entry))) (now (table .entry)) (now (path .entry)) (now (cash .entry))))
+        (now (table .entry)) (now (path .entry)) (now (cash .entry)) r (now (cash .exit))
+        ⌝ }
 {
     if too_short(c, table, &cash[..]) {
         return outcome(11, 0);
@@ -247,8 +278,12 @@ fn walked(
 
 // Walks a contract along a path, and fills N cash amounts.
 pub fn walk(bytes: &[u8], list: &[u8], table: &[u16], path: &[u16], cash: &mut [u64]) -> Outcome
-    ensures { λ r. ⌜ r ≡ outcomeOf (walkVerdict (now (bytes .entry)) (now (list .entry)) (now (table .entry)) (now (path .entry)) (now (cash .entry))) ⌝ }
-    ensures { λ _. ⌜ now (cash .exit) ≡ walkCashes (now (bytes .entry)) (now (list .entry)) (now (table .entry)) (now (path .entry)) (now (cash .entry)) ⌝ }
+    ensures { λ r. ⌜
+        r ≡ outcomeOf (walkVerdict (now (bytes .entry)) (now (list .entry)) (now (table .entry)) (now (path .entry)) (now (cash .entry)))
+        ⌝ }
+    ensures { λ _. ⌜
+        now (cash .exit) ≡ walkCashes (now (bytes .entry)) (now (list .entry)) (now (table .entry)) (now (path .entry)) (now (cash .entry))
+        ⌝ }
 {
     let agreement = contract::read(bytes, list);
     let Agreement::Accepted(c, returns) = agreement else {

@@ -1,5 +1,5 @@
 -- `date::lifted_account` meets its contract. Assumes nothing.
-use Prim.Native.Nat.{_*_, _-_}
+use Prim.Native.Nat.{_-_}
 use borrow.Author.Needs.{needs}
 use mathlib.Core.Path.{refl}
 use native.Mathlib.Omega.{arith}
@@ -16,7 +16,9 @@ sub-result : tie.Need-sub-result
 sub-result c = search needs
 
 mul-result-2 : tie.Need-mul-result-2
-mul-result-2 c = omega (arith, product 120000000 10000 {x = c .args .balance * c .args .factor} {y = 10000 - c .args .fee} (product 4000 30000 (omega arith) (omega arith)) (omega arith))
+mul-result-2 c =
+    let grown = product 4000 30000 {x = c .args .balance} {y = c .args .factor} (omega arith) (omega arith) in
+    omega (arith, product 120000000 10000 {y = 10000 - c .args .fee} grown (omega arith))
 
 returns : tie.Need-returns
 unfolding liftedAccount

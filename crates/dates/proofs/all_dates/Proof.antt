@@ -29,11 +29,6 @@ loop-holds c =
 lent-layer-requires : tie.Need-lent-layer-requires Inv-loop μ-loop
 lent-layer-requires c κs = search needs
 
-rate-on-requires : tie.Need-rate-on-requires Inv-loop μ-loop
-rate-on-requires c κs =
-    let v = c .before .before .before .before .before .before .before .pre .layers .valid in
-    (v .penalty, v .step, omega (arith, c .before .before .loop .inv .0, v .dates))
-
 mul-one-date : tie.Need-mul-one-date Inv-loop μ-loop
 mul-one-date c = search needs
 
@@ -48,9 +43,9 @@ part-one-date-end c = search needs
 
 one-date-requires : tie.Need-one-date-requires Inv-loop μ-loop
 one-date-requires c κs =
-    let c5 = c .before .before .before .before .before in
-    let c10 = c5 .before .before .before .before .before in
-    (c10 .pre .known, dating (c10 .pre) (c5 .loop .inv .1) (c .before .before .rate-on .ensures .1))
+    let loop = c .before .before .before .before .loop in
+    let pre = c .before .before .before .before .before .before .before .before .before .pre in
+    (pre .known, dating pre (loop .inv .1) (loop .inv .0))
 
 sub-i-2 : tie.Need-sub-i-2 Inv-loop μ-loop
 sub-i-2 c = omega arith
@@ -61,17 +56,14 @@ loop-less c = omega arith
 loop-again : tie.Need-loop-again Inv-loop μ-loop
 loop-again c =
     let c4 = c .before .before .before .before in
-    let c7 = c4 .before .before .before in
-    let c8 = c7 .before in
-    let c9 = c8 .before in
-    let c10 = c9 .before in
-    let c15 = c10 .before .before .before .before .before in
-    let loop = c10 .loop in
-    let one-date = c4 .one-date in
-    let dated = rw (c7 .rate-on .ensures .0) at (one-date .ensures) in (
+    let c9 = c4 .before .before .before .before .before in
+    let loop = c9 .loop in
+    let pre = c9 .before .before .before .before .before .pre in
+    let part = c4 .before .before .before .lent-layer .ensures in
+    let one-date = c4 .one-date in (
       omega arith,
-      valued-before (c15 .pre) (loop .inv .1) (c8 .lent-layer .ensures) (c9 .loop-test .taken) (loop .inv .0)
-          (one-date .last .1 .0) (one-date .last .1 .1 .0) dated,
+      valued-before pre (loop .inv .1) part (c4 .before .before .before .before .loop-test .taken) (loop .inv .0)
+          (one-date .last .1 .0) (one-date .last .1 .1 .0) (one-date .ensures),
     )
 
 same-length : tie.Need-same-length Inv-loop μ-loop
@@ -92,7 +84,6 @@ all-dates-spec =
     sub-i
     loop-holds
     lent-layer-requires
-    rate-on-requires
     mul-one-date
     sub-one-date
     part-one-date-start

@@ -1,18 +1,18 @@
 -- `expect::add_eight` meets its contract. Assumes nothing.
 use Prim.Native.Nat.{ℕ, _+_, _-_, _≤_}
-use lib.ListN.{set}
-use mathlib.Core.Path.{_≡_, refl, sym, ap, _∙_}
+use lib.ListN.{getD, set}
+use mathlib.Core.Path.{_≡_, refl, sym, ap₂, _∙_}
 use native.Mathlib.Omega.{arith}
-use Rattle.decision.specs.Index.{sum}
+use Rattle.decision.specs.Index.{sum, sum-append}
 use Rattle.expect.specs.Expected.{term}
 use Rattle.slices.specs.Stored.{stored, stored-push}
-use Rattle.expect.proofs.Laws.{sum-small, sum-read, summed}
+use Rattle.expect.proofs.Laws.{kept-yet}
 use Rattle.expect.proofs.add_eight.Statement.{statement}
 use Rattle.expect.proofs.add_eight.Tie as tie
 
 abbrev Inv-loop : tie.InvT-loop
 Inv-loop sums₀ work starts weights k from n j₀ sums j =
-    (j ≤ n) × (sums ≡ stored sums₀ 0 (λ i. sum (term work starts weights (from + i)) (k + 8)) j)
+    (j ≤ n) × (sums ≡ stored sums₀ 0 (λ i. getD sums₀ i 0 + sum (λ e. term work starts weights (from + i) (k + e)) 8) j)
 
 abbrev μ-loop : tie.MeasureT-loop
 μ-loop sums₀ work starts weights k from n j₀ sums j = n - j
@@ -21,14 +21,14 @@ loop-holds : tie.Need-loop-holds Inv-loop μ-loop
 unfolding stored
 loop-holds c = (omega arith, refl)
 
-add-low-eight : tie.Need-add-low-eight Inv-loop μ-loop
-add-low-eight c =
+add-eight-products : tie.Need-add-eight-products Inv-loop μ-loop
+add-eight-products c =
     let start = c .before .before .before in
     let b = start .pre .0 .reached (start .args .k) (c .before .loop .j) (omega arith) (c .loop-test .taken) in
     omega (arith, b .within)
 
-low-eight-requires : tie.Need-low-eight-requires Inv-loop μ-loop
-low-eight-requires c κs =
+eight-products-requires : tie.Need-eight-products-requires Inv-loop μ-loop
+eight-products-requires c κs =
     let run = c .before .before .before .pre .0 in
     (omega (arith, run .few), λ i l. run .reached i (c .before .loop .j) l (c .loop-test .taken))
 
@@ -42,10 +42,9 @@ add-sums : tie.Need-add-sums Inv-loop μ-loop
 add-sums c =
     let start = c .before .before .before .before .before in
     let loop = c .before .before .before .loop in
-    let loop-test = c .before .before .loop-test in
-    let read = sum-read _ (start .pre .1) (loop .inv .1) (loop-test .taken) in
-    let s = sum-small (start .pre .0) (loop .j) (start .args .k) (loop-test .taken) (omega arith) in
-    omega (arith, start .pre .0 .few, c .before .low-eight .ensures .1)
+    let read = kept-yet _ _ (loop .j) (loop .inv .1) in
+    let small = start .pre .1 .small (loop .j) (c .before .before .loop-test .taken) in
+    omega (arith, start .pre .0 .few, c .before .eight-products .ensures .1)
 
 element-write-sums : tie.Need-element-write-sums Inv-loop μ-loop
 element-write-sums c = omega (arith, c .before .before .before .before .before .pre .0 .short)
@@ -58,17 +57,16 @@ loop-less c = omega arith
 
 loop-again : tie.Need-loop-again Inv-loop μ-loop
 loop-again c =
-    let pre = c .before .before .before .before .before .pre in
     let loop = c .before .before .before .loop in
-    let low-eight = c .before .low-eight in
-    let read = sum-read _ (pre .1) (loop .inv .1) (c .before .before .loop-test .taken) in
-    let more = ap (λ (x : ℕ). x + low-eight .result) read ∙ sym (low-eight .ensures .0) in
+    let args = c .before .before .before .before .before .args in
+    let f = term (args .work .now) (args .starts .now) (args .weights .now) (args .from + loop .j) in
+    let eight : c .before .eight-products .result ≡ sum (λ e. f (args .k + e)) 8 =
+    omega (arith, c .before .eight-products .ensures .0, sum-append f (args .k) 8) in
+    let more = ap₂ (λ (x y : ℕ). x + y) (kept-yet _ _ (loop .j) (loop .inv .1)) eight in
     (omega arith, (λ i. set (loop .inv .1 i) (loop .j) (more i)) ∙ stored-push _ _ _)
 
 returns : tie.Need-returns Inv-loop μ-loop
-returns c =
-    let pre = c .before .before .before .pre in
-    summed _ (c .before .loop .inv .1) (omega arith) (pre .0 .short) (pre .1 .long)
+returns c = let e : c .before .loop .j ≡ c .before .before .before .args .n = omega arith in rw (sym e) (c .before .loop .inv .1)
 
 pub add-eight-spec : {M : Type 1} → statement M
 add-eight-spec =
@@ -77,8 +75,8 @@ add-eight-spec =
     Inv-loop
     μ-loop
     loop-holds
-    add-low-eight
-    low-eight-requires
+    add-eight-products
+    eight-products-requires
     mul-sums
     element-copy-out-sums
     add-sums

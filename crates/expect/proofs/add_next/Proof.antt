@@ -1,9 +1,8 @@
 -- `expect::add_next` meets its contract. Assumes nothing.
 use Prim.Native.Nat.{_+_}
-use borrow.Author.Tests.{ltb-true}
 use native.Mathlib.Omega.{arith}
-use Rattle.laws.specs.Bounds.{entryMost}
-use Rattle.expect.proofs.Laws.{run-part}
+use Rattle.decision.specs.Index.{sum-append, sum-next}
+use Rattle.expect.proofs.Laws.{run-part, summed-open, summed-more}
 use Rattle.expect.proofs.add_next.Statement.{statement}
 use Rattle.expect.proofs.add_next.Tie as tie
 
@@ -12,29 +11,35 @@ add-if1 c = omega (arith, c .before .pre .0 .few)
 
 add-eight-requires : tie.Need-add-eight-requires
 add-eight-requires c κs =
-    let pre = c .before .before .before .before .before .before .pre in
-    let args = c .before .before .before .before .before .before .args in
-    let if1 = c .before .before .before .if1 in
-    let if2 = c .before .if2 in
-    (run-part (pre .0) (args .k + 8) 4294967295 (if1 .taken) (omega (arith, ltb-true (args .average .most) 4294967296 (if2 .taken))) (omega arith), pre .1)
+    let start = c .before .before .before .before in
+    let pre = start .pre in
+    (run-part (pre .0) (start .args .k + 8) (c .before .if1 .taken), summed-open (pre .0) (pre .1) (pre .3) (omega arith))
 
 add-result : tie.Need-add-result
-add-result c = omega (arith, c .before .before .before .before .before .before .before .pre .0 .few)
+add-result c = omega (arith, c .before .before .before .before .before .pre .0 .few)
 
 returns : tie.Need-returns
-returns c = (c .add-eight .ensures, omega arith, c .before .before .before .before .if1 .taken)
+returns c =
+    let start = c .before .before .before .before .before in
+    let k = start .args .k in
+    let next = summed-more (k + 8) _ (start .pre .1) (c .add-eight .ensures) (start .pre .0 .short) (λ j. sum-append _ k 8) in
+    (next, omega arith, c .before .before .if1 .taken)
 
 add-one-requires : tie.Need-add-one-requires
 add-one-requires c κs =
-    let pre = c .before .before .before .before .pre in
-    let args = c .before .before .before .before .args in
-    (run-part (pre .0) (args .k + 1) entryMost (omega arith) (pre .0 .most-is) (omega arith), pre .1)
+    let start = c .before .before .before .before in
+    let pre = start .pre in
+    (run-part (pre .0) (start .args .k + 1) (omega arith), summed-open (pre .0) (pre .1) (pre .3) (omega arith))
 
 add-result-2 : tie.Need-add-result-2
 add-result-2 c = omega (arith, c .before .before .before .before .before .pre .0 .few)
 
 returns-2 : tie.Need-returns-2
-returns-2 c = (c .add-one .ensures, omega arith, omega arith)
+returns-2 c =
+    let start = c .before .before .before .before .before in
+    let k = start .args .k in
+    let next = summed-more (k + 1) _ (start .pre .1) (c .add-one .ensures) (start .pre .0 .short) (λ j. sum-next _ k) in
+    (next, omega arith, omega arith)
 
 pub add-next-spec : {M : Type 1} → statement M
 add-next-spec =

@@ -1,18 +1,17 @@
 -- `expect::add_one` meets its contract. Assumes nothing.
 use Prim.Native.Nat.{ℕ, _+_, _-_, _≤_}
-use lib.ListN.{set}
+use lib.ListN.{getD, set}
 use mathlib.Core.Path.{_≡_, refl, sym, ap₂, _∙_}
 use native.Mathlib.Omega.{arith}
-use Rattle.decision.specs.Index.{sum, sum-next}
 use Rattle.expect.specs.Expected.{term}
 use Rattle.slices.specs.Stored.{stored, stored-push}
-use Rattle.expect.proofs.Laws.{sum-small, sum-read, summed}
+use Rattle.expect.proofs.Laws.{kept-yet}
 use Rattle.expect.proofs.add_one.Statement.{statement}
 use Rattle.expect.proofs.add_one.Tie as tie
 
 abbrev Inv-loop : tie.InvT-loop
 Inv-loop sums₀ work starts weights k from n j₀ sums j =
-    (j ≤ n) × (sums ≡ stored sums₀ 0 (λ i. sum (term work starts weights (from + i)) (k + 1)) j)
+    (j ≤ n) × (sums ≡ stored sums₀ 0 (λ i. getD sums₀ i 0 + term work starts weights (from + i) k) j)
 
 abbrev μ-loop : tie.MeasureT-loop
 μ-loop sums₀ work starts weights k from n j₀ sums j = n - j
@@ -43,9 +42,8 @@ add-sums : tie.Need-add-sums Inv-loop μ-loop
 add-sums c =
     let start = c .before .before .before .before .before in
     let loop = c .before .before .before .loop in
-    let loop-test = c .before .before .loop-test in
-    let read = sum-read _ (start .pre .1) (loop .inv .1) (loop-test .taken) in
-    let s = sum-small (start .pre .0) (loop .j) (start .args .k) (loop-test .taken) (omega arith) in
+    let read = kept-yet _ _ (loop .j) (loop .inv .1) in
+    let small = start .pre .1 .small (loop .j) (c .before .before .loop-test .taken) in
     omega (arith, start .pre .0 .few, c .before .product .ensures .1)
 
 element-write-sums : tie.Need-element-write-sums Inv-loop μ-loop
@@ -59,16 +57,12 @@ loop-less c = omega arith
 
 loop-again : tie.Need-loop-again Inv-loop μ-loop
 loop-again c =
-    let pre = c .before .before .before .before .before .pre in
     let loop = c .before .before .before .loop in
-    let read = sum-read _ (pre .1) (loop .inv .1) (c .before .before .loop-test .taken) in
-    let more = ap₂ (λ (x y : ℕ). x + y) read (c .before .product .ensures .0) ∙ sym (sum-next _ _) in
+    let more = ap₂ (λ (x y : ℕ). x + y) (kept-yet _ _ (loop .j) (loop .inv .1)) (c .before .product .ensures .0) in
     (omega arith, (λ i. set (loop .inv .1 i) (loop .j) (more i)) ∙ stored-push _ _ _)
 
 returns : tie.Need-returns Inv-loop μ-loop
-returns c =
-    let pre = c .before .before .before .pre in
-    summed _ (c .before .loop .inv .1) (omega arith) (pre .0 .short) (pre .1 .long)
+returns c = let e : c .before .loop .j ≡ c .before .before .before .args .n = omega arith in rw (sym e) (c .before .loop .inv .1)
 
 pub add-one-spec : {M : Type 1} → statement M
 add-one-spec =

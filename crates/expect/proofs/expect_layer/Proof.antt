@@ -15,7 +15,7 @@ use Rattle.expect.proofs.expect_layer.Statement.{statement}
 use Rattle.expect.proofs.expect_layer.Tie as tie
 
 abbrev Inv-loop : tie.InvT-loop
-Inv-loop work₀ list count c stride size weights most sums₀ starts₀ end balance₀ work sums starts balance =
+Inv-loop work₀ list count c i stride size weights most sums₀ starts₀ end balance₀ work sums starts balance =
     (balance ≤ end)
     × (work
     ≡ stored work₀ size (flat stride (scaled (expected (termsIn c) (returnsOf list) (cells work₀ 0 stride)))) (balance * stride))
@@ -23,7 +23,7 @@ Inv-loop work₀ list count c stride size weights most sums₀ starts₀ end bal
     × (64 ≤ length starts)
 
 abbrev μ-loop : tie.MeasureT-loop
-μ-loop work₀ list count c stride size weights most sums₀ starts₀ end balance₀ work sums starts balance = end - balance
+μ-loop work₀ list count c i stride size weights most sums₀ starts₀ end balance₀ work sums starts balance = end - balance
 
 add-stride : tie.Need-add-stride Inv-loop μ-loop
 add-stride c =
@@ -40,73 +40,77 @@ mul-size c = omega (arith, c .before .before .before .before .pre .1 .layers .ro
 fill-weights-requires : tie.Need-fill-weights-requires Inv-loop μ-loop
 fill-weights-requires c κs = c .before .before .before .before .before .pre .0
 
-most-requires : tie.Need-most-requires Inv-loop μ-loop
-unfolding layerSize
-most-requires c κs = (c .before .before .before .before .before .before .before .pre .1, refl)
+most-after-requires : tie.Need-most-after-requires Inv-loop μ-loop
+most-after-requires c κs = let pre = c .before .before .before .before .before .before .pre in (pre .1 .layers .valid, pre .2)
 
 add-end : tie.Need-add-end Inv-loop μ-loop
-add-end c = omega (arith, c .before .before .before .before .before .before .before .before .before .pre .1 .layers .valid .top)
+add-end c = omega (arith, c .before .before .before .before .before .before .before .before .pre .1 .layers .valid .top)
 
 loop-holds : tie.Need-loop-holds Inv-loop μ-loop
 loop-holds c = (omega arith, stored-none _ _ _ _, le-of-eq refl, le-of-eq refl)
 
 fill-starts-requires : tie.Need-fill-starts-requires Inv-loop μ-loop
 fill-starts-requires c κs =
-    let start = c .before .before .before .before .before .before .before .before .before .before .before .before in
-    let valid = start .pre .1 .layers .valid in
-    (start .pre .0, valid, omega (arith, c .before .loop-test .taken, valid .top), omega (arith, valid .premium, valid .top))
+    let pre = c .before .before .before .before .before .before .before .before .before .before .before .pre in
+    let valid = pre .1 .layers .valid in
+    (pre .0, valid, omega (arith, c .before .loop-test .taken, valid .top), omega (arith, valid .premium, valid .top))
 
 mul-to : tie.Need-mul-to Inv-loop μ-loop
 mul-to c =
-    let start = c .before .before .before .before .before .before .before .before .before .before .before .before .before in
-    let r = row-room (c .before .before .before .loop .balance) (start .pre .1 .layers) (omega (arith, c .before .before .loop-test .taken)) in
+    let start = c .before .before .before .before .before .before .before .before .before .before .before .before in
+    let r = row-room (c .before .before .before .loop .balance) (start .pre .1 .layers)
+    (omega (arith, c .before .before .loop-test .taken)) in
     omega arith
 
 add-to : tie.Need-add-to Inv-loop μ-loop
 add-to c =
-    let start = c .before .before .before .before .before .before .before .before .before .before .before .before .before in
-    let r = row-room (c .before .before .before .loop .balance) (start .pre .1 .layers) (omega (arith, c .before .before .loop-test .taken)) in
+    let start = c .before .before .before .before .before .before .before .before .before .before .before .before in
+    let r = row-room (c .before .before .before .loop .balance) (start .pre .1 .layers)
+    (omega (arith, c .before .before .loop-test .taken)) in
     omega arith
 
 expect-row-requires : tie.Need-expect-row-requires Inv-loop μ-loop
 expect-row-requires c κs =
-    let loop = c .before .before .before .before .before .before .before in
-    let most = loop .before .before in
-    let start = most .before .before .before .before .before .before .before .before in
+    let loop = c .before .before .before .before .before .before .before .loop in
+    let most = c .before .before .before .before .before .before .before .before .before in
+    let pre = most .before .before .before .before .before .before .before .pre in
+    let weights = filled _ _ _ (most .before .fill-weights .ensures) (pre .0 .few) in
     let told = c .before .before .before .before .fill-starts .ensures in
-    let b = layer-balance (loop .loop .work) _ _ (loop .loop .balance) (start .pre .0) (start .pre .1) (most .most .ensures .0) (most .most .ensures .1)
-    (filled _ _ _ (most .before .before .fill-weights .ensures) (start .pre .0 .few)) (told .0) (loop .loop .inv .1)
+    let b =
+    layer-balance (loop .work) _ _ (loop .balance) (pre .0) (pre .1) (most .most-after .ensures) weights (told .0) (loop .inv .1)
     (omega (arith, c .before .before .before .before .before .before .loop-test .taken)) in
-    (balance-row b _ (filled _ _ _ (told .1) (le-trans (start .pre .0 .few) (loop .loop .inv .3))), loop .loop .inv .2)
+    (balance-row b _ (filled _ _ _ (told .1) (le-trans (pre .0 .few) (loop .inv .3))), loop .inv .2)
 
 add-balance : tie.Need-add-balance Inv-loop μ-loop
 add-balance c =
     let loop = c .before .before .before .before .before .before .before .before .before .before in
-    omega (arith, loop .before .before .before .before .before .before .before .before .before .before .pre .1 .layers .valid .top)
+    omega (arith, loop .before .before .before .before .before .before .before .before .before .pre .1 .layers .valid .top)
 
 loop-less : tie.Need-loop-less Inv-loop μ-loop
 loop-less c = omega arith
 
 loop-again : tie.Need-loop-again Inv-loop μ-loop
 loop-again c =
-    let loop = c .before .before .before .before .before .before .before .before .before .before in
-    let most = loop .before .before in
-    let start = most .before .before .before .before .before .before .before .before in
+    let loop = c .before .before .before .before .before .before .before .before .before .before .loop in
+    let most = c .before .before .before .before .before .before .before .before .before .before .before .before in
+    let start = most .before .before .before .before .before .before .before in
+    let taken = c .before .before .before .before .before .before .before .before .before .loop-test .taken in
     let starts = c .before .before .before .before .before .before .before .fill-starts in
-    let told = starts .ensures .1 in
-    let b = layer-balance {weights = most .before .before .fill-weights .last .0} (loop .loop .work) _ _ (loop .loop .balance) (start .pre .0) (start .pre .1)
-    (most .most .ensures .0) (most .most .ensures .1)
-    (filled _ _ _ (most .before .before .fill-weights .ensures) (start .pre .0 .few)) (starts .ensures .0) (loop .loop .inv .1)
-    (omega (arith, c .before .before .before .before .before .before .before .before .before .loop-test .taken)) in
+    let told = starts .ensures in
+    let weights = filled _ _ _ (most .before .fill-weights .ensures) (start .pre .0 .few) in
+    let b =
+    layer-balance {weights = most .before .fill-weights .last .0} (loop .work) _ _ (loop .balance) (start .pre .0) (start .pre .1)
+    (most .most-after .ensures) weights (told .0) (loop .inv .1) (omega (arith, taken)) in
     let row = c .before .before .expect-row in
     let c₀ = start .args .c in
-    let is = balance-cells b (starts .last .0) (filled _ _ _ told (le-trans (start .pre .0 .few) (loop .loop .inv .3))) in
-    let step = expect-step (termsIn c₀) (returnsOf (start .args .list .now)) (start .args .work .now) (c₀ .premium + 1)
+    let is = balance-cells b (starts .last .0) (filled _ _ _ (told .1) (le-trans (start .pre .0 .few) (loop .inv .3))) in
+    let step =
+    expect-step (termsIn c₀) (returnsOf (start .args .list .now)) (start .args .work .now) (c₀ .premium + 1)
     ((c₀ .top + 1) * (c₀ .premium + 1)) refl in (
-      omega (arith, c .before .before .before .before .before .before .before .before .before .loop-test .taken),
-      row .ensures .0 ∙ stored-eq _ _ _ _ _ (λ k l. ap (λ (x : ℕ). 8192 * x) (is k)) ∙ step (loop .loop .balance) (loop .loop .work) (loop .loop .inv .1),
+      omega (arith, taken),
+      row .ensures .0 ∙ stored-eq _ _ _ _ _ (λ k l. ap (λ (x : ℕ). 8192 * x) (is k)) ∙ step (loop .balance) (loop .work) (loop .inv .1),
       row .ensures .1,
-      le-trans (loop .loop .inv .3) (le-of-eq (sym (ap length told ∙ length-stored _ _ _ _))),
+      le-trans (loop .inv .3) (le-of-eq (sym (ap length (told .1) ∙ length-stored _ _ _ _))),
     )
 
 same-length : tie.Need-same-length Inv-loop μ-loop
@@ -115,7 +119,7 @@ same-length c = ap length (c .before .loop .inv .1) ∙ length-stored _ _ _ _
 returns : tie.Need-returns Inv-loop μ-loop
 unfolding layerSize
 returns c =
-    let args = c .before .before .before .before .before .before .before .before .before .before .before .args in
+    let args = c .before .before .before .before .before .before .before .before .before .before .args in
     let loop = c .before .loop in
     let work₀ = args .work .now in
     let c₀ = args .c in
@@ -134,7 +138,7 @@ expect-layer-spec =
     add-size
     mul-size
     fill-weights-requires
-    most-requires
+    most-after-requires
     add-end
     loop-holds
     fill-starts-requires

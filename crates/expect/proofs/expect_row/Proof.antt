@@ -16,7 +16,10 @@ use Rattle.expect.proofs.expect_row.Tie as tie
 abbrev Inv-loop : tie.InvT-loop
 Inv-loop work₀ sums₀ starts weights average to stride from₀ work sums from =
     (from ≤ stride)
-    × (work ≡ stored work₀ to (λ x. 8192 * discounted (average .discount) (sum (term work₀ starts weights x) (average .count) + average .paid)) from)
+    × (work
+    ≡ stored work₀ to
+    (λ x. 8192 * discounted (average .discount) (average .paid + sum (term work₀ starts weights x) (average .count)))
+    from)
     × (512 ≤ length sums)
 
 abbrev μ-loop : tie.MeasureT-loop
@@ -58,7 +61,7 @@ loop-again c =
     let n = c .before .before .before .before .before .smaller .result in
     let e = c .before .before .before .before .before .smaller .ensures in
     let expect-run = c .before .before .expect-run in
-    let value : ℕ → ℕ = λ s. 8192 * discounted (y .average .discount) (s + y .average .paid) in
+    let value : ℕ → ℕ = λ s. 8192 * discounted (y .average .discount) (y .average .paid + s) in
     let total : List ℕ → ℕ → ℕ = λ xs j. sum (term xs (y .starts .now) (y .weights .now) (from + j)) (y .average .count) in
     let moved = ap (λ (xs : List ℕ). stored xs (y .to + from) (λ j. value (total xs j)) n) (loop .inv .1) in (
       omega arith,

@@ -12,7 +12,7 @@ use Rattle.expect.proofs.expect_run.Tie as tie
 add-all-requires : tie.Need-add-all-requires
 add-all-requires c κs =
     let start = c .before .before .before in
-    (row-run (start .args .p .from) (start .args .p .n) (start .pre .0) (start .pre .1), start .pre .2)
+    (row-run (start .args .p .from) (start .args .p .n) (start .pre .0) (start .pre .1), start .pre .2, start .pre .0 .paid-small)
 
 add-store-sums : tie.Need-add-store-sums
 add-store-sums c = search needs
@@ -25,8 +25,8 @@ store-sums-requires c κs =
       pre .0 .discount-is,
       pre .1,
       omega (arith, pre .0 .room),
-      pre .0 .paid-is,
-      λ j l. rw (add-all .ensures .each j l) (row-sum-le (pre .0) (start .args .p .from + j) (omega arith)),
+      pre .0 .sums-small,
+      λ j l. let x = row-sum-le (pre .0) (start .args .p .from + j) (omega arith) in omega (arith, add-all .ensures .each j l),
     )
 
 same-length : tie.Need-same-length
@@ -36,7 +36,7 @@ returns : tie.Need-returns
 returns c =
     let args = c .before .before .before .before .before .before .before .before .before .before .args in
     let add-all = c .before .before .before .before .before .before .add-all in
-    let value : ℕ → ℕ = λ x. 8192 * discounted (args .average .discount) (x + args .average .paid) in (
+    let value : ℕ → ℕ = λ x. 8192 * discounted (args .average .discount) x in (
       c .before .before .store-sums .ensures ∙ stored-eq _ _ _ _ (args .p .n) (λ j l. ap value (add-all .ensures .each j l)),
       add-all .ensures .long,
     )

@@ -1,14 +1,14 @@
 -- `expect::fill_starts` meets its contract. Assumes nothing.
 use Prim.Native.Nat.{ℕ, _+_, _-_, _*_, _≤_}
 use lib.ListN.{set}
-use mathlib.Core.Path.{_≡_, refl, sym, ap, ap₂, _∙_}
+use mathlib.Core.Path.{_≡_, refl, sym, ap, _∙_}
 use native.Mathlib.Nat.{mul-le-mul, le-trans}
 use borrow.Author.Needs.{needs}
 use native.Mathlib.Omega.{arith}
 use Rattle.decision.specs.Index.{sum, sum-next}
 use Rattle.laws.specs.Date.{account-le}
 use Rattle.rules.specs.Contract.{returnsOf}
-use Rattle.rules.specs.Date.{nextAccount, excessPaid}
+use Rattle.rules.specs.Date.{liftedAccount, nextAccount, excess, excessPaid}
 use Rattle.slices.specs.Stored.{stored, stored-push}
 use Rattle.expect.specs.Expected.{paidSum}
 use Rattle.expect.proofs.fill_starts.Statement.{statement}
@@ -47,7 +47,8 @@ next-account-requires : tie.Need-next-account-requires Inv-loop μ-loop
 unfolding returnsOf
 next-account-requires c κs =
     let pre = c .before .before .before .before .before .pre in
-    (search needs, pre .2, rw (c .before .word .ensures .0) (pre .0 .valid .factor (c .before .before .before .loop .k) (omega (arith, pre .0 .all))))
+    let k = c .before .before .before .loop .k in
+    (search needs, pre .2, rw (c .before .word .ensures .0) (pre .0 .valid .factor k (omega (arith, pre .0 .all))))
 
 mul-starts : tie.Need-mul-starts Inv-loop μ-loop
 mul-starts c =
@@ -63,26 +64,27 @@ mul-starts-2 c = omega arith
 element-write-starts : tie.Need-element-write-starts Inv-loop μ-loop
 element-write-starts c = omega arith
 
-excess-paid-requires : tie.Need-excess-paid-requires Inv-loop μ-loop
+lifted-account-requires : tie.Need-lifted-account-requires Inv-loop μ-loop
 unfolding returnsOf
-excess-paid-requires c κs =
+lifted-account-requires c κs =
     let pre = c .before .before .before .before .before .before .pre in
-    (search needs, pre .2, rw (c .before .before .word .ensures .0) (pre .0 .valid .factor (c .before .before .before .before .loop .k) (omega (arith, pre .0 .all))))
+    let k = c .before .before .before .before .loop .k in
+    (search needs, pre .2, rw (c .before .before .word .ensures .0) (pre .0 .valid .factor k (omega (arith, pre .0 .all))))
 
--- weight × what is paid on arrival
-small : (c : tie.After-excess-paid Inv-loop μ-loop) → c .before .before .word2 .result * c .excess-paid .result ≤ 10000 * 120000000
+-- the weight of the return
+light : (c : tie.After-lifted-account Inv-loop μ-loop) → c .before .before .word2 .result ≤ 10000
 unfolding returnsOf
-small c =
+light c =
     let pre = c .before .before .before .before .before .before .before .pre in
-    let light : c .before .before .word2 .result ≤ 10000 =
-    rw (c .before .before .word2 .ensures .0) (pre .0 .valid .weight (c .before .before .before .before .before .loop .k) (omega (arith, pre .0 .all, c .before .before .before .before .loop-test .taken))) in
-    mul-le-mul {m₂ = 120000000} light (omega (arith, c .excess-paid .ensures .1, pre .2))
+    let k = c .before .before .before .before .before .loop .k in
+    let taken = c .before .before .before .before .loop-test .taken in
+    rw (c .before .before .word2 .ensures .0) (pre .0 .valid .weight k (omega (arith, pre .0 .all, taken)))
 
-mul-paid : tie.Need-mul-paid Inv-loop μ-loop
-mul-paid c = omega (arith, small c)
-
-add-paid : tie.Need-add-paid Inv-loop μ-loop
-add-paid c = omega (arith, small c, c .before .before .before .before .before .loop .inv .3, c .before .before .before .before .before .before .before .pre .0 .few)
+with-excess-requires : tie.Need-with-excess-requires Inv-loop μ-loop
+with-excess-requires c κs =
+    let pre = c .before .before .before .before .before .before .before .pre in
+    let so-far = c .before .before .before .before .before .loop .inv .3 in
+    (omega (arith, so-far, pre .0 .few), light c, omega (arith, c .lifted-account .ensures .1, pre .2))
 
 add-k : tie.Need-add-k Inv-loop μ-loop
 add-k c = omega arith
@@ -91,17 +93,23 @@ loop-less : tie.Need-loop-less Inv-loop μ-loop
 loop-less c = omega arith
 
 loop-again : tie.Need-loop-again Inv-loop μ-loop
-unfolding returnsOf
+unfolding returnsOf excessPaid excess
 loop-again c =
-    let args = c .before .before .before .before .before .before .before .args in
-    let loop = c .before .before .before .before .before .loop in
-    let factor = c .before .before .before .word .ensures .0 in
-    let next = c .before .next-account .ensures ∙ ap (nextAccount (args .c .fee) (args .c .top) (args .balance)) factor in
-    let paid = c .excess-paid .ensures .0 ∙ ap (excessPaid (args .c .fee) (args .c .top) (args .balance)) factor in (
+    let args = c .before .before .before .before .before .before .before .before .args in
+    let loop = c .before .before .before .before .before .before .loop in
+    let lifted = c .before .lifted-account .ensures in
+    let factor = c .before .before .before .before .word .ensures .0 in
+    let next = c .before .before .next-account .ensures ∙ ap (nextAccount (args .c .fee) (args .c .top) (args .balance)) factor in
+    let pays = ap (λ (x : ℕ). 10000 * (x - args .c .top)) (lifted .0 ∙ ap (liftedAccount (args .c .fee) (args .balance)) factor) in
+    let weight = c .before .before .before .word2 .ensures .0 in
+    let paid = c .with-excess .ensures ∙ (λ i. loop .inv .2 i + weight i * pays i) ∙ sym (sum-next _ (loop .k)) in
+    let few : 10000 * (c .before .lifted-account .result - args .c .top) ≤ 120000000 =
+    omega (arith, lifted .1, c .before .before .before .before .before .before .before .before .pre .2) in
+    let small = mul-le-mul {n₂ = 10000} {m₂ = 120000000} (light (c .before)) few in (
       omega arith,
       (λ i. set (loop .inv .1 i) (loop .k) (next i * args .stride)) ∙ stored-push _ _ _,
-      (λ i. loop .inv .2 i + c .before .before .word2 .ensures .0 i * paid i) ∙ sym (sum-next _ (loop .k)),
-      omega (arith, small c, loop .inv .3),
+      paid,
+      omega (arith, c .with-excess .ensures, loop .inv .3),
     )
 
 returns : tie.Need-returns Inv-loop μ-loop
@@ -127,9 +135,8 @@ fill-starts-spec =
     mul-starts
     mul-starts-2
     element-write-starts
-    excess-paid-requires
-    mul-paid
-    add-paid
+    lifted-account-requires
+    with-excess-requires
     add-k
     loop-less
     loop-again

@@ -1,10 +1,10 @@
 -- `expect::product` meets its contract. Assumes nothing.
-use Prim.Native.Nat.{ℕ, _*_}
+use Prim.Native.Nat.{ℕ, _*_, _%_}
 use borrow.Author.Needs.{needs}
 use lib.ListN.{getD}
 use mathlib.Core.Path.{ap, _∙_}
 use native.Mathlib.Omega.{arith}
-use Rattle.expect.proofs.Laws.{product-small}
+use Rattle.expect.proofs.Laws.{product-small, low-part}
 use Rattle.expect.proofs.product.Statement.{statement}
 use Rattle.expect.proofs.product.Tie as tie
 
@@ -28,7 +28,8 @@ mul-result-2 c =
     let pre = c .before .before .before .before .pre in
     let reached = c .before .reached in
     let wide = c .wide in
-    rw (wide .ensures ∙ reached .ensures) (omega (arith, product-small (pre .1 .light) (pre .1 .small)))
+    let value = wide .ensures ∙ ap (λ (x : ℕ). x % 4294967296) (reached .ensures) ∙ low-part (pre .1 .small) in
+    rw value (omega (arith, product-small (pre .1 .light) (pre .1 .small)))
 
 returns : tie.Need-returns
 returns c =
@@ -36,8 +37,9 @@ returns c =
     let args = c .before .before .before .before .args in
     let reached = c .before .reached in
     let wide = c .wide in
-    let value = wide .ensures ∙ reached .ensures in
-    (ap (λ (x : ℕ). getD (args .weights .now) (args .k) 0 * x) value, rw value (product-small (pre .1 .light) (pre .1 .small)))
+    let value = wide .ensures ∙ ap (λ (x : ℕ). x % 4294967296) (reached .ensures) ∙ low-part (pre .1 .small) in
+    let small = product-small (pre .1 .light) (pre .1 .small) in
+    (ap (λ (x : ℕ). getD (args .weights .now) (args .k) 0 * x) value, rw value small)
 
 pub product-spec : {M : Type 1} → statement M
 product-spec =

@@ -27,11 +27,6 @@ loop-holds c = let pre = c .before .before .before .before .pre in (omega (arith
 layer-of-requires : tie.Need-layer-of-requires Inv-loop μ-loop
 layer-of-requires c κs = search needs
 
-rate-on-requires : tie.Need-rate-on-requires Inv-loop μ-loop
-rate-on-requires c κs =
-    let v = c .before .before .before .before .before .before .before .pre .layers .valid in
-    (v .penalty, v .step, omega (arith, c .before .before .loop .inv .0, v .dates))
-
 mul-follow-date : tie.Need-mul-follow-date Inv-loop μ-loop
 mul-follow-date c = search needs
 
@@ -46,11 +41,9 @@ part-follow-date-end c = search needs
 
 follow-date-requires : tie.Need-follow-date-requires Inv-loop μ-loop
 follow-date-requires c κs =
-    let pre = c .before .before .before .before .before .before .before .before .before .before .pre in
-    let part = c .before .before .before .layer-of .ensures in
-    let loop = c .before .before .before .before .before .loop in
-    let taken = c .before .before .before .before .loop-test .taken in
-    dating pre part taken (loop .inv .0) (loop .inv .1) (c .before .before .rate-on .ensures .1)
+    let loop = c .before .before .before .before .loop in
+    let pre = c .before .before .before .before .before .before .before .before .before .pre in
+    dating pre (c .before .before .layer-of .ensures) (c .before .before .before .loop-test .taken) (loop .inv .0) (loop .inv .1)
 
 sub-i-2 : tie.Need-sub-i-2 Inv-loop μ-loop
 sub-i-2 c = omega arith
@@ -60,12 +53,11 @@ loop-less c = omega arith
 
 loop-again : tie.Need-loop-again Inv-loop μ-loop
 loop-again c =
-    let pre = c .before .before .before .before .before .before .before .before .before .before .before .before .before .pre in
-    let part = c .before .before .before .before .before .before .layer-of .ensures in
-    let loop = c .before .before .before .before .before .before .before .before .loop in
-    let back = rw (c .before .before .before .before .before .rate-on .ensures .0) at (c .before .before .follow-date .ensures) in
-    let taken = c .before .before .before .before .before .before .before .loop-test .taken in
-    (omega arith, first-before pre part taken (loop .inv .0) (loop .inv .1) _ back)
+    let loop = c .before .before .before .before .before .before .before .loop in
+    let part = c .before .before .before .before .before .layer-of .ensures in
+    let taken = c .before .before .before .before .before .before .loop-test .taken in
+    let pre = c .before .before .before .before .before .before .before .before .before .before .before .before .pre in
+    (omega arith, first-before pre part taken (loop .inv .0) (loop .inv .1) _ (c .before .before .follow-date .ensures))
 
 same-length : tie.Need-same-length Inv-loop μ-loop
 same-length c = c .before .loop .inv .1 .long
@@ -82,7 +74,6 @@ follow-dates-spec =
     sub-i
     loop-holds
     layer-of-requires
-    rate-on-requires
     mul-follow-date
     sub-follow-date
     part-follow-date-start

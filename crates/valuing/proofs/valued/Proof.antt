@@ -1,6 +1,5 @@
 -- `valuing::valued` meets its contract. Assumes nothing.
 use borrow.Author.Needs.{needs}
-use native.Mathlib.Nat.{le-refl}
 use native.Mathlib.Omega.{arith}
 use Rattle.rules.specs.FixedTerm.{layerSize}
 use Rattle.valuing.specs.First.{settling}
@@ -33,7 +32,7 @@ unfolding layerSize
 settle-requires c κs =
     let pre = c .before .before .before .before .before .before .before .before .before .before .before .before .before .before .before .before .before .pre in
     let v = from-start _ (c .before .before .before .before .before .before .before .before .before .before .fill-maturity .ensures) (c .before .before .before .before .before .all-dates .ensures) in
-    settling (pre .ready .valid) (pre .ready .listing) (pre .room) (first v) (values-most _ _ _ (pre .ready .valid) (pre .ready .listing .valid) 1 (le-refl 1))
+    settling (pre .ready .valid) (pre .ready .listing) (pre .room) (first v) (values-most _ _ _ (pre .ready .valid) (pre .ready .listing .valid) 1)
 
 same-length : tie.Need-same-length
 same-length c = search needs

@@ -14,10 +14,12 @@ use Rattle.walk.proofs.first_place.Statement.{statement}
 use Rattle.walk.proofs.first_place.Tie as tie
 
 -- the factor of the first return
-factor-is : (c : tie.After-word)
-    → c .word .result ≡ returnsOf (c .before .before .before .before .before .before .args .list .now) .factor (getD (c .before .before .before .before .before .before .args .path .now) 0 0)
+abbrev start : tie.After-word → tie.Start
+start c = c .before .before .before .before .before .before
+
+factor-is : (c : tie.After-word) → c .word .result ≡ returnsOf (start c .args .list .now) .factor (getD (start c .args .path .now) 0 0)
 unfolding returnsOf
-factor-is c = c .word .ensures .0 ∙ ap (λ (k : ℕ). word (c .before .before .before .before .before .before .args .list .now) (4 * k)) (c .before .wide16 .ensures .0)
+factor-is c = c .word .ensures .0 ∙ ap (λ (k : ℕ). word (start c .args .list .now) (4 * k)) (c .before .wide16 .ensures .0)
 
 shared-slice-read-wide16 : tie.Need-shared-slice-read-wide16
 shared-slice-read-wide16 c = search needs
@@ -45,7 +47,8 @@ returns c =
     let factor = factor-is (c .before) in
     let account = c .arrive .ensures .0 ∙ ap (nextAccount (args .c .fee) (args .c .top) (args .c .premium)) factor in
     let paid = c .arrive .ensures .1 ∙ ap (excessPaid (args .c .fee) (args .c .top) (args .c .premium)) factor in
-    subst at (sym (λ i. record { account = account i; guarantee = args .c .premium; paid = paid i })) (first-met (c .before .before .before .before .before .before .before .pre))
+    subst at (sym (λ i. record { account = account i; guarantee = args .c .premium; paid = paid i }))
+    (first-met (c .before .before .before .before .before .before .before .pre))
 
 pub first-place-spec : {M : Type 1} → statement M
 first-place-spec =

@@ -18,7 +18,10 @@ use Rattle.walk.proofs.first_refused.Tie as tie
 
 abbrev Inv-loop : tie.InvT-loop
 Inv-loop c list count table path place₀ i₀ place i =
-    (0 < i) × (i ≤ c .dates) × Met (termsIn c) (returnsOf list) table path i place × Searched (badDate (termsIn c) (returnsOf list) table path) (c .dates - 1) (i - 1)
+    (0 < i)
+    × (i ≤ c .dates)
+    × Met (termsIn c) (returnsOf list) table path i place
+    × Searched (badDate (termsIn c) (returnsOf list) table path) (c .dates - 1) (i - 1)
 
 abbrev μ-loop : tie.MeasureT-loop
 μ-loop c list count table path place₀ i₀ place i = c .dates - i

@@ -14,10 +14,12 @@ use Rattle.walk.proofs.next_place.Statement.{statement}
 use Rattle.walk.proofs.next_place.Tie as tie
 
 -- the factor of the return after date i
-factor-is : (c : tie.After-word)
-    → c .word .result ≡ returnsOf (c .before .before .before .before .before .before .before .before .args .list .now) .factor (getD (c .before .before .before .before .before .before .before .before .args .path .now) (c .before .before .before .before .before .before .before .before .args .i) 0)
+abbrev start : tie.After-word → tie.Start
+start c = c .before .before .before .before .before .before .before .before
+
+factor-is : (c : tie.After-word) → c .word .result ≡ returnsOf (start c .args .list .now) .factor (getD (start c .args .path .now) (start c .args .i) 0)
 unfolding returnsOf
-factor-is c = c .word .ensures .0 ∙ ap (λ (k : ℕ). word (c .before .before .before .before .before .before .before .before .args .list .now) (4 * k)) (c .before .wide16 .ensures .0)
+factor-is c = c .word .ensures .0 ∙ ap (λ (k : ℕ). word (start c .args .list .now) (4 * k)) (c .before .wide16 .ensures .0)
 
 free-amount-requires : tie.Need-free-amount-requires
 free-amount-requires c κs = search needs
@@ -40,7 +42,8 @@ mul-word c = search needs
 word-requires : tie.Need-word-requires
 word-requires c κs =
     let pre = c .before .before .before .before .before .before .before .pre in
-    let k = pre .0 .numbers (c .before .before .before .before .before .before .before .args .i) (pre .3) in omega (arith, c .wide16 .ensures .0, pre .0 .listing .long)
+    let k = pre .0 .numbers (c .before .before .before .before .before .before .before .args .i) (pre .3) in
+    omega (arith, c .wide16 .ensures .0, pre .0 .listing .long)
 
 arrive-requires : tie.Need-arrive-requires
 unfolding balanceAfter
@@ -48,7 +51,7 @@ arrive-requires c κs =
     let pre = c .before .before .before .before .before .before .before .before .pre in (
       pre .0 .valid,
       le-trans (le-of-eq (c .before .before .before .balance-after .ensures)) (le-trans (sub-le _ _) (pre .1 .account)),
-      le-trans (le-of-eq (factor-is c)) (factor-small (pre .0) (c .before .before .before .before .before .before .before .before .args .i) (pre .3)),
+      le-trans (le-of-eq (factor-is c)) (factor-small (pre .0) (start c .args .i) (pre .3)),
     )
 
 guarantee-after-requires : tie.Need-guarantee-after-requires
@@ -63,9 +66,10 @@ returns c =
     let factor = factor-is (c .before .before) in
     let account = c .before .arrive .ensures .0 ∙ ap₂ (nextAccount (args .c .fee) (args .c .top)) balance factor in
     let paid = c .before .arrive .ensures .1 ∙ ap₂ (excessPaid (args .c .fee) (args .c .top)) balance factor in
+    let m-is = c .before .before .before .before .before .before .free-amount .ensures in
     let guarantee =
     c .guarantee-after .ensures
-    ∙ ap (λ (m : ℕ). guaranteeAfter m (args .place .account) (args .place .guarantee) (args .t)) (c .before .before .before .before .before .before .free-amount .ensures) in
+    ∙ ap (λ (m : ℕ). guaranteeAfter m (args .place .account) (args .place .guarantee) (args .t)) m-is in
     subst at (sym (λ i. record { account = account i; guarantee = guarantee i; paid = paid i }))
     (next-met (pre .0) (pre .1) (pre .2) (pre .3) (args .t) (pre .4))
 

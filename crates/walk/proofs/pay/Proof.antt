@@ -17,7 +17,10 @@ use Rattle.walk.proofs.pay.Tie as tie
 
 abbrev Inv-loop : tie.InvT-loop
 Inv-loop c list count table path cash₀ place₀ i₀ cash place i =
-    (0 < i) × (i ≤ c .dates) × Met (termsIn c) (returnsOf list) table path i place × (cash ≡ stored cash₀ 0 (paid (termsIn c) (returnsOf list) table path) (i - 1))
+    (0 < i)
+    × (i ≤ c .dates)
+    × Met (termsIn c) (returnsOf list) table path i place
+    × (cash ≡ stored cash₀ 0 (paid (termsIn c) (returnsOf list) table path) (i - 1))
 
 abbrev μ-loop : tie.MeasureT-loop
 μ-loop c list count table path cash₀ place₀ i₀ cash place i = c .dates - i
@@ -38,7 +41,8 @@ cash-on-requires c κs =
     let loop = c .before .before .before .loop in
     let v = pre .0 .valid in
     let inside = c .before .if1 .taken in
-    (v, inside, le-trans (le-of-eq (c .amount-on .ensures)) (amount-small (loop .inv .2) (loop .inv .0) v (pre .2) inside), omega (arith, loop .inv .2 .paid-small, v .top))
+    let small = amount-small (loop .inv .2) (loop .inv .0) v (pre .2) inside in
+    (v, inside, le-trans (le-of-eq (c .amount-on .ensures)) small, omega (arith, loop .inv .2 .paid-small, v .top))
 
 sub-cash : tie.Need-sub-cash Inv-loop μ-loop
 sub-cash c = omega (arith, c .before .before .before .before .loop .inv .0)
