@@ -27,6 +27,8 @@ const SPAN: u64 = 8_192;
 /// A discount of at most 1,000,000 times this is below 2^64.
 const MOST_PLAIN: u64 = 18_000_000_000_000;
 
+const MOST_RETURNS: usize = 64;
+
 /// How many states are passed over at once, and then again how many of them.
 const RUN: usize = 32;
 const PART: usize = 8;
@@ -279,20 +281,19 @@ fn expect_layer(
 ) {
     let stride = terms.stride();
     let mut sums = vec![0; stride];
-    let mut rows = Vec::with_capacity(returns.len());
+    let mut rows: [(u32, &[u64]); MOST_RETURNS] = [(0, &[]); MOST_RETURNS];
     for (balance, out) in expected.chunks_exact_mut(stride).enumerate() {
-        rows.clear();
         let mut paid = 0;
-        for r in returns {
+        for (row, r) in rows.iter_mut().zip(returns) {
             let mut account = terms.lifted(balance, r.factor);
             // A branch: below top there is nothing to multiply.
             if account > terms.top {
                 paid += u64::from(r.weight) * UNIT * (account - terms.top) as u64;
                 account = terms.top;
             }
-            rows.push((r.weight, &values[account * stride..][..stride]));
+            *row = (r.weight, &values[account * stride..][..stride]);
         }
-        sum_rows(&rows, paid, &mut sums);
+        sum_rows(&rows[..returns.len()], paid, &mut sums);
         if UNIT * most + paid <= MOST_PLAIN {
             discount_row(terms, &sums, out, discounted_plain);
         } else {
@@ -335,16 +336,18 @@ fn sum_rows(rows: &[(u32, &[u64])], paid: u64, sums: &mut [u64]) {
     }
 }
 
-/// `joined` is given the sum in place and that of the eight products.
+/// `joined` is given the sum in place and that of the eight products. The rows are cut to the
+/// length of the sums, so that the loop needs no test of its own for each.
 fn sum_eight(eight: &[(u32, &[u64])], sums: &mut [u64], joined: impl Fn(u64, u64) -> u64) {
-    let (a, b, c, d) = (eight[0], eight[1], eight[2], eight[3]);
-    let (e, f, g, h) = (eight[4], eight[5], eight[6], eight[7]);
-    let low = a.1.iter().zip(b.1).zip(c.1).zip(d.1);
-    let high = e.1.iter().zip(f.1).zip(g.1).zip(h.1);
-    for (sum, ((((p, q), r), s), (((t, u), v), w))) in sums.iter_mut().zip(low.zip(high)) {
-        let first = product(a.0, p) + product(b.0, q) + product(c.0, r) + product(d.0, s);
-        let second = product(e.0, t) + product(f.0, u) + product(g.0, v) + product(h.0, w);
-        *sum = joined(*sum, first + second);
+    let n = sums.len();
+    let cut = |k: usize| (eight[k].0, &eight[k].1[..n]);
+    let (a, b, c, d) = (cut(0), cut(1), cut(2), cut(3));
+    let (e, f, g, h) = (cut(4), cut(5), cut(6), cut(7));
+    for j in 0..n {
+        let part = |row: (u32, &[u64])| product(row.0, &row.1[j]);
+        let first = part(a) + part(b) + part(c) + part(d);
+        let second = part(e) + part(f) + part(g) + part(h);
+        sums[j] = joined(sums[j], first + second);
     }
 }
 
