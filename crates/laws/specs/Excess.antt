@@ -3,7 +3,7 @@
 use mathlib.Core.List.{List, [], _∷_, _++_}
 use mathlib.Core.Path.{_≡_, ap, ap₂}
 use Prim.Native.Nat.{ℕ, suc, _+_, _-_, _*_, _≤_, _<_}
-use native.Mathlib.Nat.{le-refl, le-trans, sub-le, mod-lt}
+use native.Mathlib.Nat.{le-refl, le-trans, mul-le-mul-right, sub-le, mod-lt}
 use native.Mathlib.Omega.{arith}
 use lib.ListN.{getD, length, take}
 use Rattle.decision.specs.Index.{tabulate-eq}
@@ -26,6 +26,15 @@ unpaid c rs = record { process = arriving (λ h k. 0) (processOf c rs); admissib
 -- no return lifts any balance up to top above top
 abbrev pub NoneAbove : Terms → Returns → Type 0
 NoneAbove c rs = (balance k : ℕ) → balance ≤ c .top → k < rs .count → liftedAccount (c .fee) balance (rs .factor k) ≤ c .top
+
+-- .. which is so where none lifts top itself
+pub none-above-top : (c : Terms) (rs : Returns)
+    → ((k : ℕ) → k < rs .count → liftedAccount (c .fee) (c .top) (rs .factor k) ≤ c .top) → NoneAbove c rs
+unfolding liftedAccount
+none-above-top c rs top balance k h l =
+    let more = mul-le-mul-right (10000 - c .fee) (mul-le-mul-right (rs .factor k) h) in
+    let x = top k l in
+    omega arith
 
 -- what is held within top and premium
 pub record Within (c : Terms) (h : Held) : Type 0 where
