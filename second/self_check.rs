@@ -541,18 +541,20 @@ const UNDER_12: Terms = Terms {
 /// A return that changes nothing and one that triples.
 const STILL_OR_TRIPLE: [(u16, u16); 2] = [(10_000, 5_000), (30_000, 5_000)];
 
-/// Nothing is drawn: 10 triple to 30 on the way to date 1 or date 2, or 12 to 36 after that.
-fn excess_at_decision_date(t: &mut Tally) {
+/// A walk on which nothing is drawn.
+fn undrawn(t: &mut Tally, numbers: [u16; 3], cash: [u64; 3]) {
     let zeros = vec![0; 2 * UNDER_12.layer()];
-    for (numbers, cash) in [
-        ([1, 0, 0], [180_000, 0, 120_000]),
-        ([0, 1, 0], [0, 180_000, 120_000]),
-        ([1, 1, 0], [180_000, 240_000, 120_000]),
-    ] {
-        let got = walked(&UNDER_12, &STILL_OR_TRIPLE, &zeros, &numbers);
-        t.same(&format!("tripled by {numbers:?}"), got, (0, cash.to_vec()));
-    }
+    let got = walked(&UNDER_12, &STILL_OR_TRIPLE, &zeros, &numbers);
+    t.same(&format!("tripled by {numbers:?}"), got, (0, cash.to_vec()));
+}
+
+/// 10 triple to 30 on the way to date 1 or date 2, or 12 to 36 after that.
+fn excess_at_decision_date(t: &mut Tally) {
+    undrawn(t, [1, 0, 0], [180_000, 0, 120_000]);
+    undrawn(t, [0, 1, 0], [0, 180_000, 120_000]);
+    undrawn(t, [1, 1, 0], [180_000, 240_000, 120_000]);
     // The cash of the eight paths, all as likely: 3,400,000 in all.
+    let zeros = vec![0; 2 * UNDER_12.layer()];
     let mut work = vec![0; 2 * UNDER_12.layer()];
     let (record, list) = (UNDER_12.record(), list(&STILL_OR_TRIPLE));
     let v = gmwb::value_table(&record, &list, &mut work, &zeros);
@@ -561,16 +563,10 @@ fn excess_at_decision_date(t: &mut Tally) {
 
 /// The last return lifts 10 or 12 above top, beside the maturity payment of top.
 fn excess_at_maturity(t: &mut Tally) {
-    let zeros = vec![0; 2 * UNDER_12.layer()];
-    for (numbers, cash) in [
-        ([0, 0, 0], [0, 0, 100_000]),
-        ([0, 0, 1], [0, 0, 300_000]),
-        ([1, 0, 1], [180_000, 0, 360_000]),
-        ([1, 1, 1], [180_000, 240_000, 360_000]),
-    ] {
-        let got = walked(&UNDER_12, &STILL_OR_TRIPLE, &zeros, &numbers);
-        t.same(&format!("tripled by {numbers:?}"), got, (0, cash.to_vec()));
-    }
+    undrawn(t, [0, 0, 0], [0, 0, 100_000]);
+    undrawn(t, [0, 0, 1], [0, 0, 300_000]);
+    undrawn(t, [1, 0, 1], [180_000, 0, 360_000]);
+    undrawn(t, [1, 1, 1], [180_000, 240_000, 360_000]);
 }
 
 /// At (12, 10) 6 are drawn, 1 of them above m: the penalty falls on that one, and not on the 18

@@ -11,7 +11,7 @@ use Rattle.decision.specs.Process.{startValue, startTableValue, Decides,
 
 module _ {S H : Type 0} (P : Process S H) (r : Rule S) (o : Open P r) (InRange : S → Type 0) (c : Closed P r InRange) (B C : ℕ)
     (ends : (s : S) → InRange s → P .final s ≤ B)
-    (pays : (i : ℕ) (s : S) (t : ℕ) → InRange s → T (r s t) → P .cash i s t ≤ C)
+    (some : 0 < P .returns)
     (arrives : (i : ℕ) (s : S) (t k : ℕ) → InRange s → T (r s t) → k < P .returns → P .cash i s t + P .paid (P .after i s t) k ≤ C)
     (starts : (k : ℕ) → k < P .returns → P .paid (P .start) k ≤ C)
     (averages : (i : ℕ) (h : H) (v : ℕ → ℕ) (x : ℕ) → ((k : ℕ) → k < P .returns → v k ≤ x) → P .expect i h v ≤ x)
@@ -21,7 +21,7 @@ module _ {S H : Type 0} (P : Process S H) (r : Rule S) (o : Open P r) (InRange :
         → ((k : ℕ) → k < P .returns → v (P .reach (P .after i s t) k) ≤ x) → worth P v i s t ≤ x + C
     unfolding worth reached
     worth-bounded v x i s t g a h =
-        let most = pays i s t g a in
+        let most = arrives i s t 0 g a some in
         let mean = averages i (P .after i s t) (reached P v (P .after i s t)) (x + C - P .cash i s t) (λ k l.
         let y = arrives i s t k g a l in let z = h k l in omega arith) in
         omega arith
@@ -64,5 +64,5 @@ module _ {S H : Type 0} (P : Process S H) (r : Rule S) (o : Open P r) (InRange :
 
       pub start-table-bounded : 1 ≤ P .dates → startTableValue P d ≤ C + (B + (P .dates - 1) * C)
       unfolding startTableValue reached
-      start-table-bounded some =
-          averages 0 _ _ _ (λ k l. add-le-add (starts k l) (table-bounded 1 _ (le-refl 1) some (c .starts k l)))
+      start-table-bounded one =
+          averages 0 _ _ _ (λ k l. add-le-add (starts k l) (table-bounded 1 _ (le-refl 1) one (c .starts k l)))

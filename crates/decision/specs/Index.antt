@@ -3,7 +3,7 @@ use mathlib.Core.Bool.{Bool, true, false}
 use mathlib.Core.List.{List, [], _∷_, _++_}
 use mathlib.Core.Path.{_≡_, refl, ap, ap₂, sym, subst, _∙_}
 use Prim.Native.Nat.{ℕ, zero, suc, _+_, _-_, _*_, _≤_, _<_}
-use native.Mathlib.Nat.{le-refl, add-le-add, add-zero}
+use native.Mathlib.Nat.{le-refl, le-trans, le-of-eq, add-le-add, mul-le-mul-left, add-zero}
 use native.Mathlib.Decide.{decLe}
 use native.Mathlib.Numerals.{add-one}
 use native.Mathlib.Omega.{arith}
@@ -47,6 +47,13 @@ pub sum-times : (f : ℕ → ℕ) (c n : ℕ) → sum (λ k. f k * c) n ≡ sum 
 unfolding sum
 sum-times f c zero = omega arith
 sum-times f c (suc n) = let e = sum-times f c n in omega arith
+
+-- a mean is at most what nothing in it passes: by weights that add to `total`
+pub weighted-le : (f g : ℕ → ℕ) (n : ℕ) {total most : ℕ} → sum f n ≡ total → ((k : ℕ) → k < n → g k ≤ most)
+    → sum (λ k. f k * g k) n ≤ total * most
+weighted-le f g n {total} {most} e h =
+    le-trans (sum-le (λ k. f k * g k) (λ k. f k * most) n (λ k l. mul-le-mul-left (f k) (h k l)))
+    (le-of-eq (sum-times f most n ∙ ap (λ (x : ℕ). x * most) e))
 
 pub sum-add : (f g : ℕ → ℕ) (n : ℕ) → sum (λ k. f k + g k) n ≡ sum f n + sum g n
 unfolding sum

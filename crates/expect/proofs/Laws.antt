@@ -3,21 +3,20 @@ use mathlib.Core.List.{List}
 use mathlib.Core.Logic.{inl, inr}
 use mathlib.Core.Path.{_≡_, refl, ap, ap₂, sym, _∙_, subst}
 use Prim.Native.Nat.{ℕ, zero, suc, _+_, _*_, _%_, _≤_, _<_}
-use native.Mathlib.Nat.{le-trans, le-of-eq, mul-le-mul, mul-le-mul-left, zero-add, add-zero, mod-eq-of-lt}
+use native.Mathlib.Nat.{le-trans, le-of-eq, mul-le-mul, zero-add, add-zero, mod-eq-of-lt}
 use native.Mathlib.Omega.{arith}
 use lib.ListN.{getD, length, replicate, getD-replicate}
-use Rattle.decision.specs.Index.{sum, sum-le, sum-eq, sum-next, sum-times}
+use Rattle.decision.specs.Index.{sum, sum-eq, sum-next, weighted-le}
 use Rattle.slices.specs.Stored.{stored, length-stored, stored-out, stored-first, stored-join}
 use Rattle.slices.specs.Rows.{cells, flat, flat-at, within-rows, rows-le, rows-step}
 use Rattle.rules.specs.Contract.{Terms, Returns, returnsOf, weightTotal, weightMost}
 use Rattle.rules.specs.Date.{nextAccount, excessPaid, discounted}
 use Rattle.rules.specs.FixedTerm.{layerSize}
-use Rattle.laws.specs.Accepted.{Valid}
 use Rattle.laws.specs.Bounds.{stateMost, value-room, value-most, entryMost}
 use Rattle.laws.specs.Narrow.{value-narrow}
 use Rattle.laws.specs.Date.{account-le}
 use Rattle.expect.specs.Expected.{reachedSum, expected, paidSum, stateSum, two-sums, paid-sum-le, scaled, term, lowMost, productMost}
-use Rattle.expect.specs.Expected.{Reached, Run, Open, Summed, Row, Listing, Layers, Values, Within, Balance}
+use Rattle.expect.specs.Expected.{Reached, Run, Adding, Summed, Row, Listing, Layers, Values, Within, Balance}
 
 -- ---- sums along the guarantees
 -- a product is small
@@ -37,7 +36,7 @@ pub twice-four : (f : ℕ → ℕ) (k x y : ℕ) → sum f (k + 4) ≡ sum f k +
 twice-four f k x y p q = let e : sum f (k + 4 + 4) ≡ sum f (k + 8) = ap (sum f) (omega arith) in omega arith
 
 -- a number of 32 bits is its low part
-pub low-part : {x : ℕ} → x ≤ 4294967295 → x % 4294967296 ≡ x
+pub low-part : {x : ℕ} → x ≤ lowMost → x % 4294967296 ≡ x
 low-part h = mod-eq-of-lt (omega arith)
 
 module _ {work starts weights : List ℕ} {count from n : ℕ} (r : Run work starts weights count from n) where
@@ -55,9 +54,9 @@ module _ {work starts weights : List ℕ} {count from n : ℕ} (r : Run work sta
   run-part k h = record { few = omega (arith, r .few); short = r .short; reached = λ i j g p. r .reached i j (omega arith) p }
 
   -- sums over some returns have room for one product more
-  pub summed-open : {sums : List ℕ} {paid k : ℕ} → Summed work starts weights sums paid from n k → paid ≤ productMost → k ≤ count
-      → Open sums n k
-  summed-open {k = k} s few h = record {
+  pub summed-adding : {sums : List ℕ} {paid k : ℕ} → Summed work starts weights sums paid from n k → paid ≤ productMost → k ≤ count
+      → Adding sums n k
+  summed-adding {k = k} s few h = record {
     long = s .long;
     small = λ j l. let x = sum-small j k l h in omega (arith, s .each j l);
   }
@@ -110,11 +109,7 @@ module _ {work starts weights : List ℕ} {count discount most paid to stride : 
     }
 
     pub row-sum-le : (a : ℕ) → a < stride → sum (term work starts weights a) count ≤ weightTotal * most
-    row-sum-le a l =
-        le-trans
-        (sum-le (term work starts weights a) (λ k. getD weights k 0 * most) count
-        (λ k m. mul-le-mul-left (getD weights k 0) (r .small k a m l)))
-        (le-of-eq (sum-times (λ k. getD weights k 0) most count ∙ ap (λ (x : ℕ). x * most) (r .total)))
+    row-sum-le a l = weighted-le (λ k. getD weights k 0) _ count (r .total) (λ k m. r .small k a m l)
 
     -- the first m guarantees, some of the row filled
     pub row-part : (work' : List ℕ) (g : ℕ → ℕ) (n m : ℕ) → work' ≡ stored work to g n → m ≤ stride
@@ -157,8 +152,8 @@ row-room {c} b v top =
     let l = rows-le (c .premium + 1) (b + 1) (c .top + 1) (omega arith) in omega (arith, rows-step (c .premium + 1) b, v .room)
 
 -- ---- the row of one balance
-module _ {c : Terms} {work list weights : List ℕ} {count discount most paid balance stride size : ℕ}
-    (b : Balance c work list weights count discount most paid balance stride size)
+module _ {c : Terms} {i : ℕ} {work list weights : List ℕ} {count discount most paid balance stride size : ℕ}
+    (b : Balance c i work list weights count discount most paid balance stride size)
   where
     -- a row of the first layer ends within it
     reached-within : (x : ℕ) → x ≤ c .top → x * stride + stride ≤ size
@@ -167,6 +162,13 @@ module _ {c : Terms} {work list weights : List ℕ} {count discount most paid ba
     -- what is paid on arrival
     paid-le : paid ≤ weightTotal * (20000 * c .top)
     paid-le = le-trans (le-of-eq (b .paid-is)) (paid-sum-le c (returnsOf list) balance (b .listing .valid) (b .balance-is))
+
+    -- .. and with it the values of the layer
+    most-room : 20000 * c .top + most ≤ entryMost
+    most-room = rw (b .most-is) (le-trans (value-room c (b .layers .valid) (i + 1) (omega arith)) (value-most (b .layers .valid)))
+
+    most-low : most ≤ lowMost
+    most-low = let low = value-narrow c (b .layers .valid) (i + 1) (omega arith) in omega (arith, b .most-is)
 
     balance-room : size + balance * stride + stride ≤ length work
     balance-room = rw (b .size-is, b .stride-is) (row-room balance (b .layers) (b .balance-is))
@@ -184,9 +186,9 @@ module _ {c : Terms} {work list weights : List ℕ} {count discount most paid ba
         balance-row = record {
           few = b .listing .few;
           discount-is = le-trans (le-of-eq (b .discount-is)) (b .layers .valid .discount);
-          most-is = b .most-low;
+          most-is = most-low;
           paid-small = omega (arith, paid-le, b .layers .valid .top);
-          sums-small = omega (arith, paid-le, b .most-is);
+          sums-small = omega (arith, paid-le, most-room);
           total = sum-eq _ _ count (b .weights-are) ∙ ap (sum (returnsOf list .weight)) (b .listing .all) ∙ b .listing .valid .total;
           light = λ k l. rw (b .weights-are k l) (b .listing .valid .weight k (omega (arith, b .listing .all)));
           small = λ k a l m.
@@ -213,24 +215,15 @@ module _ {c : Terms} {work list weights : List ℕ} {count discount most paid ba
             ap₂ discounted (b .discount-is)
             (ap₂ _+_ (b .paid-is) (states-are a) ∙ two-sums c (returnsOf list) (cells work 0 stride) balance a)
 
--- the bound on the values of date i + 1
-bounds : {c : Terms} {list : List ℕ} {count : ℕ} (i : ℕ) → Listing list count → Valid c
-    → (20000 * c .top + stateMost c (i + 1) ≤ entryMost) × (stateMost c (i + 1) ≤ lowMost)
-bounds {c} {list} i h v =
-    let room = le-trans (value-room c (returnsOf list) v (h .valid) (i + 1) (omega arith)) (value-most v) in
-    let low = value-narrow c (returnsOf list) v (h .valid) (i + 1) in
-    (room, omega arith)
-
 -- ---- the balance of the start
 pub start-balance : {c : Terms} {work list weights : List ℕ} {count paid : ℕ} → Listing list count → Values c 0 work
     → ((k : ℕ) → k < count → getD weights k 0 ≡ returnsOf list .weight k) → paid ≡ paidSum c (returnsOf list) (c .premium)
-    → Balance c work list weights count (c .discount) (stateMost c 1) paid (c .premium) (c .premium + 1) ((c .top + 1) * (c .premium + 1))
+    → Balance c 0 work list weights count (c .discount) (stateMost c 1) paid (c .premium) (c .premium + 1) ((c .top + 1) * (c .premium + 1))
 start-balance h v w p = record {
   listing = h;
   layers = v .layers;
   discount-is = refl;
-  most-is = bounds 0 h (v .layers .valid) .0;
-  most-low = bounds 0 h (v .layers .valid) .1;
+  most-is = refl;
   paid-is = p;
   small = v .small;
   weights-are = w;
@@ -244,13 +237,12 @@ pub layer-balance : {c : Terms} {work list weights : List ℕ} {count i most pai
     → Listing list count → Values c i work → most ≡ stateMost c (i + 1)
     → ((k : ℕ) → k < count → getD weights k 0 ≡ returnsOf list .weight k) → paid ≡ paidSum c (returnsOf list) b
     → work' ≡ stored work ((c .top + 1) * (c .premium + 1)) f n → b ≤ c .top
-    → Balance c work' list weights count (c .discount) most paid b (c .premium + 1) ((c .top + 1) * (c .premium + 1))
-layer-balance {c = c} {work = work} {i = i} {most = most} work' f n b h v m w p e top = record {
+    → Balance c i work' list weights count (c .discount) most paid b (c .premium + 1) ((c .top + 1) * (c .premium + 1))
+layer-balance {c = c} {work = work} {most = most} work' f n b h v m w p e top = record {
   listing = h;
   layers = record { valid = v .layers .valid; room = omega (arith, v .layers .room, ap length e ∙ length-stored _ _ _ _) };
   discount-is = refl;
-  most-is = rw m (bounds i h (v .layers .valid) .0);
-  most-low = rw m (bounds i h (v .layers .valid) .1);
+  most-is = m;
   paid-is = p;
   small = kept-within;
   weights-are = w;

@@ -2,10 +2,10 @@
 use mathlib.Core.List.{List}
 use mathlib.Core.Path.{_≡_, ap, sym, _∙_}
 use Prim.Native.Nat.{ℕ, _+_, _*_, _≤_, _<_}
-use native.Mathlib.Nat.{le-trans, le-of-eq, mul-le-mul-left}
+use native.Mathlib.Nat.{le-trans, add-le-add}
 use native.Mathlib.Omega.{arith}
 use lib.ListN.{getD, length}
-use Rattle.decision.specs.Index.{sum, sum-le, sum-eq, sum-add, sum-times}
+use Rattle.decision.specs.Index.{sum, sum-eq, sum-add, weighted-le}
 use Rattle.slices.specs.Rows.{cells}
 use Rattle.rules.specs.Contract.{Terms, Returns, returnsOf, discountMost, weightTotal, weightMost, returnsMost}
 use Rattle.rules.specs.Date.{nextAccount, excessPaid, discounted}
@@ -65,8 +65,8 @@ pub record Run (work starts weights : List ℕ) (count from n : ℕ) : Type 0 wh
   pub short : n ≤ 512
   pub reached : (k j : ℕ) → k < count → j < n → Reached work starts weights (from + j) k
 
--- n sums to which return k and later ones are still to be added
-pub record Open (sums : List ℕ) (n k : ℕ) : Type 0 where
+-- n sums to which return k is to be added
+pub record Adding (sums : List ℕ) (n k : ℕ) : Type 0 where
   pub long : 512 ≤ length sums
   pub small : (j : ℕ) → j < n → getD sums j 0 ≤ productMost * (k + 1)
 
@@ -109,13 +109,12 @@ pub record Values (c : Terms) (i : ℕ) (work : List ℕ) : Type 0 where
   pub layers : Layers c work
   pub small : Within c work (stateMost c (i + 1))
 
--- a balance whose row is to be filled
-pub record Balance (c : Terms) (work list weights : List ℕ) (count discount most paid balance stride size : ℕ) : Type 0 where
+-- a balance whose row is to be filled, over the values of date i + 1
+pub record Balance (c : Terms) (i : ℕ) (work list weights : List ℕ) (count discount most paid balance stride size : ℕ) : Type 0 where
   pub listing : Listing list count
   pub layers : Layers c work
   pub discount-is : discount ≡ c .discount
-  pub most-is : 20000 * c .top + most ≤ entryMost
-  pub most-low : most ≤ lowMost
+  pub most-is : most ≡ stateMost c (i + 1)
   pub paid-is : paid ≡ paidSum c (returnsOf list) balance
   pub small : Within c work most
   pub weights-are : (k : ℕ) → k < count → getD weights k 0 ≡ returnsOf list .weight k
@@ -128,30 +127,19 @@ pub paid-sum-le : (c : Terms) (rs : Returns) (balance : ℕ) → ValidReturns rs
     → paidSum c rs balance ≤ weightTotal * (20000 * c .top)
 unfolding paidSum
 paid-sum-le c rs balance returns h =
-    le-trans
-    (sum-le _ (λ k. rs .weight k * (20000 * c .top)) (rs .count) (λ k l.
-    mul-le-mul-left (rs .weight k) (excess-paid-le (c .fee) (c .top) balance (rs .factor k) h (returns .factor k l))))
-    (le-of-eq (sum-times (rs .weight) (20000 * c .top) (rs .count) ∙ ap (λ (z : ℕ). z * (20000 * c .top)) (returns .total)))
+    weighted-le (rs .weight) _ (rs .count) (returns .total) (λ k l.
+    excess-paid-le (c .fee) (c .top) balance (rs .factor k) h (returns .factor k l))
 
-state-sum-le : (c : Terms) (rs : Returns) (v : ℕ → ℕ → ℕ) (balance a most : ℕ) → ValidReturns rs
-    → ((w : ℕ) → w ≤ c .top → v w a ≤ most) → stateSum c rs v balance a ≤ weightTotal * most
-unfolding stateSum
-state-sum-le c rs v balance a most returns h =
-    le-trans
-    (sum-le _ (λ k. rs .weight k * most) (rs .count) (λ k l.
-    mul-le-mul-left (rs .weight k) (h _ (account-le (c .fee) (c .top) balance (rs .factor k)))))
-    (le-of-eq (sum-times (rs .weight) most (rs .count) ∙ ap (λ (z : ℕ). z * most) (returns .total)))
-
--- a discounted sum over the values of a layer is within the bound on an entry
+-- a discounted sum over the values of date i + 1 is within the bound on an entry
 pub expected-le : (c : Terms) (rs : Returns) (v : ℕ → ℕ → ℕ) (i balance a : ℕ) → Valid c → ValidReturns rs → balance ≤ c .top
     → ((w : ℕ) → w ≤ c .top → v w a ≤ stateMost c (i + 1)) → expected c rs v balance a ≤ entryMost
-unfolding expected
+unfolding expected reachedSum
 expected-le c rs v i balance a valid returns top h =
-    let paid = paid-sum-le c rs balance returns top in
-    let states = state-sum-le c rs v balance a (stateMost c (i + 1)) returns h in
-    let room = value-room c rs valid returns (i + 1) (omega arith) in
+    let room = value-room c valid (i + 1) (omega arith) in
     discounted-average (c .discount) _ entryMost (valid .discount)
-    (omega (arith, two-sums c rs v balance a, value-most valid))
+    (weighted-le (rs .weight) _ (rs .count) (returns .total) (λ k l.
+    le-trans (add-le-add (excess-paid-le (c .fee) (c .top) balance (rs .factor k) top (returns .factor k l)) (h _ (account-le (c .fee) (c .top) balance (rs .factor k))))
+    (le-trans room (value-most valid))))
 
 -- only the values that it can reach count
 pub expected-same : (c : Terms) (rs : Returns) (v v' : ℕ → ℕ → ℕ) (balance a : ℕ) → ((w : ℕ) → w ≤ c .top → v w a ≡ v' w a)

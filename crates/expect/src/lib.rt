@@ -12,7 +12,7 @@ ghost use Rattle.rules.specs.Date.{nextAccount, discounted};
 ghost use Rattle.rules.specs.FixedTerm.{layerSize};
 ghost use Rattle.laws.specs.Accepted.{Valid};
 ghost use Rattle.contract.specs.Reading.{termsIn};
-ghost use Rattle.expect.specs.Expected.{term, productMost, Reached, Run, Open, Summed, Row, Listing, Values};
+ghost use Rattle.expect.specs.Expected.{term, productMost, Reached, Run, Adding, Summed, Row, Listing, Values};
 ghost use Rattle.expect.specs.Expected.{paidSum, expected, scaled};
 use contract::Contract;
 
@@ -118,7 +118,7 @@ fn add_one(
     from: usize,
     n: usize,
 )
-    requires { ⌜ Run (now work) (now starts) (now weights) (k + 1) from n × Open (now sums) n k ⌝ }
+    requires { ⌜ Run (now work) (now starts) (now weights) (k + 1) from n × Adding (now sums) n k ⌝ }
     ensures { λ _. ⌜
         now (sums .exit)
         ≡ stored (now (sums .entry)) 0
@@ -142,7 +142,7 @@ fn add_eight(
     from: usize,
     n: usize,
 )
-    requires { ⌜ Run (now work) (now starts) (now weights) (k + 8) from n × Open (now sums) n k ⌝ }
+    requires { ⌜ Run (now work) (now starts) (now weights) (k + 8) from n × Adding (now sums) n k ⌝ }
     ensures { λ _. ⌜
         now (sums .exit)
         ≡ stored (now (sums .entry)) 0

@@ -1,11 +1,11 @@
 -- Values, amounts and accounts of an accepted contract fit the widths of the slices. Assumes nothing.
 use mathlib.Core.Path.{_≡_, ap, _∙_}
 use Prim.Native.Nat.{ℕ, suc, _+_, _-_, _*_, _^_, _≤_, _<_}
-use native.Mathlib.Nat.{le-trans, le-of-eq, mul-le-mul, mul-le-mul-left, mul-le-mul-right, mul-comm, mul-assoc, div-le-of-le-mul}
+use native.Mathlib.Nat.{le-trans, mul-le-mul, mul-le-mul-left, mul-le-mul-right, mul-comm, mul-assoc, div-le-of-le-mul}
 use native.Mathlib.Nat.{sub-le-sub-left, max-le, min-le-left}
 use native.Mathlib.Omega.{arith}
 use lib.Dec.{T}
-use Rattle.decision.specs.Index.{sum-le, sum-times}
+use Rattle.decision.specs.Index.{weighted-le}
 use Rattle.decision.specs.Process.{Table, tableValue, startTableValue, Decides}
 use Rattle.decision.specs.Optimal.{recorded-best}
 use Rattle.decision.specs.Bounds.{value-bounded, start-bounded, table-bounded, start-table-bounded}
@@ -15,7 +15,7 @@ use Rattle.rules.specs.Product.{stateValue, recordedAmount, contractValue}
 use Rattle.rules.specs.FixedTerm.{State, Held, InRange, freeIn, admissibleIn, rateIn, cashIn, afterIn, reachBy, paidBy}
 use Rattle.rules.specs.FixedTerm.{expectOver, startOf, processOf, fixedTerm}
 use Rattle.laws.specs.Accepted.{Valid, ValidReturns}
-use Rattle.laws.specs.Date.{admits-within, amount-most, cash-le, excess-paid-le, period-le}
+use Rattle.laws.specs.Date.{admits-within, amount-most, excess-paid-le, period-le}
 use Rattle.laws.specs.FixedTerm.{opened, closed}
 
 -- a discounted average is at most the largest value reached
@@ -39,6 +39,15 @@ entryMost = factorMost * (topMost * datesMost)
 pub value-most : {c : Terms} → Valid c → valueMost c ≤ entryMost
 value-most v = mul-le-mul-left factorMost (mul-le-mul (v .top) (v .dates))
 
+-- with what is paid on arrival, a value is within them, from date 1 on
+pub value-room : (c : Terms) → Valid c → (i : ℕ) → 1 ≤ i → 20000 * c .top + stateMost c i ≤ valueMost c
+value-room c v i l =
+    let fewer = mul-le-mul-right (20000 * c .top) (sub-le-sub-left l (c .dates)) in
+    let n : c .dates ≡ suc (c .dates - 1) = omega (arith, v .dates-least) in
+    let e : c .top * c .dates ≡ (c .dates - 1) * c .top + c .top =
+    ap (λ (x : ℕ). c .top * x) n ∙ (let z = mul-comm (c .top) (c .dates - 1) in omega arith) in
+    omega (arith, mul-assoc (c .dates - 1) 20000 (c .top), mul-comm (c .dates - 1) 20000)
+
 module _ (c : Terms) (rs : Returns) (v : Valid c) (u : ValidReturns rs) where
   -- admissible amounts are at most top
   pub amount-le : (b : Behaviour) (s : State) (t : ℕ) → InRange c s → T (admissibleIn c b s t) → t ≤ c .top
@@ -48,10 +57,6 @@ module _ (c : Terms) (rs : Returns) (v : Valid c) (u : ValidReturns rs) where
   pub ends : (s : State) → InRange c s → processOf c rs .final s ≤ 10000 * c .top
   unfolding processOf maturityValue
   ends s g = mul-le-mul-left 10000 (max-le (g .account) (le-trans (g .guarantee) (v .premium)))
-
-  pays : (b : Behaviour) (i : ℕ) (s : State) (t : ℕ) → InRange c s → T (admissibleIn c b s t) → processOf c rs .cash i s t ≤ 20000 * c .top
-  unfolding processOf cashIn
-  pays b i s t g p = le-trans (cash-le _ _ t) (let l = amount-le b s t g p in omega arith)
 
   -- what is withdrawn, with what is paid on the arrival after it
   arrives : (b : Behaviour) (i : ℕ) (s : State) (t k : ℕ) → InRange c s → T (admissibleIn c b s t) → k < rs .count
@@ -68,16 +73,14 @@ module _ (c : Terms) (rs : Returns) (v : Valid c) (u : ValidReturns rs) where
   pub averages : (i : ℕ) (h : Held) (x : ℕ → ℕ) (y : ℕ) → ((k : ℕ) → k < rs .count → x k ≤ y) → expectOver c rs i h x ≤ y
   unfolding expectOver
   averages i h x y g =
-      discounted-average (c .discount) _ y (v .discount)
-      (le-trans (sum-le (λ k. rs .weight k * x k) (λ k. rs .weight k * y) (rs .count) (λ k l. mul-le-mul-left (rs .weight k) (g k l)))
-      (le-of-eq (sum-times (rs .weight) y (rs .count) ∙ ap (λ (z : ℕ). z * y) (u .total))))
+      discounted-average (c .discount) _ y (v .discount) (weighted-le (rs .weight) x (rs .count) (u .total) g)
 
   -- a state's value is at most a bound in N and top
   pub state-value-le : (b : Behaviour) (i : ℕ) (s : State) → InRange c s → stateValue (fixedTerm c rs) b i s ≤ stateMost c i
   unfolding stateValue fixedTerm processOf
   state-value-le b =
       value-bounded (processOf c rs) (admissibleIn c b) (opened c rs b) (InRange c) (closed c rs b) (10000 * c .top) (20000 * c .top)
-      ends (pays b) (arrives b) starts averages
+      ends (u .count-least) (arrives b) starts averages
 
   -- .. also where a table is followed
   pub table-value-le : (d : Table State) → ((i : ℕ) (s : State) → Decides (processOf c rs) (InRange c) i s → T (admissibleIn c dynamic s (d i s)))
@@ -86,14 +89,14 @@ module _ (c : Terms) (rs : Returns) (v : Valid c) (u : ValidReturns rs) where
   unfolding processOf
   table-value-le d admits i s l m g =
       table-bounded (processOf c rs) (admissibleIn c dynamic) (opened c rs dynamic) (InRange c) (closed c rs dynamic) (10000 * c .top)
-      (20000 * c .top) ends (pays dynamic) (arrives dynamic) starts averages d admits i s l m g
+      (20000 * c .top) ends (u .count-least) (arrives dynamic) starts averages d admits i s l m g
 
   -- the contract's, with what the first return pays on arrival
   pub contract-value-le : (b : Behaviour) → contractValue (fixedTerm c rs) b ≤ 20000 * c .top + stateMost c 1
   unfolding contractValue fixedTerm processOf
   contract-value-le b =
       start-bounded (processOf c rs) (admissibleIn c b) (opened c rs b) (InRange c) (closed c rs b) (10000 * c .top) (20000 * c .top)
-      ends (pays b) (arrives b) starts averages
+      ends (u .count-least) (arrives b) starts averages
 
   pub table-start-le : (d : Table State)
       → ((i : ℕ) (s : State) → Decides (processOf c rs) (InRange c) i s → T (admissibleIn c dynamic s (d i s)))
@@ -101,16 +104,7 @@ module _ (c : Terms) (rs : Returns) (v : Valid c) (u : ValidReturns rs) where
   unfolding processOf
   table-start-le d admits =
       start-table-bounded (processOf c rs) (admissibleIn c dynamic) (opened c rs dynamic) (InRange c) (closed c rs dynamic)
-      (10000 * c .top) (20000 * c .top) ends (pays dynamic) (arrives dynamic) starts averages d admits (v .dates-least)
-
-  -- with what is paid on arrival, a value is within the bound on an entry
-  pub value-room : (i : ℕ) → 1 ≤ i → 20000 * c .top + stateMost c i ≤ valueMost c
-  value-room i l =
-      let fewer = mul-le-mul-right (20000 * c .top) (sub-le-sub-left l (c .dates)) in
-      let n : c .dates ≡ suc (c .dates - 1) = omega (arith, v .dates-least) in
-      let e : c .top * c .dates ≡ (c .dates - 1) * c .top + c .top =
-      ap (λ (x : ℕ). c .top * x) n ∙ (let z = mul-comm (c .top) (c .dates - 1) in omega arith) in
-      omega (arith, mul-assoc (c .dates - 1) 20000 (c .top), mul-comm (c .dates - 1) 20000)
+      (10000 * c .top) (20000 * c .top) ends (u .count-least) (arrives dynamic) starts averages d admits (v .dates-least)
 
   -- amounts and accounts fit 16 bits
   pub amount-fits : (b : Behaviour) (s : State) (t : ℕ) → InRange c s → T (admissibleIn c b s t) → t < 2 ^ 16

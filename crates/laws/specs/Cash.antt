@@ -8,7 +8,7 @@ use lib.ListN.{getD, length, drop, List·getD-append}
 use Rattle.decision.specs.Index.{sum, sum-eq, sum-add, sum-times, tabulate, getD-tabulate}
 use Rattle.rules.specs.Contract.{Terms, Returns, termsOf, returnsOf}
 use Rattle.rules.specs.Date.{penalty, cash, excess, excessPaid, maturityValue}
-use Rattle.rules.specs.Product.{walkState, walkAmount, walkHeld, walkPaid, walkCash}
+use Rattle.rules.specs.Product.{walkState, walkAmount, walkHeld, walkPaid, walkCashOn, walkCashLast, walkCash}
 use Rattle.rules.specs.FixedTerm.{freeIn, rateIn, cashIn, paidBy, processOf, fixedTerm}
 use Rattle.rules.specs.Refusals.{accepted, onSuccess}
 use Rattle.rules.specs.Operations.{productOf, walkChecks, walkVerdict, walkCashes}
@@ -58,11 +58,9 @@ cash-penalty rate m t h = let l : rate * (t - m) ≤ 10000 * t = mul-le-mul h (s
 module _ (c : Terms) (rs : Returns) (table path : List ℕ) (v : Valid c) where
   -- on each date: what is withdrawn less its penalty, and the excess
   cash-of : (j : ℕ)
-      → walkPaid (fixedTerm c rs) table path j
-      + cashIn c (suc j) (walkState (fixedTerm c rs) table path (suc j)) (walkAmount (fixedTerm c rs) table path (suc j))
-      + walkPenalty c rs table path j
+      → walkCashOn (fixedTerm c rs) table path j + walkPenalty c rs table path j
       ≡ walkAmount (fixedTerm c rs) table path (suc j) * 10000 + walkExcess c rs table path j * 10000
-  unfolding walkPaid fixedTerm processOf paidBy excessPaid cashIn
+  unfolding walkCashOn walkPaid fixedTerm processOf paidBy excessPaid cashIn
   cash-of j =
       let rate = le-trans (rate-le (c .penalty) (c .step) (suc j)) (v .penalty) in
       let s = walkState (fixedTerm c rs) table path (suc j) in
@@ -77,17 +75,15 @@ module _ (c : Terms) (rs : Returns) (table path : List ℕ) (v : Valid c) where
   pub walk-pays :
       sum (λ j. getD (walkCash (fixedTerm c rs) table path) j 0) (c .dates) + sum (walkPenalty c rs table path) (c .dates - 1)
       ≡ walkDue c rs table path
-  unfolding sum walkCash walkPaid fixedTerm processOf paidBy excessPaid
+  unfolding sum walkCash walkCashLast walkPaid fixedTerm processOf paidBy excessPaid
   walk-pays =
       let n = c .dates - 1 in
       let up : suc n ≡ c .dates = omega (arith, v .dates-least) in
       let X = fixedTerm c rs in
-      let cash-on : ℕ → ℕ = λ j.
-      walkPaid X table path j + cashIn c (suc j) (walkState X table path (suc j)) (walkAmount X table path (suc j)) in
-      let all = ap (sum (λ j. getD (walkCash X table path) j 0)) (sym up) ∙ listed-sum n cash-on _ in
+      let all = ap (sum (λ j. getD (walkCash X table path) j 0)) (sym up) ∙ listed-sum n (walkCashOn X table path) _ in
       let amounts : ℕ → ℕ = λ j. walkAmount X table path (suc j) in
       let each =
-      sym (sum-add cash-on (walkPenalty c rs table path) n)
+      sym (sum-add (walkCashOn X table path) (walkPenalty c rs table path) n)
       ∙ sum-eq _ _ n (λ j l. cash-of j)
       ∙ sum-add (λ j. amounts j * 10000) (λ j. walkExcess c rs table path j * 10000) n in
       let last = ap (sum (walkExcess c rs table path)) (sym up) in

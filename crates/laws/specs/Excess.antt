@@ -12,7 +12,7 @@ use Rattle.decision.specs.Layers.{lookup, layer, layers}
 use Rattle.rules.specs.Contract.{Terms, Returns}
 use Rattle.rules.specs.Date.{Behaviour, balanceAfter, liftedAccount, excess, excessPaid}
 use Rattle.rules.specs.Product.{Product, stateValue, recordedAmount, contractValue, valueLayer, amountLayers, suppliedValue}
-use Rattle.rules.specs.Product.{suppliedLayer, walkState, walkAmount, walkHeld, walkPaid, walkCash}
+use Rattle.rules.specs.Product.{suppliedLayer, walkState, walkAmount, walkHeld, walkPaid, walkCashOn, walkCashLast, walkCash}
 use Rattle.rules.specs.FixedTerm.{State, Held, InRange, admissibleIn, cashIn, afterIn, paidBy, startOf, processOf, layerSize}
 use Rattle.rules.specs.FixedTerm.{layoutOf, fixedTerm}
 use Rattle.laws.specs.Accepted.{Valid}
@@ -106,7 +106,7 @@ module _ (c : Terms) (rs : Returns) (v : Valid c) (none : NoneAbove c rs) where
         nothing-paid (walkHeld (fixedTerm c rs) table path j) _ (numbers j l) (record { balance = h .0; guarantee = h .1 })
 
     pub no-excess-walk : walkCash (fixedTerm c rs) table path ≡ walkCash (unpaid c rs) table path
-    unfolding walkCash walkPaid fixedTerm unpaid processOf
+    unfolding walkCash walkCashOn walkCashLast walkPaid fixedTerm unpaid processOf
     no-excess-walk =
         ap₂ _++_
         (tabulate-eq (c .dates - 1) _ _ (λ j l.

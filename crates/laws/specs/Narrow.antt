@@ -13,7 +13,7 @@ use Rattle.decision.specs.Layers.{lookup, layer}
 use Rattle.rules.specs.Contract.{Terms, Returns, termsOf, returnsOf}
 use Rattle.rules.specs.Date.{Behaviour, dynamic}
 use Rattle.rules.specs.Product.{stateValue, contractValue, valueLayer, suppliedValue, suppliedLayer, walkState, walkAmount}
-use Rattle.rules.specs.Product.{walkPaid, walkCash}
+use Rattle.rules.specs.Product.{walkPaid, walkCashOn, walkCashLast, walkCash}
 use Rattle.rules.specs.FixedTerm.{State, InRange, freeIn, admissibleIn, rateIn, cashIn, processOf, layerSize, layoutOf, fixedTerm}
 use Rattle.rules.specs.Refusals.{checkEach, accepted, recordChecks, listChecks}
 use Rattle.rules.specs.Operations.{productOf, answer, behaviourOf, tableSize, valuingVerdict, valuingAnswer, badEntry}
@@ -28,28 +28,21 @@ use Rattle.laws.specs.ThirdDemand.{valuing-terms, valuing-returns, valui
 use Rattle.laws.specs.Supplied.{all-admitted}
 use Rattle.laws.specs.Walk.{walk-in-range, walk-admits, walk-paid-le}
 
+-- with what is paid on arrival the largest is 3,240,000,000
+pub value-narrow : (c : Terms) → Valid c → (i : ℕ) → 1 ≤ i → 20000 * c .top + stateMost c i < 2 ^ 32
+value-narrow c v i l =
+    let t : 20000 * c .top ≤ 80000000 = omega (arith, v .top) in
+    let n : c .dates - i ≤ 39 = omega (arith, v .dates) in
+    let p = mul-le-mul n t in
+    omega arith
+
 module _ (c : Terms) (rs : Returns) (v : Valid c) (u : ValidReturns rs) where
-  -- the largest is 3,240,000,000, also with what is paid on arrival
-  pub value-narrow : (i : ℕ) → stateMost c i < 2 ^ 32
-  value-narrow i =
-      let t : 20000 * c .top ≤ 80000000 = omega (arith, v .top) in
-      let n : c .dates - i ≤ 40 = omega (arith, v .dates) in
-      let p = mul-le-mul n t in
-      omega arith
-
-  pub start-narrow : 20000 * c .top + stateMost c 1 < 2 ^ 32
-  start-narrow =
-      let t : 20000 * c .top ≤ 80000000 = omega (arith, v .top) in
-      let n : c .dates - 1 ≤ 39 = omega (arith, v .dates) in
-      let p = mul-le-mul n t in
-      omega arith
-
-  pub state-value-narrow : (b : Behaviour) (i : ℕ) (s : State) → InRange c s
+  pub state-value-narrow : (b : Behaviour) (i : ℕ) (s : State) → 1 ≤ i → InRange c s
       → stateValue (fixedTerm c rs) b i s < 2 ^ 32
-  state-value-narrow b i s g = let l = state-value-le c rs v u b i s g in let m = value-narrow i in omega arith
+  state-value-narrow b i s h g = let l = state-value-le c rs v u b i s g in let m = value-narrow c v i h in omega arith
 
   pub contract-value-narrow : (b : Behaviour) → contractValue (fixedTerm c rs) b < 2 ^ 32
-  contract-value-narrow b = let l = contract-value-le c rs v u b in let m = start-narrow in omega arith
+  contract-value-narrow b = let l = contract-value-le c rs v u b in let m = value-narrow c v 1 (le-refl 1) in omega arith
 
   -- the same of a table whose entries are admissible
   module _ (d : Table State)
@@ -59,11 +52,11 @@ module _ (c : Terms) (rs : Returns) (v : Valid c) (u : ValidReturns rs) where
           → tableValue (processOf c rs) d i s < 2 ^ 32
       table-value-narrow i s l m g =
           let x = table-value-le c rs v u d admits i s l m g in
-          let y = value-narrow i in
+          let y = value-narrow c v i l in
           omega arith
 
       pub table-start-narrow : startTableValue (processOf c rs) d < 2 ^ 32
-      table-start-narrow = let x = table-start-le c rs v u d admits in let y = start-narrow in omega arith
+      table-start-narrow = let x = table-start-le c rs v u d admits in let y = value-narrow c v 1 (le-refl 1) in omega arith
 
   -- cash, and the payment at maturity, each with what is paid on arrival
   pub cash-narrow : (b : Behaviour) (i : ℕ) (s : State) (t paid : ℕ) → InRange c s → T (admissibleIn c b s t) → paid ≤ 20000 * c .top
@@ -101,16 +94,13 @@ layer-narrow c f h =
 module _ (c : Terms) (rs : Returns) (table path : List ℕ) (none : c .dates - 1 ≤ first (badDate c rs table path) (c .dates - 1)) where
   pub walk-narrow : Valid c → ValidReturns rs → length path ≡ c .dates → ((j : ℕ) → j < c .dates → getD path j 0 < rs .count)
       → AllNarrow (walkCash (fixedTerm c rs) table path)
-  unfolding walkCash fixedTerm processOf
+  unfolding walkCash walkCashOn walkCashLast fixedTerm processOf
   walk-narrow v u long numbers = tabulate-narrow (c .dates - 1) _ _ pays ends
     where
       arrives : (j : ℕ) → j < c .dates → walkPaid (fixedTerm c rs) table path j ≤ 20000 * c .top
       arrives j l = walk-paid-le c rs table path v j (omega arith) (u .factor _ (numbers j l))
 
-      pays : (j : ℕ) → j < c .dates - 1
-          → walkPaid (fixedTerm c rs) table path j
-          + cashIn c (suc j) (walkState (fixedTerm c rs) table path (suc j)) (walkAmount (fixedTerm c rs) table path (suc j))
-          < 2 ^ 32
+      pays : (j : ℕ) → j < c .dates - 1 → walkCashOn (fixedTerm c rs) table path j < 2 ^ 32
       pays j l =
           cash-narrow c rs v u dynamic (suc j) _ _ _ (walk-in-range c rs table path j (omega arith))
           (walk-admits c rs table path none j l) (arrives j (omega arith))
@@ -120,8 +110,7 @@ module _ (c : Terms) (rs : Returns) (table path : List ℕ) (none : c .dates - 1
           let up : suc (c .dates - 1) ≡ c .dates = omega (arith, v .dates-least) in
           subst (λ (n : ℕ). InRange c (walkState (fixedTerm c rs) table path n)) up (walk-in-range c rs table path (c .dates - 1) (omega arith))
 
-      ends : AllNarrow ((walkPaid (fixedTerm c rs) table path (c .dates - 1)
-          + processOf c rs .final (walkState (fixedTerm c rs) table path (c .dates))) ∷ [])
+      ends : AllNarrow (walkCashLast (fixedTerm c rs) table path ∷ [])
       ends zero = maturity-narrow c rs v u _ _ last (arrives (c .dates - 1) (omega (arith, v .dates-least)))
       ends (suc e) = omega arith
 
@@ -145,7 +134,7 @@ narrow-valuing bytes list behaviour work table a =
     let u = valuing-returns bytes list behaviour work table a in
     let b = behaviourOf behaviour in record {
       value-fits = rw (valuing-reports bytes list behaviour work table a) (contract-value-narrow c rs v u b);
-      layer-fits = layer-narrow c (stateValue (fixedTerm c rs) b 1) (state-value-narrow c rs v u b 1);
+      layer-fits = layer-narrow c (stateValue (fixedTerm c rs) b 1) (λ s g. state-value-narrow c rs v u b 1 s (le-refl 1) g);
     }
 
 -- a supplied table: the same

@@ -16,7 +16,7 @@ use Rattle.rules.specs.Date.{Behaviour, static, mixed, dynamic, freeAmou
 use Rattle.rules.specs.Date.{penalty, cash, guaranteeAfter, balanceAfter, liftedAccount, nextAccount, excess, excessPaid}
 use Rattle.rules.specs.Date.{maturityValue, discounted, margin}
 use Rattle.rules.specs.Product.{stateValue, recordedAmount, contractValue, amountLayers, walkState, walkAmount, walkHeld}
-use Rattle.rules.specs.Product.{walkPaid, walkCash}
+use Rattle.rules.specs.Product.{walkPaid, walkCashOn, walkCashLast, walkCash}
 use Rattle.rules.specs.FixedTerm.{State, freeIn, admissibleIn, limitIn, cashIn, afterIn, reachBy, paidBy, expectOver}
 use Rattle.rules.specs.FixedTerm.{startOf, processOf, layerSize, layoutOf, fixedTerm}
 use Rattle.rules.specs.Refusals.{checkEach, Verdict, accepted, refused, verdict, numberOf, placeOf, onSuccess, outside}
@@ -268,7 +268,7 @@ pub excess-cases : map (λ r. tell (r .asked)) excess-rows ≡ map (λ r. r .tol
 unfolding sum tabulate first firstFrom largest smallestBest reached worth valueOver value recorded startValue met startMet word long
     bytesOf termsOf returnsOf freeAmount largestAmount surrenders admits rateOn penalty cash guaranteeAfter balanceAfter liftedAccount
     nextAccount excess excessPaid maturityValue discounted margin recordedAmount contractValue amountLayers walkState walkAmount
-    walkHeld walkPaid walkCash lookup layers entry freeIn admissibleIn limitIn cashIn afterIn reachBy paidBy expectOver startOf
+    walkHeld walkPaid walkCashOn walkCashLast walkCash lookup layers entry freeIn admissibleIn limitIn cashIn afterIn reachBy paidBy expectOver startOf
     processOf layerSize layoutOf fixedTerm checkEach verdict onSuccess outside short termsChecks recordChecks badReturn listChecks
     productOf answer behaviourNumber behaviourOf tableSize lentChecks valuingChecks valuingVerdict valuingAnswer badDate pathChecks
     walkChecks walkVerdict walkCashes packed P-three P-tight returnsP unless-refused valued tell row excess-rows

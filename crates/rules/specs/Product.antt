@@ -55,22 +55,27 @@ module _ {S H : Type 0} (X : Product S H) where
   unfoldable pub walkAmount : List ℕ → List ℕ → ℕ → ℕ
   walkAmount table numbers i = lookup (X .layout) table i (walkState table numbers i)
 
-  -- what is held between date i and the return after it
+  -- what is held between date i and the return after it; on date 0 "it starts with the first return"
   unfoldable pub walkHeld : List ℕ → List ℕ → ℕ → H
   walkHeld table numbers zero = X .process .start
   walkHeld table numbers (suc j) = X .process .after (suc j) (walkState table numbers (suc j)) (walkAmount table numbers (suc j))
 
-  -- what that return, the i-th number, pays on arrival on date i + 1
+  -- what that return, number i of the path, pays on arrival on date i + 1
   unfoldable pub walkPaid : List ℕ → List ℕ → ℕ → ℕ
   walkPaid table numbers i = X .process .paid (walkHeld table numbers i) (getD numbers i 0)
 
-  -- "N cash amounts .. in order, the last being the maturity payment"; (iv) "A walk adds 10,000 × the excess to the cash of
-  -- the date reached."
+  -- (iv) "A walk adds 10,000 × the excess to the cash of the date reached": of date j + 1, where an amount is withdrawn ..
+  unfoldable pub walkCashOn : List ℕ → List ℕ → ℕ → ℕ
+  walkCashOn table numbers j =
+      walkPaid table numbers j + X .process .cash (suc j) (walkState table numbers (suc j)) (walkAmount table numbers (suc j))
+
+  -- .. and of maturity
+  unfoldable pub walkCashLast : List ℕ → List ℕ → ℕ
+  walkCashLast table numbers = walkPaid table numbers decisions + X .process .final (walkState table numbers (X .process .dates))
+
+  -- "N cash amounts .. in order, the last being the maturity payment"
   unfoldable pub walkCash : List ℕ → List ℕ → List ℕ
-  walkCash table numbers =
-      tabulate decisions (λ j.
-      walkPaid table numbers j + X .process .cash (suc j) (walkState table numbers (suc j)) (walkAmount table numbers (suc j)))
-      ++ ((walkPaid table numbers decisions + X .process .final (walkState table numbers (X .process .dates))) ∷ [])
+  walkCash table numbers = tabulate decisions (walkCashOn table numbers) ++ (walkCashLast table numbers ∷ [])
 
   -- ---- the third demand
   -- behaviour a has at most the value of b, for the contract and in every state of every date

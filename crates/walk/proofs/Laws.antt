@@ -16,7 +16,7 @@ use Rattle.slices.specs.Stored.{stored, stored-front}
 use Rattle.decision.specs.Layers.{lookup}
 use Rattle.rules.specs.Contract.{Terms, topMost, factorMost, termsOf, Returns, returnsOf}
 use Rattle.rules.specs.Date.{dynamic, freeAmount, admits, balanceAfter, guaranteeAfter}
-use Rattle.rules.specs.Product.{walkState, walkAmount, walkHeld, walkPaid, walkCash}
+use Rattle.rules.specs.Product.{walkState, walkAmount, walkHeld, walkPaid, walkCashOn, walkCashLast, walkCash}
 use Rattle.rules.specs.FixedTerm.{State, Held, startOf, reachBy, paidBy, afterIn, cashIn, freeIn, admissibleIn, processOf}
 use Rattle.rules.specs.FixedTerm.{layoutOf, fixedTerm}
 use Rattle.rules.specs.Refusals.{Verdict, accepted, refused, verdict, numberOf, placeOf, onSuccess, recordChecks, listChecks}
@@ -30,7 +30,7 @@ use Rattle.dates.specs.Layer.{DateLayer, entry-within, layer-long, layer-entry}
 use Rattle.laws.specs.Date.{account-le, amount-most, guarantee-le, dynamic-is, excess-paid-le}
 use Rattle.laws.specs.Walk.{walk-first, walk-next, walk-after}
 use Rattle.walk.specs.declared.Place.{Place}
-use Rattle.walk.specs.Walked.{Walking, arrivalOf, Met, paid, paidLast, Walked}
+use Rattle.walk.specs.Walked.{Walking, arrivalOf, Met, Walked}
 
 module _ {c : Terms} {count : ℕ} {list table path : List ℕ} (h : Walking c count list table path) where
   -- the factors on the path are those of returns
@@ -99,10 +99,10 @@ module _ {c : Terms} {rs : Returns} {table path : List ℕ} {i : ℕ} {p : Place
       ap (λ (n : ℕ). not (admissibleIn c dynamic (walkState (fixedTerm c rs) table path n) (walkAmount (fixedTerm c rs) table path n))) up
       ∙ ap (λ (s : State). not (admissibleIn c dynamic s (walkAmount (fixedTerm c rs) table path i))) (m .state)
 
-  pub paid-is : p .paid + cashIn c i (at (p .account) (p .guarantee)) (walkAmount (fixedTerm c rs) table path i)
-      ≡ paid c rs table path (i - 1)
-  unfolding paid
-  paid-is =
+  pub cash-is : p .paid + cashIn c i (at (p .account) (p .guarantee)) (walkAmount (fixedTerm c rs) table path i)
+      ≡ walkCashOn (fixedTerm c rs) table path (i - 1)
+  unfolding walkCashOn fixedTerm processOf
+  cash-is =
       ap₂ _+_ (m .paid)
       (sym (ap (λ (n : ℕ). cashIn c n (walkState (fixedTerm c rs) table path n) (walkAmount (fixedTerm c rs) table path n)) up
       ∙ ap (λ (s : State). cashIn c i s (walkAmount (fixedTerm c rs) table path i)) (m .state)))
@@ -125,15 +125,15 @@ module _ {c : Terms} {rs : Returns} {table path : List ℕ} {i : ℕ} {p : Place
 
 -- the cash as the rules list it
 cash-list : (c : Terms) (rs : Returns) (table path cashes : List ℕ) → 1 ≤ c .dates → c .dates ≤ length cashes
-    → set (stored cashes 0 (paid c rs table path) (c .dates - 1)) (c .dates - 1) (paidLast c rs table path)
+    → set (stored cashes 0 (walkCashOn (fixedTerm c rs) table path) (c .dates - 1)) (c .dates - 1) (walkCashLast (fixedTerm c rs) table path)
     ≡ walkCash (fixedTerm c rs) table path ++ drop (c .dates) cashes
-unfolding walkCash walkPaid fixedTerm processOf paid
+unfolding walkCash fixedTerm processOf
 cash-list c rs table path cashes some room =
     let n = c .dates - 1 in
     let up : suc n ≡ c .dates = omega arith in
-    ap (λ (xs : List ℕ). set xs n (paidLast c rs table path)) (stored-front cashes (paid c rs table path) n (omega arith))
-    ∙ last-set n (tabulate n (paid c rs table path)) cashes (paidLast c rs table path) (length-tabulate n (paid c rs table path)) (omega arith)
-    ∙ ap (λ (k : ℕ). tabulate n (paid c rs table path) ++ (paidLast c rs table path ∷ []) ++ drop k cashes) up
+    ap (λ (xs : List ℕ). set xs n (walkCashLast (fixedTerm c rs) table path)) (stored-front cashes (walkCashOn (fixedTerm c rs) table path) n (omega arith))
+    ∙ last-set n (tabulate n (walkCashOn (fixedTerm c rs) table path)) cashes (walkCashLast (fixedTerm c rs) table path) (length-tabulate n (walkCashOn (fixedTerm c rs) table path)) (omega arith)
+    ∙ ap (λ (k : ℕ). tabulate n (walkCashOn (fixedTerm c rs) table path) ++ (walkCashLast (fixedTerm c rs) table path ∷ []) ++ drop k cashes) up
   where
     last-set : (n : ℕ) (xs ys : List ℕ) (y : ℕ) → length xs ≡ n → n < length ys → set (xs ++ drop n ys) n y ≡ xs ++ (y ∷ []) ++ drop (suc n) ys
     last-set n xs ys y e l =
@@ -149,7 +149,7 @@ module _ {c : Terms} {rs : Returns} {v : Verdict} {table path cashes : List ℕ}
   walked-refused n p r e f = record { outcome-is = rw e f; cash-is = rw e }
 
   pub walked-accepted : (r : Outcome) (cashes' : List ℕ) → v ≡ accepted → 1 ≤ c .dates → c .dates ≤ length cashes → r ≡ outcomeAt 0 0
-      → cashes' ≡ set (stored cashes 0 (paid c rs table path) (c .dates - 1)) (c .dates - 1) (paidLast c rs table path)
+      → cashes' ≡ set (stored cashes 0 (walkCashOn (fixedTerm c rs) table path) (c .dates - 1)) (c .dates - 1) (walkCashLast (fixedTerm c rs) table path)
       → Walked c rs v table path cashes r cashes'
   unfolding onSuccess numberOf placeOf
   walked-accepted r cashes' e some room f g = record { outcome-is = rw e f; cash-is = rw e (g ∙ cash-list c rs table path cashes some room) }

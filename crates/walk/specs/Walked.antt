@@ -1,12 +1,12 @@
 -- Walking a path: what the loops hand to each other. Assumes nothing.
 use mathlib.Core.List.{List, _++_}
 use mathlib.Core.Path.{_≡_}
-use Prim.Native.Nat.{ℕ, suc, _+_, _-_, _*_, _≤_, _<_}
+use Prim.Native.Nat.{ℕ, _-_, _*_, _≤_, _<_}
 use lib.ListN.{getD, length, drop}
 use Rattle.rules.specs.Contract.{Terms, Returns}
-use Rattle.rules.specs.Date.{nextAccount, excessPaid, maturityValue}
-use Rattle.rules.specs.Product.{walkState, walkAmount, walkPaid, walkCash}
-use Rattle.rules.specs.FixedTerm.{cashIn, fixedTerm}
+use Rattle.rules.specs.Date.{nextAccount, excessPaid}
+use Rattle.rules.specs.Product.{walkState, walkPaid, walkCash}
+use Rattle.rules.specs.FixedTerm.{fixedTerm}
 use Rattle.rules.specs.Refusals.{Verdict, onSuccess}
 use Rattle.rules.specs.Operations.{tableSize}
 use Rattle.laws.specs.Accepted.{Valid}
@@ -39,17 +39,6 @@ pub record Met (c : Terms) (rs : Returns) (table path : List ℕ) (i : ℕ) (p :
   pub account : p .account ≤ c .top
   pub guarantee : p .guarantee ≤ c .premium
   pub paid-small : p .paid ≤ 20000 * c .top
-
--- the cash of date suc j, the last of them the maturity payment, each with what is paid on arrival
-unfoldable pub paid : Terms → Returns → List ℕ → List ℕ → ℕ → ℕ
-paid c rs table path j =
-    walkPaid (fixedTerm c rs) table path j
-    + cashIn c (suc j) (walkState (fixedTerm c rs) table path (suc j)) (walkAmount (fixedTerm c rs) table path (suc j))
-
-abbrev pub paidLast : Terms → Returns → List ℕ → List ℕ → ℕ
-paidLast c rs table path =
-    let s = walkState (fixedTerm c rs) table path (c .dates) in
-    walkPaid (fixedTerm c rs) table path (c .dates - 1) + maturityValue (s .account) (s .guarantee)
 
 -- the outcome of a verdict, and the cash slice
 pub record Walked (c : Terms) (rs : Returns) (v : Verdict) (table path cashes : List ℕ) (r : Outcome) (cashes' : List ℕ) : Type 0 where

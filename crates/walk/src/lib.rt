@@ -8,7 +8,7 @@ ghost use Rattle.decision.specs.Index.{first};
 ghost use Rattle.slices.specs.Stored.{stored};
 ghost use Rattle.rules.specs.Contract.{topMost, factorMost, returnsOf};
 ghost use Rattle.rules.specs.Date.{dynamic, freeAmount, admits, nextAccount, excessPaid, maturityValue};
-ghost use Rattle.rules.specs.Product.{walkAmount};
+ghost use Rattle.rules.specs.Product.{walkAmount, walkCashOn, walkCashLast};
 ghost use Rattle.rules.specs.FixedTerm.{cashIn, fixedTerm};
 ghost use Rattle.rules.specs.Refusals.{short, verdict};
 ghost use Rattle.rules.specs.Operations.{tableSize, badDate, pathChecks, walkVerdict, walkCashes};
@@ -16,7 +16,7 @@ ghost use Rattle.laws.specs.Accepted.{Valid};
 ghost use Rattle.contract.specs.Reading.{termsIn, outcomeAt, outcomeOf};
 ghost use Rattle.dates.specs.Back.{at};
 ghost use Rattle.valuing.specs.Answered.{Ready};
-ghost use Rattle.walk.specs.Walked.{Walking, Met, paid, paidLast, Walked};
+ghost use Rattle.walk.specs.Walked.{Walking, Met, Walked};
 use contract::Agreement;
 use contract::Contract;
 use contract::Outcome;
@@ -214,10 +214,10 @@ fn pay(c: Contract, list: &[u8], count: usize, table: &[u16], path: &[u16], cash
         now (cash .exit)
         ≡ set
         (stored (now (cash .entry)) 0
-        (paid (termsIn c) (returnsOf (now (list .entry))) (now (table .entry)) (now (path .entry)))
+        (walkCashOn (fixedTerm (termsIn c) (returnsOf (now (list .entry)))) (now (table .entry)) (now (path .entry)))
         (c .dates - 1))
         (c .dates - 1)
-        (paidLast (termsIn c) (returnsOf (now (list .entry))) (now (table .entry)) (now (path .entry)))
+        (walkCashLast (fixedTerm (termsIn c) (returnsOf (now (list .entry)))) (now (table .entry)) (now (path .entry)))
         ⌝ }
 {
     let mut place = first_place(c, list, count, table, path);

@@ -2,7 +2,7 @@
 use Prim.Native.Nat.{_+_}
 use native.Mathlib.Omega.{arith}
 use Rattle.decision.specs.Index.{sum-append, sum-next}
-use Rattle.expect.proofs.Laws.{run-part, summed-open, summed-more}
+use Rattle.expect.proofs.Laws.{run-part, summed-adding, summed-more}
 use Rattle.expect.proofs.add_next.Statement.{statement}
 use Rattle.expect.proofs.add_next.Tie as tie
 
@@ -13,7 +13,7 @@ add-eight-requires : tie.Need-add-eight-requires
 add-eight-requires c κs =
     let start = c .before .before .before .before in
     let pre = start .pre in
-    (run-part (pre .0) (start .args .k + 8) (c .before .if1 .taken), summed-open (pre .0) (pre .1) (pre .3) (omega arith))
+    (run-part (pre .0) (start .args .k + 8) (c .before .if1 .taken), summed-adding (pre .0) (pre .1) (pre .3) (omega arith))
 
 add-result : tie.Need-add-result
 add-result c = omega (arith, c .before .before .before .before .before .pre .0 .few)
@@ -29,7 +29,7 @@ add-one-requires : tie.Need-add-one-requires
 add-one-requires c κs =
     let start = c .before .before .before .before in
     let pre = start .pre in
-    (run-part (pre .0) (start .args .k + 1) (omega arith), summed-open (pre .0) (pre .1) (pre .3) (omega arith))
+    (run-part (pre .0) (start .args .k + 1) (omega arith), summed-adding (pre .0) (pre .1) (pre .3) (omega arith))
 
 add-result-2 : tie.Need-add-result-2
 add-result-2 c = omega (arith, c .before .before .before .before .before .pre .0 .few)

@@ -31,7 +31,7 @@ module _ (c : tie.After-weights2) where
       * (start .args .c .premium + 1)
   starts-are = filled _ _ _ (c .before .before .fill-starts .ensures .1) (start .pre .0 .few)
 
-  balance : Balance (termsIn (start .args .c)) (start .args .work .now) (start .args .list .now) weights
+  balance : Balance (termsIn (start .args .c)) 0 (start .args .work .now) (start .args .list .now) weights
       (start .args .count) (start .args .c .discount) (stateMost (termsIn (start .args .c)) 1) (c .before .before .fill-starts .result)
       (start .args .c .premium) (start .args .c .premium + 1) ((start .args .c .top + 1) * (start .args .c .premium + 1))
   balance =

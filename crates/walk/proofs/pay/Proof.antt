@@ -7,11 +7,12 @@ use native.Mathlib.Omega.{arith}
 use Rattle.contract.specs.Reading.{termsIn}
 use Rattle.rules.specs.Contract.{returnsOf}
 use Rattle.rules.specs.Date.{maturityValue}
-use Rattle.rules.specs.FixedTerm.{State, cashIn}
+use Rattle.rules.specs.Product.{walkCashOn, walkCashLast}
+use Rattle.rules.specs.FixedTerm.{State, cashIn, processOf, fixedTerm}
 use Rattle.dates.specs.Back.{at}
 use Rattle.slices.specs.Stored.{stored, stored-push, length-stored}
-use Rattle.walk.specs.Walked.{Met, paid}
-use Rattle.walk.proofs.Laws.{amount-within, amount-small, paid-is, met-up}
+use Rattle.walk.specs.Walked.{Met}
+use Rattle.walk.proofs.Laws.{amount-within, amount-small, cash-is, met-up}
 use Rattle.walk.proofs.pay.Statement.{statement}
 use Rattle.walk.proofs.pay.Tie as tie
 
@@ -20,7 +21,7 @@ Inv-loop c list count table path cash₀ place₀ i₀ cash place i =
     (0 < i)
     × (i ≤ c .dates)
     × Met (termsIn c) (returnsOf list) table path i place
-    × (cash ≡ stored cash₀ 0 (paid (termsIn c) (returnsOf list) table path) (i - 1))
+    × (cash ≡ stored cash₀ 0 (walkCashOn (fixedTerm (termsIn c) (returnsOf list)) table path) (i - 1))
 
 abbrev μ-loop : tie.MeasureT-loop
 μ-loop c list count table path cash₀ place₀ i₀ cash place i = c .dates - i
@@ -54,7 +55,7 @@ mul-cash c =
     let loop = c .before .before .before .before .loop in
     let z =
     ap length (loop .inv .3)
-    ∙ length-stored (args .cash .now) 0 (paid (termsIn (args .c)) (returnsOf (args .list .now)) (args .table .now) (args .path .now)) (loop .i - 1) in
+    ∙ length-stored (args .cash .now) 0 _ (loop .i - 1) in
     omega (arith, pre .1, loop .inv .1)
 
 slice-write-cash : tie.Need-slice-write-cash Inv-loop μ-loop
@@ -64,7 +65,7 @@ slice-write-cash c =
     let loop = c .before .before .before .before .loop in
     let z =
     ap length (loop .inv .3)
-    ∙ length-stored (args .cash .now) 0 (paid (termsIn (args .c)) (returnsOf (args .list .now)) (args .table .now) (args .path .now)) (loop .i - 1) in
+    ∙ length-stored (args .cash .now) 0 _ (loop .i - 1) in
     omega (arith, pre .1, loop .inv .1, loop .inv .0)
 
 next-place-requires : tie.Need-next-place-requires Inv-loop μ-loop
@@ -92,12 +93,12 @@ loop-again c =
     let args = c .before .before .before .before .before .before .before .before .before .before .before .args in
     let loop = c .before .before .before .before .before .loop in
     let i' = loop .i in
-    let cashes = paid (termsIn (args .c)) (returnsOf (args .list .now)) (args .table .now) (args .path .now) in
+    let cashes = walkCashOn (fixedTerm (termsIn (args .c)) (returnsOf (args .list .now))) (args .table .now) (args .path .now) in
     let cash-is =
     c .before .cash-on .ensures
     ∙ ap (λ (t : ℕ). loop .place .paid + cashIn (termsIn (args .c)) i' (at (loop .place .account) (loop .place .guarantee)) t)
     (c .before .before .amount-on .ensures)
-    ∙ paid-is (loop .inv .2) (loop .inv .0) in
+    ∙ cash-is (loop .inv .2) (loop .inv .0) in
     let up : i' - 1 + 1 ≡ i' + 1 - 1 = omega (arith, loop .inv .0) in (
       omega arith,
       omega arith,
@@ -125,7 +126,7 @@ mul-cash-2 c =
     let loop = c .before .before .before .before .loop in
     let z =
     ap length (loop .inv .3)
-    ∙ length-stored (args .cash .now) 0 (paid (termsIn (args .c)) (returnsOf (args .list .now)) (args .table .now) (args .path .now)) (loop .i - 1) in
+    ∙ length-stored (args .cash .now) 0 _ (loop .i - 1) in
     omega (arith, pre .1, pre .0 .valid .dates)
 
 slice-write-cash-2 : tie.Need-slice-write-cash-2 Inv-loop μ-loop
@@ -135,13 +136,14 @@ slice-write-cash-2 c =
     let loop = c .before .before .before .before .loop in
     let z =
     ap length (loop .inv .3)
-    ∙ length-stored (args .cash .now) 0 (paid (termsIn (args .c)) (returnsOf (args .list .now)) (args .table .now) (args .path .now)) (loop .i - 1) in
+    ∙ length-stored (args .cash .now) 0 _ (loop .i - 1) in
     omega (arith, pre .1, pre .0 .valid .dates-least)
 
 same-length : tie.Need-same-length Inv-loop μ-loop
 same-length c = length-set (c .before .before .before .before .loop .cash) _ _ ∙ ap length (c .before .before .before .before .loop .inv .3) ∙ length-stored _ _ _ _
 
 returns : tie.Need-returns Inv-loop μ-loop
+unfolding walkCashLast fixedTerm processOf
 returns c =
     let args = c .before .before .before .before .before .before .before .before .before .before .args in
     let table₀ = args .table .now in
@@ -153,7 +155,7 @@ returns c =
     let e : loop .i ≡ args .c .dates = omega (arith, loop .inv .1, if1 .left) in
     let met = subst (λ (n : ℕ). Met (termsIn c₀) (returnsOf list₀) table₀ path₀ n (loop .place)) e (loop .inv .2) in
     let filled =
-    loop .inv .3 ∙ ap (λ (n : ℕ). stored (args .cash .now) 0 (paid (termsIn c₀) (returnsOf list₀) table₀ path₀) (n - 1)) e in
+    loop .inv .3 ∙ ap (λ (n : ℕ). stored (args .cash .now) 0 (walkCashOn (fixedTerm (termsIn c₀) (returnsOf list₀)) table₀ path₀) (n - 1)) e in
     let last =
     c .cash-last .ensures
     ∙ ap₂ _+_ (met .paid) (sym (ap (λ (s : State). maturityValue (s .account) (s .guarantee)) (met .state))) in
