@@ -1,12 +1,14 @@
 -- What holds of terms and returns that no condition turns away. Assumes nothing.
-use mathlib.Core.Bool.{Bool, true, false, cond, not, _||_}
+use mathlib.Core.Bool.{Bool, true, false, cond, not, _&&_, _||_}
 use mathlib.Core.List.{List, [], _∷_, _++_}
-use mathlib.Core.Path.{_≡_, refl, ap, _∙_}
+use mathlib.Core.Logic.{_↔_}
+use mathlib.Core.Path.{_≡_, refl, ap, _∙_, subst}
 use Prim.Native.Nat.{ℕ, _+_, _*_, _/_, _%_, _≤_, _<_}
 use native.Mathlib.Omega.{arith}
-use lib.Dec.{T, ltb, eqb, eqb→eq, nltb→le, not-T}
+use lib.Dec.{T, ltb, eqb, eqb→eq, eqb-refl, nltb→le, not-T, T-not}
 use lib.ListN.{length}
 use Rattle.decision.specs.Index.{sum, first, first-is}
+use Rattle.decision.specs.Choice.{and-left, and-right}
 use Rattle.rules.specs.Contract.{Terms, Returns, termsOf, topMost, datesMost, rateMost, discountMost, returnBytes, returnsOf, returnsMost, factorMost, weightMost, weightTotal}
 use Rattle.rules.specs.Refusals.{Check, checkEach, Verdict, accepted, refused, verdict, numbers, numberOf, placeOf, onSuccess, outside, termsChecks, recordChecks, badReturn, listChecks}
 
@@ -228,3 +230,61 @@ no-place (k ∷ ks) (e, p) = go (k .failed) (no-place ks p)
     go : (b : Bool) → placeOf (verdict ks) ≡ 0 → placeOf (cond b (refused (k .number) (k .place)) (verdict ks)) ≡ 0
     go true x = e
     go false x = x
+
+-- ---- a refusal comes under its written condition and no other
+-- a number that no check has
+unfoldable pub Absent : ℕ → List ℕ → Type 0
+Absent n [] = Unit {0}
+Absent n (m ∷ ms) = (m ≡ n → ⊥) × Absent n ms
+
+-- .. as a test finds it
+unfoldable pub apart : ℕ → List ℕ → Bool
+apart n [] = true
+apart n (m ∷ ms) = not (eqb m n) && apart n ms
+
+pub absent : (n : ℕ) (ms : List ℕ) → T (apart n ms) → Absent n ms
+unfolding apart Absent
+absent n [] t = tt
+absent n (m ∷ ms) t = (
+  λ e. T-not (eqb m n) (and-left (not (eqb m n)) (apart n ms) t) (subst (λ (x : ℕ). T (eqb m x)) e (eqb-refl m)),
+  absent n ms (and-right (not (eqb m n)) (apart n ms) t),
+)
+
+not-refused : (ks : List Check) (n p : ℕ) → Absent n (numbers ks) → verdict ks ≡ refused n p → ⊥
+unfolding numbers numberOf Absent verdict
+not-refused [] n p a e = let z : _≡_ {A = ℕ} 0 1 = cc in omega arith
+not-refused (k ∷ ks) n p (apart, a) e = go (k .failed) e (not-refused ks n p a)
+  where
+    go : (b : Bool) → cond b (refused (k .number) (k .place)) (verdict ks) ≡ refused n p → (verdict ks ≡ refused n p → ⊥) → ⊥
+    go true x later = apart (ap numberOf x)
+    go false x later = later x
+
+-- EACH REFUSAL: with its number and place exactly where every check before it passes and its own fails
+pub refused-iff : (ks : List Check) (k : Check) (ls : List Check) → Absent (k .number) (numbers ks) → Absent (k .number) (numbers ls)
+    → (verdict (ks ++ (k ∷ ls)) ≡ refused (k .number) (k .place)) ↔ (AllPass ks × T (k .failed))
+unfolding numbers numberOf Absent verdict AllPass
+refused-iff [] k ls a b = (λ e. (tt, fails (k .failed) e), λ (t, f). does (k .failed) f)
+  where
+    fails : (x : Bool) → cond x (refused (k .number) (k .place)) (verdict ls) ≡ refused (k .number) (k .place) → T x
+    fails true e = tt
+    fails false e = absurd (not-refused ls (k .number) (k .place) b e)
+
+    does : (x : Bool) → T x → cond x (refused (k .number) (k .place)) (verdict ls) ≡ refused (k .number) (k .place)
+    does true t = refl
+    does false t = absurd t
+refused-iff (c ∷ ks) k ls (apart, a) b =
+    let later = refused-iff ks k ls a b in
+    (λ e. passes-first (c .failed) e (later .0), λ ((t, ts), f). does (c .failed) t (later .1 (ts, f)))
+  where
+    rest : Verdict
+    rest = verdict (ks ++ (k ∷ ls))
+
+    passes-first : (x : Bool) → cond x (refused (c .number) (c .place)) rest ≡ refused (k .number) (k .place)
+        → (rest ≡ refused (k .number) (k .place) → AllPass ks × T (k .failed)) → (T (not x) × AllPass ks) × T (k .failed)
+    passes-first true e later = absurd (apart (ap numberOf e))
+    passes-first false e later = let p = later e in ((tt, p .0), p .1)
+
+    does : (x : Bool) → T (not x) → rest ≡ refused (k .number) (k .place)
+        → cond x (refused (c .number) (c .place)) rest ≡ refused (k .number) (k .place)
+    does true t e = absurd t
+    does false t e = e
