@@ -1,6 +1,6 @@
 //! `check`: all programs against the plain one on random small contracts, with ties frequent,
-//! many with returns that lift accounts above top, some spoilt so that they are refused; without
-//! a map of surrender and with one.
+//! many with returns that lift accounts above top, most with death rates, some spoilt so that they
+//! are refused; without a map of surrender and with one.
 
 use crate::inputs::{Input, Return, Terms, DYNAMIC, SPARE};
 use crate::programs::{Program, ENGINE, ENGINE_MAP, PLAIN, PLAIN_MAP, TUNED, TUNED_MAP};
@@ -65,6 +65,17 @@ fn random_returns(draw: &mut Draw) -> Vec<Return> {
     returns
 }
 
+/// Zero rates for one contract in eight, death for certain throughout for another.
+fn random_rates(draw: &mut Draw, dates: u16) -> Vec<u16> {
+    let kind = draw.within(0, 7);
+    let mut rate = || match kind {
+        0 => 0,
+        1 => 10_000,
+        _ => draw.one_of(&[0, 1, 100, 500, 9_999, 10_000], 0, 10_000),
+    };
+    (0..dates).map(|_| rate() as u16).collect()
+}
+
 /// Puts the premium near top and lifts most factors.
 fn lift(draw: &mut Draw, terms: &mut Terms, returns: &mut [Return]) {
     let (top, premium) = (u64::from(terms.top), u64::from(terms.premium));
@@ -77,7 +88,7 @@ fn lift(draw: &mut Draw, terms: &mut Terms, returns: &mut [Return]) {
 /// Changes one thing. Most of the changes are refused.
 fn spoil(draw: &mut Draw, input: &mut Input) {
     let byte = draw.next() as u8;
-    match draw.within(0, 7) {
+    match draw.within(0, 10) {
         0 => input.behaviour = 3,
         1 => input.work_len -= SPARE + 1,
         2 => input.table_len = input.table_len.saturating_sub(SPARE + 1),
@@ -85,6 +96,16 @@ fn spoil(draw: &mut Draw, input: &mut Input) {
         4 => input.record.truncate(draw.within(0, 19) as usize),
         5 => input.record[draw.within(0, 19) as usize] = byte,
         6 => input.map_len = input.map_len.saturating_sub(SPARE + 1),
+        7 => {
+            let longer = input.rates.len() as u64 + 3;
+            input.rates.resize(draw.within(0, longer) as usize, 0);
+        }
+        8 | 9 => {
+            let last = input.rates.len() as u64 / 2 - 1;
+            let at = 2 * draw.within(0, last) as usize;
+            let rate = draw.one_of(&[10_001, 65_535], 0, 65_535) as u16;
+            input.rates[at..at + 2].copy_from_slice(&rate.to_le_bytes());
+        }
         _ => {
             let last = input.list.len() as u64 - 1;
             input.list[draw.within(0, last) as usize] = byte;
@@ -94,7 +115,7 @@ fn spoil(draw: &mut Draw, input: &mut Input) {
 
 /// The highest account, the most dates and the largest factor: values near the largest, where
 /// discount × sum passes 64 bits.
-fn large_values(behaviour: u64) -> Input {
+fn large_values(rate: u16, behaviour: u64) -> Input {
     let terms = Terms {
         premium: 1,
         level: 1,
@@ -105,7 +126,7 @@ fn large_values(behaviour: u64) -> Input {
         discount: 1_000_000,
         step: 0,
     };
-    terms.input(&[(30_000, 10_000)], behaviour)
+    terms.input(&[(30_000, 10_000)], &[rate; 40], behaviour)
 }
 
 /// The plain program, then the others, without a map and with one.
@@ -146,17 +167,18 @@ pub fn run() -> bool {
         if k % 3 == 0 {
             lift(&mut draw, &mut terms, &mut returns);
         }
+        let rates = random_rates(&mut draw, terms.dates);
         for behaviour in 0..=DYNAMIC {
-            let mut input = terms.input(&returns, behaviour);
+            let mut input = terms.input(&returns, &rates, behaviour);
             let name = format!("contract {k}, behaviour {behaviour}");
             compare(name.clone(), &input);
             spoil(&mut draw, &mut input);
             compare(format!("spoilt {name}"), &input);
         }
     }
-    for behaviour in 0..=DYNAMIC {
-        let name = format!("large values, behaviour {behaviour}");
-        compare(name, &large_values(behaviour));
+    for (rate, behaviour) in [(0, 0), (0, 1), (0, DYNAMIC), (1, 0), (1, 1), (1, DYNAMIC)] {
+        let name = format!("large values, rates {rate}, behaviour {behaviour}");
+        compare(name, &large_values(rate, behaviour));
     }
     println!("check: {valued} valued, {refused} refused, {differing} differ");
     differing == 0

@@ -28,6 +28,7 @@ pub type Return = (u16, u16);
 pub struct Input {
     pub record: Vec<u8>,
     pub list: Vec<u8>,
+    pub rates: Vec<u8>,
     pub behaviour: u64,
     pub work_len: usize,
     pub table_len: usize,
@@ -36,7 +37,8 @@ pub struct Input {
 }
 
 impl Terms {
-    pub fn input(&self, returns: &[Return], behaviour: u64) -> Input {
+    /// With a death rate for each period.
+    pub fn input(&self, returns: &[Return], rates: &[u16], behaviour: u64) -> Input {
         let words = [
             self.premium,
             self.level,
@@ -59,6 +61,7 @@ impl Terms {
         Input {
             record,
             list,
+            rates: rates.iter().flat_map(|rate| rate.to_le_bytes()).collect(),
             behaviour,
             work_len: 2 * layer + SPARE,
             table_len: entries + SPARE,
@@ -79,8 +82,11 @@ pub struct Size {
     pub highest: u16,
     pub penalty: u16,
     pub step: u16,
+    /// The death rates of the first period and of the last.
+    pub deaths: (u16, u16),
 }
 
+/// With zero death rates.
 pub const fn size(top: u16, premium: u16, level: u16, dates: u16, returns: u16) -> Size {
     Size {
         top,
@@ -91,6 +97,7 @@ pub const fn size(top: u16, premium: u16, level: u16, dates: u16, returns: u16) 
         highest: 16_000,
         penalty: 500,
         step: 0,
+        deaths: (0, 0),
     }
 }
 
@@ -106,7 +113,16 @@ impl Size {
             discount: 970_000,
             step: self.step,
         };
-        terms.input(&spread(self.returns.into(), self.highest), behaviour)
+        let returns = spread(self.returns.into(), self.highest);
+        terms.input(&returns, &self.rates(), behaviour)
+    }
+
+    /// Evenly risen from the first to the last.
+    fn rates(&self) -> Vec<u16> {
+        let (first, last) = self.deaths;
+        let periods = u32::from(self.dates);
+        let risen = |i: u32| u32::from(last - first) * i / (periods - 1).max(1);
+        (0..periods).map(|i| first + risen(i) as u16).collect()
     }
 
     /// How many values the plain program looks up: one for each return of each amount of

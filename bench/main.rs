@@ -45,6 +45,14 @@ const fn lifting(size: Size) -> Size {
     }
 }
 
+/// A size with death rates, none of them zero.
+const fn dying(size: Size) -> Size {
+    Size {
+        deaths: (100, 500),
+        ..size
+    }
+}
+
 /// How much the engine passes over depends on what withdrawing above m costs.
 const PENALTIES: [Size; 5] = [
     at_penalty(0),
@@ -63,8 +71,8 @@ const STEPS: [Size; 5] = [
     at_step(500),
 ];
 
-/// In the last row values could be so large that discount × sum passes 64 bits.
-const TIMED: [(&str, u64, Size); 10] = [
+/// Where top is 4,000 values could be so large that discount × sum passes 64 bits.
+const TIMED: [(&str, u64, Size); 15] = [
     ("dynamic", DYNAMIC, size(100, 50, 5, 10, 8)),
     ("dynamic", DYNAMIC, size(400, 200, 10, 20, 32)),
     ("dynamic", DYNAMIC, size(400, 400, 20, 20, 32)),
@@ -87,6 +95,19 @@ const TIMED: [(&str, u64, Size); 10] = [
         DYNAMIC,
         lifting(size(4_000, 40, 4, 40, 32)),
     ),
+    ("dynamic, deaths", DYNAMIC, dying(size(100, 50, 5, 10, 8))),
+    (
+        "dynamic, deaths",
+        DYNAMIC,
+        dying(size(400, 200, 10, 20, 32)),
+    ),
+    (
+        "dynamic, deaths",
+        DYNAMIC,
+        dying(size(400, 400, 20, 20, 32)),
+    ),
+    ("static, deaths", STATIC, dying(size(400, 200, 10, 20, 32))),
+    ("mixed, deaths", MIXED, dying(size(400, 200, 10, 20, 32))),
 ];
 
 /// Tables of growth: a heading, and sizes of which each doubles one thing.
@@ -122,68 +143,84 @@ const GROWTH: [(&str, &[Size]); 3] = [
 ];
 
 /// The runs of one program on one input.
-struct Timing {
+struct Timing<'a> {
     program: Program,
+    input: &'a Input,
     outcome: Outcome,
-    best: f64,
+    /// Seconds of each run, and of all.
+    runs: Vec<f64>,
     spent: f64,
-    runs: usize,
 }
 
-impl Timing {
-    fn first_run(program: Program, input: &Input) -> Timing {
+impl Timing<'_> {
+    fn first_run(program: Program, input: &Input) -> Timing<'_> {
         let (outcome, seconds) = program.run(input);
         Timing {
             program,
+            input,
             outcome,
-            best: seconds,
+            runs: vec![seconds],
             spent: seconds,
-            runs: 1,
         }
     }
 
     fn is_done(&self) -> bool {
-        self.spent >= SECONDS || self.spent >= 1.0 && self.runs >= ENOUGH_RUNS
+        self.spent >= SECONDS || self.spent >= 1.0 && self.runs.len() >= ENOUGH_RUNS
     }
 
-    fn run_again(&mut self, input: &Input) {
-        let (_, seconds) = self.program.run(input);
-        self.best = self.best.min(seconds);
+    fn run_again(&mut self) {
+        let (_, seconds) = self.program.run(self.input);
+        self.runs.push(seconds);
         self.spent += seconds;
-        self.runs += 1;
+    }
+
+    fn best(&self) -> f64 {
+        self.runs.iter().copied().fold(f64::MAX, f64::min)
+    }
+
+    fn median(&self) -> f64 {
+        let mut runs = self.runs.clone();
+        runs.sort_by(f64::total_cmp);
+        runs[runs.len() / 2]
     }
 }
 
-/// Runs the programs in turn, so that a busy spell of the machine meets them all.
-fn run_in_turn(programs: &[Program], input: &Input) -> Vec<Timing> {
-    let first_run = |program: &Program| Timing::first_run(*program, input);
-    let mut timings: Vec<Timing> = programs.iter().map(first_run).collect();
+/// Runs programs on inputs in turn, so that a busy spell of the machine meets them all. Gives also
+/// whether no outcome is a refusal and each equals the first one on the same input.
+fn run_in_turn<'a>(pairs: &[(Program, &'a Input)]) -> (Vec<Timing<'a>>, bool) {
+    let first_run = |pair: &(Program, &'a Input)| Timing::first_run(pair.0, pair.1);
+    let mut timings: Vec<Timing> = pairs.iter().map(first_run).collect();
     while timings.iter().any(|t| !t.is_done()) {
         for timing in timings.iter_mut().filter(|t| !t.is_done()) {
-            timing.run_again(input);
+            timing.run_again();
         }
     }
-    timings
+    let wrong = timings.iter().filter(|t| !is_right(t, &timings)).count();
+    (timings, wrong == 0)
 }
 
-/// Times the programs on one input. Gives the seconds of the best runs, and whether all
-/// outcomes equal the first and none is a refusal.
-fn timed(programs: &[Program], size: &Size, behaviour: u64) -> (Vec<f64>, bool) {
-    let timings = run_in_turn(programs, &size.input(behaviour));
-    let first = &timings[0];
-    let mut right = true;
-    for timing in &timings {
-        let (name, outcome) = (timing.program.name, &timing.outcome);
-        if let Some(what) = outcome.difference(&first.outcome) {
-            eprintln!("differ: {name} from {}: {what}", first.program.name);
-            right = false;
-        }
-        if outcome.told.number != 0 {
-            eprintln!("refused: {name}: {:?}", outcome.told);
-            right = false;
-        }
+fn is_right(timing: &Timing, all: &[Timing]) -> bool {
+    let (name, outcome) = (timing.program.name, &timing.outcome);
+    let on_same = |other: &&Timing| std::ptr::eq(other.input, timing.input);
+    let first = all.iter().find(on_same).unwrap_or(timing);
+    let difference = outcome.difference(&first.outcome);
+    if let Some(what) = &difference {
+        eprintln!("differ: {name} from {}: {what}", first.program.name);
     }
-    (timings.iter().map(|t| t.best).collect(), right)
+    let refused = outcome.told.number != 0;
+    if refused {
+        eprintln!("refused: {name}: {:?}", outcome.told);
+    }
+    difference.is_none() && !refused
+}
+
+/// Times the programs on one input. Gives the seconds of the best runs, and whether they are
+/// right, as `run_in_turn` does.
+fn timed(programs: &[Program], size: &Size, behaviour: u64) -> (Vec<f64>, bool) {
+    let input = size.input(behaviour);
+    let pairs: Vec<(Program, &Input)> = programs.iter().map(|p| (*p, &input)).collect();
+    let (timings, right) = run_in_turn(&pairs);
+    (timings.iter().map(Timing::best).collect(), right)
 }
 
 /// One line of `time_programs`; the seconds are those of engine, tuned and, if it ran, plain.
@@ -207,6 +244,7 @@ fn print_timed(name: &str, s: &Size, seconds: &[f64]) {
 fn time_programs() -> bool {
     println!("seconds, best of several runs; '-' where plain would take minutes");
     println!("returns up to 1.6, where so named up to 3.0: more of them lift a balance above top");
+    println!("zero death rates, where so named 100 to 500");
     println!(
         "behaviour         top    U   G   N  returns      plain     engine      tuned  plain/engine  tuned/engine"
     );
@@ -269,6 +307,11 @@ fn time_rates(heading: &str, name: &str, sizes: &[Size], rate: fn(&Size) -> u16)
     right
 }
 
+/// Three columns: seconds without something, with it, and their ratio.
+fn with_and_without(without: f64, with: f64) -> String {
+    format!("{without:>11.5}{with:>11.5}{:>14.3}", with / without)
+}
+
 /// Engine and tuned with a map of surrender and without.
 fn time_maps() -> bool {
     println!("\nwith a map of surrender (top 400, U 200, G 10, N 20, 32 returns)");
@@ -282,14 +325,44 @@ fn time_maps() -> bool {
         let [engine_map, tuned_map, engine, tuned] = seconds[..] else {
             return false;
         };
-        let columns = |without: f64, with: f64| {
-            format!("{without:>11.5}{with:>11.5}{:>14.3}", with / without)
+        println!(
+            "{name:<8}{}{}{:>14.3}",
+            with_and_without(engine, engine_map),
+            with_and_without(tuned, tuned_map),
+            tuned_map / engine_map
+        );
+    }
+    right
+}
+
+/// Engine and tuned with death rates and with zero rates. Medians, not best runs: what counts is
+/// the ratio of a program to itself.
+fn time_deaths() -> bool {
+    println!("\nwith death rates of 100 to 500 (top 400, U 200, G 10, N 20, 32 returns)");
+    println!("seconds, median of several runs");
+    println!("             engine                             tuned                           with rates");
+    println!("behaviour      zero      rates    rates/zero       zero      rates    rates/zero  tuned/engine");
+    let size = at_penalty(500);
+    let mut right = true;
+    for (name, behaviour) in [("dynamic", DYNAMIC), ("static", STATIC), ("mixed", MIXED)] {
+        let (zero, rates) = (size.input(behaviour), dying(size).input(behaviour));
+        let pairs = [
+            (ENGINE, &zero),
+            (ENGINE, &rates),
+            (TUNED, &zero),
+            (TUNED, &rates),
+        ];
+        let (timings, equal) = run_in_turn(&pairs);
+        right &= equal;
+        let medians: Vec<f64> = timings.iter().map(Timing::median).collect();
+        let [engine_zero, engine, tuned_zero, tuned] = medians[..] else {
+            return false;
         };
         println!(
             "{name:<8}{}{}{:>14.3}",
-            columns(engine, engine_map),
-            columns(tuned, tuned_map),
-            tuned_map / engine_map
+            with_and_without(engine_zero, engine),
+            with_and_without(tuned_zero, tuned),
+            tuned / engine
         );
     }
     right
@@ -307,6 +380,7 @@ fn time_all() -> bool {
     right &= time_rates("penalty rates", "penalty", &PENALTIES, |s| s.penalty);
     right &= time_rates("steps from penalty 2,000", "step", &STEPS, |s| s.step);
     right &= time_maps();
+    right &= time_deaths();
     if right {
         println!(
             "\nnumbers, values, margins, tables, working slices, maps and counts are equal among all that ran"

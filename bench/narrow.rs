@@ -1,5 +1,6 @@
 //! Times the engine against its last edition with 32-bit values, in one process and on the same
-//! inputs. That edition drops what a return lifts above top, so no return here does.
+//! inputs. That edition drops what a return lifts above top, so no return here does, and knows no
+//! death rates, so those of the engine are zero.
 //! Exit status 1 if answers, tables or working slices differ.
 
 // Only sizes are taken from it.
@@ -38,9 +39,10 @@ struct Outcome {
 }
 
 /// A function for one run of an edition's gmwb_value, whose values have entries of the type named,
-/// on freshly filled slices; filling them is not timed.
+/// on freshly filled slices; filling them is not timed. An edition that takes death rates names
+/// them.
 macro_rules! edition {
-    ($run:ident, $call:ident, $entry:ty) => {
+    ($run:ident, $call:ident, $entry:ty $(, $rates:ident)?) => {
         fn $run(input: &Input) -> (Outcome, f64) {
             extern "C" {
                 fn $call(
@@ -48,6 +50,7 @@ macro_rules! edition {
                     record_len: usize,
                     list: *const u8,
                     list_len: usize,
+                    $($rates: *const u8, rates_len: usize,)?
                     behaviour: u64,
                     work: *mut $entry,
                     work_len: usize,
@@ -71,6 +74,7 @@ macro_rules! edition {
                     input.record.len(),
                     input.list.as_ptr(),
                     input.list.len(),
+                    $(input.$rates.as_ptr(), input.$rates.len(),)?
                     input.behaviour,
                     work.as_mut_ptr(),
                     work.len(),
@@ -95,7 +99,7 @@ macro_rules! edition {
     };
 }
 
-edition!(run_wide, gmwb_value, u64);
+edition!(run_wide, gmwb_value, u64, rates);
 // gmwb_value of the 32-bit edition; see bench/run.
 edition!(run_narrow, narrow_value, u32);
 

@@ -8,8 +8,8 @@ use std::time::Instant;
 
 #[derive(Clone, Copy)]
 enum Call {
-    Value(fn(&[u8], &[u8], u64, &mut [u64], &mut [u16]) -> Valued),
-    ValueMap(fn(&[u8], &[u8], u64, &mut [u64], &mut [u16], &mut [u64]) -> Mapped),
+    Value(fn(&[u8], &[u8], &[u8], u64, &mut [u64], &mut [u16]) -> Valued),
+    ValueMap(fn(&[u8], &[u8], &[u8], u64, &mut [u64], &mut [u16], &mut [u64]) -> Mapped),
 }
 
 #[derive(Clone, Copy)]
@@ -52,6 +52,8 @@ extern "C" {
         record_len: usize,
         list: *const u8,
         list_len: usize,
+        rates: *const u8,
+        rates_len: usize,
         behaviour: u64,
         work: *mut u64,
         work_len: usize,
@@ -66,6 +68,8 @@ extern "C" {
         record_len: usize,
         list: *const u8,
         list_len: usize,
+        rates: *const u8,
+        rates_len: usize,
         behaviour: u64,
         work: *mut u64,
         work_len: usize,
@@ -83,6 +87,7 @@ extern "C" {
 fn engine(
     record: &[u8],
     list: &[u8],
+    rates: &[u8],
     behaviour: u64,
     work: &mut [u64],
     table: &mut [u16],
@@ -97,6 +102,8 @@ fn engine(
             record.len(),
             list.as_ptr(),
             list.len(),
+            rates.as_ptr(),
+            rates.len(),
             behaviour,
             work.as_mut_ptr(),
             work.len(),
@@ -118,6 +125,7 @@ fn engine(
 fn engine_map(
     record: &[u8],
     list: &[u8],
+    rates: &[u8],
     behaviour: u64,
     work: &mut [u64],
     table: &mut [u16],
@@ -132,6 +140,8 @@ fn engine_map(
             record.len(),
             list.as_ptr(),
             list.len(),
+            rates.as_ptr(),
+            rates.len(),
             behaviour,
             work.as_mut_ptr(),
             work.len(),
@@ -168,12 +178,18 @@ impl Program {
         let mut work = vec![0xA5A5_A5A5_A5A5_A5A5; input.work_len];
         let mut table = vec![0xA5A5; input.table_len];
         let mut map = vec![0xA5A5_A5A5_A5A5_A5A5; input.map_len];
-        let (record, list, behaviour) = (&input.record, &input.list, input.behaviour);
+        let (record, list, rates) = (&input.record, &input.list, &input.rates);
+        let behaviour = input.behaviour;
         let start = Instant::now();
         let (told, count) = match self.call {
-            Call::Value(call) => (call(record, list, behaviour, &mut work, &mut table), None),
+            Call::Value(call) => {
+                let told = call(record, list, rates, behaviour, &mut work, &mut table);
+                (told, None)
+            }
             Call::ValueMap(call) => {
-                let m = call(record, list, behaviour, &mut work, &mut table, &mut map);
+                let m = call(
+                    record, list, rates, behaviour, &mut work, &mut table, &mut map,
+                );
                 (m.valued, Some(m.count))
             }
         };

@@ -15,6 +15,11 @@
 //! What a return lifts above top is paid whatever the guarantee: one number for a balance, from
 //! which each of its sums starts.
 //!
+//! Death pays a whole number of money units, so its share of a value reached is that of the state,
+//! whatever the excess: it is taken of each row of values as soon as the row is decided, while it
+//! is at hand. Date 1's are left as they are, and of them only those that the first return reaches
+//! are shared. At maturity there is nothing to share, since death pays what maturity does.
+//!
 //! A value reached is at most 81 × 10,000 × 4,000 = 3,240,000,000, below 2^32; a key is below 2^45.
 
 use crate::gmwb::{Mapped, Valued};
@@ -50,6 +55,49 @@ struct Terms {
 struct Return {
     factor: u64,
     weight: u32,
+}
+
+/// The death rate of a period, above 0. A living holder's share of a value, (10,000 − rate) × value
+/// / 10,000 rounded down, is value × living / 2^64 rounded down, with living = (10,000 − rate) ×
+/// 2^64 / 10,000 rounded up: the rounding adds less than value / 2^64, which is below 1 / 10,000,
+/// and the quotient lies at least 1 / 10,000 below the next whole number. `living` comes in halves,
+/// so that `product` serves.
+struct Death {
+    rate: u64,
+    living_high: u32,
+    living_low: u32,
+}
+
+impl Death {
+    /// None where the rate is 0.
+    fn at(rate: u64) -> Option<Death> {
+        let living = (u128::from(UNIT - rate) << 64).div_ceil(UNIT.into());
+        (rate > 0).then_some(Death {
+            rate,
+            living_high: (living >> 32) as u32,
+            living_low: living as u32,
+        })
+    }
+
+    /// A living holder's share of a value plus death's, which is rate × the money units paid and
+    /// needs no rounding.
+    fn shared(&self, value: u64, death: u64) -> u64 {
+        let low = product(self.living_low, &value) >> 32;
+        ((product(self.living_high, &value) + low) >> 32) + death
+    }
+
+    /// Shares the values of an account's states. Death pays the larger of account and guarantee.
+    fn share_row(&self, account: usize, row: &mut [u64]) {
+        let (up_to_account, above) = row.split_at_mut(row.len().min(account + 1));
+        let mut death = self.rate * account as u64;
+        for value in up_to_account {
+            *value = self.shared(*value, death);
+        }
+        for value in above {
+            death += self.rate;
+            *value = self.shared(*value, death);
+        }
+    }
 }
 
 /// Number and place.
@@ -149,30 +197,41 @@ fn read_returns(list: &[u8]) -> Result<Vec<Return>, Refusal> {
     Ok(returns)
 }
 
+fn read_rates(terms: &Terms, rates: &[u8]) -> Result<Vec<u64>, Refusal> {
+    refuse_if(rates.len() != 2 * terms.dates, 17, 0)?;
+    let rates: Vec<u64> = rates.chunks_exact(2).map(|b| word(b, 0).into()).collect();
+    match rates.iter().position(|rate| *rate > UNIT) {
+        Some(place) => Err((18, place as u64)),
+        None => Ok(rates),
+    }
+}
+
 // ---------------------------------------------------------------- Valuing
 
 /// Values a contract; the checks and the answer are those of second/gmwb.rs.
 pub fn value(
     record: &[u8],
     list: &[u8],
+    rates: &[u8],
     behaviour: u64,
     work: &mut [u64],
     table: &mut [u16],
 ) -> Valued {
-    let read = read_valuing(record, list, behaviour, work, table);
-    told(read.map(|(terms, returns)| fill_table(&terms, &returns, behaviour, work, table)))
+    let read = read_valuing(record, list, rates, behaviour, work, table);
+    told(read.map(|contract| fill_table(&contract, behaviour, work, table)))
 }
 
 /// The same with a map of surrender.
 pub fn value_map(
     record: &[u8],
     list: &[u8],
+    rates: &[u8],
     behaviour: u64,
     work: &mut [u64],
     table: &mut [u16],
     map: &mut [u64],
 ) -> Mapped {
-    let result = try_value_map(record, list, behaviour, work, table, map);
+    let result = try_value_map(record, list, rates, behaviour, work, table, map);
     Mapped {
         valued: told(result.map(|(figures, _)| figures)),
         count: result.map_or(0, |(_, count)| count),
@@ -182,16 +241,17 @@ pub fn value_map(
 fn try_value_map(
     record: &[u8],
     list: &[u8],
+    rates: &[u8],
     behaviour: u64,
     work: &mut [u64],
     table: &mut [u16],
     map: &mut [u64],
 ) -> Result<((u64, i64), u64), Refusal> {
-    let (terms, returns) = read_valuing(record, list, behaviour, work, table)?;
-    let entries = terms.entries();
+    let contract = read_valuing(record, list, rates, behaviour, work, table)?;
+    let entries = contract.terms.entries();
     refuse_if(map.len() < entries.div_ceil(64), 16, 0)?;
-    let figures = fill_table(&terms, &returns, behaviour, work, table);
-    Ok((figures, fill_map(&terms, &table[..entries], map)))
+    let figures = fill_table(&contract, behaviour, work, table);
+    Ok((figures, fill_map(&contract.terms, &table[..entries], map)))
 }
 
 fn told(result: Result<(u64, i64), Refusal>) -> Valued {
@@ -205,29 +265,46 @@ fn told(result: Result<(u64, i64), Refusal>) -> Valued {
     }
 }
 
+struct Contract {
+    terms: Terms,
+    returns: Vec<Return>,
+    /// One for each period; period i leads to date i + 1.
+    rates: Vec<u64>,
+}
+
 fn read_valuing(
     record: &[u8],
     list: &[u8],
+    rates: &[u8],
     behaviour: u64,
     work: &[u64],
     table: &[u16],
-) -> Result<(Terms, Vec<Return>), Refusal> {
+) -> Result<Contract, Refusal> {
     let terms = read_terms(record)?;
     let returns = read_returns(list)?;
+    let rates = read_rates(&terms, rates)?;
     refuse_if(behaviour > 2, 10, 0)?;
     let short = work.len() < 2 * terms.layer() || table.len() < terms.entries();
     refuse_if(short, 11, 0)?;
-    Ok((terms, returns))
+    Ok(Contract {
+        terms,
+        returns,
+        rates,
+    })
 }
 
 /// Fills working slice and table; gives value and margin.
 fn fill_table(
-    terms: &Terms,
-    returns: &[Return],
+    contract: &Contract,
     behaviour: u64,
     work: &mut [u64],
     table: &mut [u16],
 ) -> (u64, i64) {
+    let Contract {
+        terms,
+        returns,
+        rates,
+    } = contract;
     let layer = terms.layer();
     let (values, expected) = work[..2 * layer].split_at_mut(layer);
     fill_maturity(terms, values);
@@ -236,16 +313,23 @@ fn fill_table(
         let net = terms.net(index + 1);
         let most = terms.most(terms.dates - 2 - index);
         expect_layer(terms, returns, most, values, expected);
+        let death = Death::at(rates[index]).filter(|_| index > 0);
+        let decided = |account: usize, row: &mut [u64]| {
+            if let Some(death) = &death {
+                death.share_row(account, row);
+            }
+        };
         match behaviour {
-            0 => decide_static(terms, values, expected, amounts),
-            1 => decide_mixed(terms, net, values, expected, amounts),
-            _ => decide_dynamic(terms, net, values, expected, amounts),
+            0 => decide_static(terms, values, expected, amounts, decided),
+            1 => decide_mixed(terms, net, values, expected, amounts, decided),
+            _ => decide_dynamic(terms, net, values, expected, amounts, decided),
         }
     }
     expected.fill(0);
-    value_at_start(terms, returns, values)
+    value_at_start(contract, values)
 }
 
+/// Shared already, whatever the rate: death pays the same.
 fn fill_maturity(terms: &Terms, values: &mut [u64]) {
     for (account, row) in values.chunks_exact_mut(terms.stride()).enumerate() {
         for (guarantee, value) in row.iter_mut().enumerate() {
@@ -255,12 +339,18 @@ fn fill_maturity(terms: &Terms, values: &mut [u64]) {
 }
 
 /// Value and margin: the first return from balance and guarantee U.
-fn value_at_start(terms: &Terms, returns: &[Return], values: &[u64]) -> (u64, i64) {
+fn value_at_start(contract: &Contract, values: &[u64]) -> (u64, i64) {
+    let terms = &contract.terms;
+    let death = Death::at(contract.rates[0]);
     let mut sum = 0;
-    for r in returns {
+    for r in &contract.returns {
         let lifted = terms.lifted(terms.premium, r.factor);
         let excess = lifted.saturating_sub(terms.top);
-        let value = values[(lifted - excess) * terms.stride() + terms.premium];
+        let account = lifted - excess;
+        let living = values[account * terms.stride() + terms.premium];
+        let value = death.as_ref().map_or(living, |death| {
+            death.shared(living, death.rate * account.max(terms.premium) as u64)
+        });
         sum += u64::from(r.weight) * (value + UNIT * excess as u64);
     }
     let value = discounted_any(terms.discount, sum);
@@ -406,8 +496,15 @@ fn fill_by_m(
     }
 }
 
-/// Every state withdraws m; there is no choice, so no key either.
-fn decide_static(terms: &Terms, values: &mut [u64], expected: &[u64], amounts: &mut [u16]) {
+/// Every state withdraws m; there is no choice, so no key either. Here and below `decided` is
+/// given the values of each account, which no other account reads any more.
+fn decide_static(
+    terms: &Terms,
+    values: &mut [u64],
+    expected: &[u64],
+    amounts: &mut [u16],
+    decided: impl Fn(usize, &mut [u64]),
+) {
     let (stride, level) = (terms.stride(), terms.level);
     let rows = values.chunks_exact_mut(stride);
     for (account, (row, drawn)) in rows.zip(amounts.chunks_exact_mut(stride)).enumerate() {
@@ -417,6 +514,7 @@ fn decide_static(terms: &Terms, values: &mut [u64], expected: &[u64], amounts: &
             *amount = m as u16;
         }
         drawn[level..].fill(level as u16);
+        decided(account, row);
     }
 }
 
@@ -427,6 +525,7 @@ fn decide_mixed(
     values: &mut [u64],
     expected: &[u64],
     amounts: &mut [u16],
+    decided: impl Fn(usize, &mut [u64]),
 ) {
     let (stride, level) = (terms.stride(), terms.level);
     let surrender = |account: usize, m: usize| {
@@ -447,6 +546,7 @@ fn decide_mixed(
             }
         }
         take_apart(row, drawn);
+        decided(account, row);
     }
 }
 
@@ -460,6 +560,7 @@ fn decide_dynamic(
     values: &mut [u64],
     expected: &[u64],
     amounts: &mut [u16],
+    decided: impl Fn(usize, &mut [u64]),
 ) {
     let stride = terms.stride();
     let rising = rows_rise(terms, expected);
@@ -471,6 +572,7 @@ fn decide_dynamic(
         try_above_level(terms, net, below, account, row);
         try_above_level_reset(terms, net, expected, account, rising, row);
         take_apart(row, &mut amounts[account * stride..][..stride]);
+        decided(account, row);
     }
 }
 

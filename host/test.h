@@ -1,7 +1,7 @@
 /*
  * Helpers for the tests of the C interface: checks, slices to lend, random numbers, and packing of
- * records and lists. The tests make each call on the engine (gmwb_*) and on the second program
- * (second_*), with equal slices, and compare all that the two tell and leave.
+ * records, lists and death rates. The tests make each call on the engine (gmwb_*) and on the second
+ * program (second_*), with equal slices, and compare all that the two tell and leave.
  */
 #ifndef HOST_TEST_H
 #define HOST_TEST_H
@@ -23,12 +23,14 @@ uint32_t second_book(const uint8_t *record, size_t record_len,
                      uint8_t *out, size_t out_len);
 uint32_t second_value(const uint8_t *record, size_t record_len,
                       const uint8_t *list, size_t list_len,
+                      const uint8_t *rates, size_t rates_len,
                       uint64_t behaviour,
                       uint64_t *work, size_t work_len,
                       uint16_t *table, size_t table_len,
                       uint64_t *place, uint64_t *value, int64_t *margin);
 uint32_t second_value_map(const uint8_t *record, size_t record_len,
                           const uint8_t *list, size_t list_len,
+                          const uint8_t *rates, size_t rates_len,
                           uint64_t behaviour,
                           uint64_t *work, size_t work_len,
                           uint16_t *table, size_t table_len,
@@ -36,6 +38,7 @@ uint32_t second_value_map(const uint8_t *record, size_t record_len,
                           uint64_t *place, uint64_t *value, int64_t *margin, uint64_t *count);
 uint32_t second_value_table(const uint8_t *record, size_t record_len,
                             const uint8_t *list, size_t list_len,
+                            const uint8_t *rates, size_t rates_len,
                             uint64_t *work, size_t work_len,
                             const uint16_t *table, size_t table_len,
                             uint64_t *place, uint64_t *value, int64_t *margin);
@@ -114,7 +117,7 @@ static inline int verdict(const char *name)
 }
 
 /* Numbers that calls answer, for counting them; any other counts as 0. */
-enum { NUMBERS = GMWB_REFUSED_MAP + 1 };
+enum { NUMBERS = GMWB_REFUSED_DEATH_RATE + 1 };
 
 static inline void tally(uint64_t *came, uint32_t number)
 {
@@ -288,7 +291,7 @@ static inline bool one_in(uint64_t n)
     return upto(n - 1) == 0;
 }
 
-/* ---- Records and lists ------------------------------------------------------------------------ */
+/* ---- Records, lists and death rates ----------------------------------------------------------- */
 
 struct terms {
     uint16_t premium, level, top, dates, fee, penalty;
@@ -304,13 +307,20 @@ static const struct terms P = {10, 5, 20, 2, 0, 1000, 1000000, 0, 0};
 static const struct terms Q = {10, 5, 20, 2, 2000, 0, 1000000, 0, 0};
 static const struct fund_return P_RETURNS[2] = {{5000, 5000}, {15000, 5000}};
 
-/* A record and a list. They are lent with zeros behind them where a length asks for more. */
+enum { MOST_DATES = 40 };
+
+/*
+ * A record, a list and death rates. They are lent with zeros behind them where a length asks for
+ * more.
+ */
 struct input {
     struct terms terms; /* what the record was packed from */
     uint8_t record[GMWB_RECORD_BYTES];
     size_t record_len;
     uint8_t list[GMWB_RETURN_BYTES * (GMWB_MOST_RETURNS + 1)]; /* room for one too many */
     size_t list_len;
+    uint8_t rates[GMWB_RATE_BYTES * MOST_DATES];
+    size_t rates_len;
 };
 
 /* "fields are unsigned, low byte first" */
@@ -349,18 +359,44 @@ static inline void pack_list(struct input *in, const struct fund_return *returns
     in->list_len = GMWB_RETURN_BYTES * count;
 }
 
+static inline void pack_rates(struct input *in, const uint16_t *rates, size_t count)
+{
+    for (size_t i = 0; i < count; i++)
+        put(in->rates + GMWB_RATE_BYTES * i, GMWB_RATE_BYTES, rates[i]);
+    in->rates_len = GMWB_RATE_BYTES * count;
+}
+
+/* As many as the terms have dates, whether or not those are accepted. */
+static inline void zero_rates(struct input *in)
+{
+    memset(in->rates, 0, sizeof in->rates);
+    in->rates_len = GMWB_RATE_BYTES * (size_t)in->terms.dates;
+}
+
+/* With zero rates. */
 static inline struct input input_of(struct terms c, const struct fund_return *returns, size_t count)
 {
     struct input in;
     memset(&in, 0, sizeof in);
     pack_record(&in, c);
     pack_list(&in, returns, count);
+    zero_rates(&in);
     return in;
 }
 
 static inline struct input input_p(void)
 {
     return input_of(P, P_RETURNS, 2);
+}
+
+/* P but for the dates, with a rate for each. */
+static inline struct input p_with_rates(uint16_t dates, const uint16_t *rates)
+{
+    struct terms c = P;
+    c.dates = dates;
+    struct input in = input_of(c, P_RETURNS, 2);
+    pack_rates(&in, rates, dates);
+    return in;
 }
 
 /* What the record says; one that is accepted may have been damaged since it was packed. */
@@ -381,6 +417,11 @@ static inline struct lent lend_record(const struct input *in)
 static inline struct lent lend_list(const struct input *in)
 {
     return lend_copy(in->list, sizeof in->list, in->list_len);
+}
+
+static inline struct lent lend_rates(const struct input *in)
+{
+    return lend_copy(in->rates, sizeof in->rates, in->rates_len);
 }
 
 #endif

@@ -1,6 +1,6 @@
 /*
- * gmwb_check and gmwb_book: the marked cases, rates that fall, every refusal on both sides of its
- * boundary, the order of the checks, and random records and bookings against the second program.
+ * gmwb_check and gmwb_book: the marked cases, penalty rates that fall, every refusal on both sides of
+ * its boundary, the order of the checks, and random records and bookings against the second program.
  */
 #include "contracts.h"
 
@@ -110,7 +110,7 @@ static void other_bookings(void)
     booked(whole, (struct booking){1, 0, 4000, 4000, 16}, (struct figures){40000000, 0, 0, 0, 0});
 }
 
-/* ---- Rates that fall -------------------------------------------------------------------------- */
+/* ---- Penalty rates that fall ------------------------------------------------------------------ */
 
 /* "The rate at date i is the record's rate less (i - 1) x step, never below zero." */
 static void falling_rates(void)

@@ -1,8 +1,8 @@
 /*
- * gmwb_value_map: the figures of request (ii), every refusal on both sides of its boundary, the
- * order of the checks, maps of every length that matters, and random contracts. Each call is made
- * on both programs and must tell and leave what gmwb_value does; each bit is compared with the
- * table that is left.
+ * gmwb_value_map: the figures of request (ii), death rates, every refusal on both sides of its
+ * boundary, the order of the checks, maps of every length that matters, and random contracts. Each
+ * call is made on both programs and must tell and leave what gmwb_value does; each bit is compared
+ * with the table that is left.
  */
 #include "valuing.h"
 
@@ -52,13 +52,14 @@ typedef __typeof__(gmwb_value_map) map_call;
 static uint32_t made(map_call *call, const struct valuing *v, struct told *t, struct left l,
                      struct lent map)
 {
-    struct lent record = lend_record(&v->in), list = lend_list(&v->in);
+    struct lent record = lend_record(&v->in), list = lend_list(&v->in), rates = lend_rates(&v->in);
     uint32_t number = call(start(record), v->in.record_len, start(list), v->in.list_len,
-                           v->behaviour, start(l.work), v->work_len, start(l.table), v->table_len,
-                           start(map), map.bytes / sizeof(uint64_t),
+                           start(rates), v->in.rates_len, v->behaviour, start(l.work), v->work_len,
+                           start(l.table), v->table_len, start(map), map.bytes / sizeof(uint64_t),
                            &t->place, &t->value, &t->margin, &t->count);
     take_back(record);
     take_back(list);
+    take_back(rates);
     return number;
 }
 
@@ -121,13 +122,13 @@ static void beside_value(const struct valuing *v, struct lending lending, uint32
  */
 static uint32_t value(const struct valuing *v, struct told *told, struct left *left)
 {
-    struct lent record = lend_record(&v->in), list = lend_list(&v->in);
+    struct lent record = lend_record(&v->in), list = lend_list(&v->in), rates = lend_rates(&v->in);
     struct left l = lend_both(v);
     struct told t = untold();
     uint32_t number =
-        gmwb_value(start(record), v->in.record_len, start(list), v->in.list_len, v->behaviour,
-                   start(l.work), v->work_len, start(l.table), v->table_len,
-                   &t.place, &t.value, &t.margin);
+        gmwb_value(start(record), v->in.record_len, start(list), v->in.list_len,
+                   start(rates), v->in.rates_len, v->behaviour, start(l.work), v->work_len,
+                   start(l.table), v->table_len, &t.place, &t.value, &t.margin);
     size_t needed = number == 0 ? map_of(terms_in(&v->in)) : (size_t)upto(4);
     struct lending enough = {needed + (size_t)(one_in(2) ? 0 : upto(9)), one_in(2)};
     beside_value(v, enough, number, t, l);
@@ -137,6 +138,7 @@ static uint32_t value(const struct valuing *v, struct told *told, struct left *l
     }
     take_back(record);
     take_back(list);
+    take_back(rates);
     *told = t;
     *left = l;
     return number;
@@ -144,27 +146,35 @@ static uint32_t value(const struct valuing *v, struct told *told, struct left *l
 
 /* ---- Figures ---------------------------------------------------------------------------------- */
 
+static const uint16_t ZERO_RATES[MOST_DATES];
+
 static struct valuing dated(uint16_t dates, uint64_t behaviour)
 {
-    const struct terms c = {10, 5, 20, dates, 0, 1000, 1000000, 0, 0};
-    return exact(input_of(c, P_RETURNS, 2), behaviour);
+    return exact(p_with_rates(dates, ZERO_RATES), behaviour);
 }
 
-/* Count and words of P with some dates; no words are compared where none are given. */
-static void map_is(uint16_t dates, uint64_t behaviour, uint64_t count, const uint64_t *words)
+/* Count and words of P with some dates and their rates; no words are compared if none are given. */
+static void map_with(uint16_t dates, const uint16_t *rates, uint64_t behaviour, uint64_t count,
+                     const uint64_t *words)
 {
-    struct valuing v = dated(dates, behaviour);
+    struct valuing v = exact(p_with_rates(dates, rates), behaviour);
     struct lending lending = {map_of(v.in.terms), true};
     struct told t;
     struct left l;
     struct lent map;
-    about("map of P with N %u, behaviour %" PRIu64, (unsigned)dates, behaviour);
+    about("map of P with N %u, rates from %u, behaviour %" PRIu64, (unsigned)dates,
+          (unsigned)rates[0], behaviour);
     same("number", value_map(&v, lending, &t, &l, &map), GMWB_SUCCESS);
     same("count", t.count, count);
     for (size_t i = 0; words != NULL && i < lending.words; i++)
         same("word", ((uint64_t *)start(map))[i], words[i]);
     take_back_left(l);
     take_back(map);
+}
+
+static void map_is(uint16_t dates, uint64_t behaviour, uint64_t count, const uint64_t *words)
+{
+    map_with(dates, ZERO_RATES, behaviour, count, words);
 }
 
 /* Static draws m also where W equals it, which is no surrender. */
@@ -178,6 +188,15 @@ static void figures(void)
     map_is(3, GMWB_STATIC, 0, NULL);
     map_is(3, GMWB_MIXED, 36, NULL);
     map_is(3, GMWB_DYNAMIC, 2, NULL);
+    /*
+     * The first rate and the last change no choice. Death for certain in the second of three periods
+     * makes date 2 maturity: each date has the map of P's only decision date.
+     */
+    map_with(2, (uint16_t[]){10000, 10000}, GMWB_MIXED, 13, mixed);
+    map_with(2, (uint16_t[]){10000, 10000}, GMWB_DYNAMIC, 1, dynamic);
+    map_with(3, (uint16_t[]){10000, 0, 10000}, GMWB_MIXED, 36, NULL);
+    map_with(3, (uint16_t[]){0, 10000, 0}, GMWB_MIXED, 26, NULL);
+    map_with(3, (uint16_t[]){0, 10000, 0}, GMWB_DYNAMIC, 2, NULL);
 }
 
 /* A map without words may be NULL. It is enough for N = 1, as an empty table is. */
@@ -189,9 +208,10 @@ static void no_words(void)
         struct told t = untold();
         about("N %u, no words", (unsigned)dates);
         uint32_t number =
-            gmwb_value_map(v.in.record, v.in.record_len, v.in.list, v.in.list_len, v.behaviour,
-                           start(l.work), v.work_len, dates == 1 ? NULL : start(l.table),
-                           v.table_len, NULL, 0, &t.place, &t.value, &t.margin, &t.count);
+            gmwb_value_map(v.in.record, v.in.record_len, v.in.list, v.in.list_len,
+                           v.in.rates, v.in.rates_len, v.behaviour, start(l.work), v.work_len,
+                           dates == 1 ? NULL : start(l.table), v.table_len, NULL, 0,
+                           &t.place, &t.value, &t.margin, &t.count);
         same("number", number, dates == 1 ? GMWB_SUCCESS : GMWB_REFUSED_MAP);
         same("value", t.value, dates == 1 ? 125000 : 0);
         same("count", t.count, 0);
@@ -199,6 +219,27 @@ static void no_words(void)
             after_refusal(t, l);
         take_back_left(l);
     }
+}
+
+/* A list of rates without bytes may be NULL too; no contract is accepted with it. */
+static void no_rates(void)
+{
+    struct valuing v = dated(2, GMWB_MIXED);
+    struct left l = lend_both(&v);
+    struct lent map = lend(map_of(v.in.terms), sizeof(uint64_t));
+    struct told t = untold();
+    about("no rates");
+    same("number", gmwb_value_map(v.in.record, v.in.record_len, v.in.list, v.in.list_len, NULL, 0,
+                                  v.behaviour, start(l.work), v.work_len, start(l.table),
+                                  v.table_len, start(map), map_of(v.in.terms),
+                                  &t.place, &t.value, &t.margin, &t.count),
+         GMWB_REFUSED_RATES_LENGTH);
+    same("place", t.place, 0);
+    same("count", t.count, 0);
+    after_refusal(t, l);
+    untouched("map after a refusal", map);
+    take_back_left(l);
+    take_back(map);
 }
 
 /* For N = 1 no word of a map is touched. */
@@ -256,10 +297,19 @@ static void lengths(void)
     lent_words(&v, 65536, GMWB_SUCCESS);
 }
 
-/* "checked after 11": a map that is short is not looked at where another slice is short too. */
+/*
+ * "checked after 11": a map that is short is not looked at where another slice is short too, nor
+ * where the rates are wrong.
+ */
 static void last_check(void)
 {
     struct valuing v = dated(2, GMWB_MIXED);
+    v.in.rates_len++;
+    lent_words(&v, 3, GMWB_REFUSED_RATES_LENGTH);
+    v.in.rates_len--;
+    put(v.in.rates, GMWB_RATE_BYTES, 10001);
+    lent_words(&v, 3, GMWB_REFUSED_DEATH_RATE);
+    zero_rates(&v.in);
     v.work_len--;
     lent_words(&v, 3, GMWB_REFUSED_SLICE);
     v.work_len++;
@@ -274,6 +324,7 @@ int main(int argc, char **argv)
     uint64_t rounds = rounds_from(argc, argv, 2000);
     figures();
     no_words();
+    no_rates();
     one_date();
     lengths();
     last_check();

@@ -1,7 +1,7 @@
 /*
  * gmwb_value_table and gmwb_walk: their refusals on both sides of each boundary, what is left in the
- * slices, returns that lift an account above top, slices that share memory, the value of a table
- * against walks along every path, and random tables and walks against the second program.
+ * slices, returns that lift an account above top, death rates, slices that share memory, the value
+ * of a table against walks along every path, and random tables and walks against the second program.
  */
 #include "contracts.h"
 
@@ -40,15 +40,18 @@ static struct followed exact(struct input in, const uint16_t *table, const uint1
 /* Makes the call on both programs. Gives the number; told and work are the engine's. */
 static uint32_t value_table(const struct followed *f, struct told *told, struct lent *work)
 {
-    struct lent record = lend_record(&f->in), list = lend_list(&f->in), table = lend_table(f);
+    struct lent record = lend_record(&f->in), list = lend_list(&f->in), rates = lend_rates(&f->in);
+    struct lent table = lend_table(f);
     struct lent w = lend(f->work_len, sizeof(uint64_t)), x = lend(f->work_len, sizeof(uint64_t));
     struct told t = untold(), s = untold();
     uint32_t number =
-        gmwb_value_table(start(record), f->in.record_len, start(list), f->in.list_len, start(w),
-                         f->work_len, start(table), f->table_len, &t.place, &t.value, &t.margin);
+        gmwb_value_table(start(record), f->in.record_len, start(list), f->in.list_len,
+                         start(rates), f->in.rates_len, start(w), f->work_len,
+                         start(table), f->table_len, &t.place, &t.value, &t.margin);
     uint32_t expected =
-        second_value_table(start(record), f->in.record_len, start(list), f->in.list_len, start(x),
-                           f->work_len, start(table), f->table_len, &s.place, &s.value, &s.margin);
+        second_value_table(start(record), f->in.record_len, start(list), f->in.list_len,
+                           start(rates), f->in.rates_len, start(x), f->work_len,
+                           start(table), f->table_len, &s.place, &s.value, &s.margin);
     same("value_table: number against the second program", number, expected);
     same_told(t, s);
     same_slice("value_table: working slice against the second program", w, x, sizeof(uint64_t));
@@ -59,6 +62,7 @@ static uint32_t value_table(const struct followed *f, struct told *told, struct 
     }
     take_back(record);
     take_back(list);
+    take_back(rates);
     take_back(table);
     take_back(x);
     *told = t;
@@ -195,8 +199,9 @@ static uint16_t *recorded(const struct input *in, uint64_t behaviour, struct tol
     uint16_t *table = allocate((entries + 1) * sizeof *table);
     struct told t = untold();
     *work = lend(work_of(in->terms), sizeof(uint64_t));
-    uint32_t number = gmwb_value(in->record, in->record_len, in->list, in->list_len, behaviour,
-                                 start(*work), work_of(in->terms), table, entries,
+    uint32_t number = gmwb_value(in->record, in->record_len, in->list, in->list_len,
+                                 in->rates, in->rates_len, behaviour, start(*work),
+                                 work_of(in->terms), table, entries,
                                  &t.place, &t.value, &t.margin);
     same("value: number", number, GMWB_SUCCESS);
     *told = t;
@@ -230,6 +235,9 @@ static void recorded_tables(void)
     supplied_back(&q);
     about("tables of P with 3 dates");
     supplied_back(&p3);
+    about("tables of P with 3 dates and death rates");
+    pack_rates(&p3, (uint16_t[]){100, 200, 300}, 3);
+    supplied_back(&p3);
 }
 
 /*
@@ -258,7 +266,7 @@ static void large_values(void)
     free(table);
 }
 
-/* ---- Records and lists refused ---------------------------------------------------------------- */
+/* ---- Records, lists and death rates refused --------------------------------------------------- */
 
 /* Slices for a record that is refused are those of P: they are not sized by what is wrong. */
 static void input_answered(const struct input *in, uint32_t number, uint64_t place)
@@ -277,6 +285,48 @@ static void ordered_case(const struct input *in, uint32_t number, uint64_t place
     struct followed f = {*in, NULL, 0, 0, NULL, 0, 0, 0, 0};
     table_answered(&f, number, place);
     walk_answered(&f, number, place);
+}
+
+/* A walk takes no rates, so that wrong ones do not matter to it. */
+static void rates_case(const struct input *in, uint32_t number, uint64_t place)
+{
+    struct followed f = exact(input_of(in->terms, P_RETURNS, 2), NULL, NULL);
+    f.table_room = f.path_room = 0;
+    f.in = *in;
+    table_answered(&f, number, place);
+    walk_answered(&f, GMWB_SUCCESS, 0);
+}
+
+static void ordered_rates_case(const struct input *in, uint32_t number, uint64_t place)
+{
+    uint16_t bad[1] = {65535};
+    struct followed f = exact(*in, bad, NULL);
+    f.table_room = 1;
+    f.path_room = 0;
+    about("death rates, table entries");
+    table_answered(&f, number, place);
+    about("death rates, slices");
+    f.table_len = f.work_len = 0;
+    table_answered(&f, number, place);
+}
+
+/* A list of rates without bytes may be NULL; no contract is accepted with it. */
+static void no_rates(void)
+{
+    struct followed f = zeros_on(P);
+    struct told t = untold();
+    struct lent work = lend(f.work_len, sizeof(uint64_t));
+    about("no rates");
+    same("value_table: number",
+         gmwb_value_table(f.in.record, f.in.record_len, f.in.list, f.in.list_len, NULL, 0,
+                          start(work), f.work_len, f.table, f.table_len,
+                          &t.place, &t.value, &t.margin),
+         GMWB_REFUSED_RATES_LENGTH);
+    same("value_table: place", t.place, 0);
+    same("value_table: value after a refusal", t.value, 0);
+    same_signed("value_table: margin after a refusal", t.margin, 0);
+    untouched("value_table: working slice after a refusal", work);
+    take_back(work);
 }
 
 static void later_checks_in_order(void)
@@ -503,6 +553,51 @@ static void largest_payouts(void)
     free(table);
 }
 
+/* ---- Death rates ------------------------------------------------------------------------------ */
+
+/* Value of a table, and that of a state of date 1. */
+static void table_is_worth(struct input in, const uint16_t *table, uint64_t expected,
+                           size_t account, size_t guarantee, uint64_t of_state)
+{
+    struct followed f = exact(in, table, NULL);
+    struct told t;
+    struct lent work;
+    same("value_table: number", value_table(&f, &t, &work), GMWB_SUCCESS);
+    same("value_table: value", t.value, expected);
+    same("value_table: value of the state",
+         ((uint64_t *)start(work))[entry_of(in.terms, account, guarantee)], of_state);
+    take_back(work);
+}
+
+/*
+ * Nothing is drawn on P's decision date, as under its dynamic table: at (15, 10), worth 160,000 to a
+ * living holder, death pays 150,000. The first rate has no part in that state's value, the last none
+ * in any, since death pays what maturity does.
+ */
+static void nothing_drawn(void)
+{
+    about("nothing drawn from P");
+    table_is_worth(p_with_rates(2, (uint16_t[]){0, 0}), ZEROS, 130000, 15, 10, 160000);
+    table_is_worth(p_with_rates(2, (uint16_t[]){100, 100}), ZEROS, 129950, 15, 10, 160000);
+    table_is_worth(p_with_rates(2, (uint16_t[]){2500, 5000}), ZEROS, 128750, 15, 10, 160000);
+    table_is_worth(p_with_rates(2, (uint16_t[]){10000, 0}), ZEROS, 125000, 15, 10, 160000);
+    table_is_worth(p_with_rates(2, (uint16_t[]){0, 10000}), ZEROS, 130000, 15, 10, 160000);
+}
+
+/*
+ * Under top 12 nothing is drawn. Death on date 1 pays 10, or 12 and an excess of 18; on date 2 the
+ * same from 10, and from 12 it pays 12, or 12 and 24, so that (12, 10) is worth 240,000.
+ */
+static void death_above_top(void)
+{
+    struct input in = input_of(UNDER_12, STILL_OR_TRIPLE, 2);
+    about("death above top");
+    pack_rates(&in, (uint16_t[]){10000, 0, 0}, 3);
+    table_is_worth(in, ZEROS, 200000, 12, 10, 360000);
+    pack_rates(&in, (uint16_t[]){0, 10000, 0}, 3);
+    table_is_worth(in, ZEROS, 310000, 12, 10, 240000);
+}
+
 /* ---- Paths ------------------------------------------------------------------------------------ */
 
 static void path_counts(void)
@@ -573,12 +668,14 @@ enum { ONE_BLOCK = ONE_TABLE + ONE_LIST + GMWB_RECORD_BYTES / 2 };
 
 /*
  * The list ends in the first 8 bytes of the record, which are two returns of weights 5 and 3. Both
- * stand in the table's slice, behind the entries it needs. The path is the table's first entries.
+ * stand in the table's slice, behind the entries it needs. The path is the table's first entries,
+ * the rates are the list's first three numbers.
  */
 static struct followed in_one_block(uint16_t *block)
 {
-    const struct fund_return first[2] = {{5000, 4992}, {15000, 5000}};
+    const struct fund_return first[2] = {{5000, 4992}, {9000, 5000}};
     struct input in = input_of(P3, first, 2);
+    pack_rates(&in, (uint16_t[]){5000, 4992, 9000}, 3);
     memcpy(in.list + in.list_len, in.record, 2 * GMWB_RETURN_BYTES);
     in.list_len += 2 * GMWB_RETURN_BYTES;
     for (size_t i = 0; i < ONE_TABLE; i++)
@@ -597,8 +694,9 @@ static void value_table_in(const struct followed *f, const uint8_t *list, const 
     struct lent apart, work = lend(f->work_len, sizeof(uint64_t));
     same("value_table: number", value_table(f, &t, &apart), GMWB_SUCCESS);
     same("value_table: number in one block",
-         gmwb_value_table(record, f->in.record_len, list, f->in.list_len, start(work), f->work_len,
-                          f->table, f->table_len, &s.place, &s.value, &s.margin),
+         gmwb_value_table(record, f->in.record_len, list, f->in.list_len, list, f->in.rates_len,
+                          start(work), f->work_len, f->table, f->table_len,
+                          &s.place, &s.value, &s.margin),
          GMWB_SUCCESS);
     same("value_table: value in one block", s.value, t.value);
     same_slice("value_table: working slice in one block", work, apart, sizeof(uint64_t));
@@ -626,8 +724,9 @@ static void value_in(const struct followed *f, const uint8_t *list, const uint8_
     struct lent apart, work = lend(f->work_len, sizeof(uint64_t));
     uint16_t *recorded_apart = recorded(&f->in, GMWB_DYNAMIC, &t, &apart), table[ONE_TABLE];
     same("value: number in one block",
-         gmwb_value(record, f->in.record_len, list, f->in.list_len, GMWB_DYNAMIC, start(work),
-                    f->work_len, table, ONE_TABLE, &s.place, &s.value, &s.margin),
+         gmwb_value(record, f->in.record_len, list, f->in.list_len, list, f->in.rates_len,
+                    GMWB_DYNAMIC, start(work), f->work_len, table, ONE_TABLE,
+                    &s.place, &s.value, &s.margin),
          GMWB_SUCCESS);
     same("value: value in one block", s.value, t.value);
     same_slice("value: working slice in one block", work, apart, sizeof(uint64_t));
@@ -662,25 +761,67 @@ static wide power(wide base, size_t exponent)
     return result;
 }
 
-/* One path's part in the expected cash, times 10^30. */
-static wide weighed(const struct input *in, const uint16_t *path, const uint64_t *cash)
+/* Discounts and death rates are whole thousandths here, so that no number passes 128 bits. */
+static void in_thousandths(struct input *in)
 {
-    wide chance = 1, sum = 0, discount = get(in->record + 12, 4);
-    for (size_t i = 0; i < PATH_DATES; i++) {
-        chance *= get(in->list + GMWB_RETURN_BYTES * path[i] + 2, 2);
-        sum += cash[i] * power(discount, i + 1) * power(1000000, PATH_DATES - 1 - i);
+    struct terms c = in->terms;
+    uint16_t rates[PATH_DATES];
+    c.discount = (c.discount + 999) / 1000 * 1000;
+    pack_record(in, c);
+    for (size_t i = 0; i < PATH_DATES; i++)
+        rates[i] = (uint16_t)(get(in->rates + GMWB_RATE_BYTES * i, GMWB_RATE_BYTES) / 10 * 10);
+    pack_rates(in, rates, PATH_DATES);
+}
+
+/* Death on a date pays what maturity on it would: the last cash of the walk with so many dates. */
+static uint64_t paid_at_death(const struct followed *f, uint16_t date)
+{
+    struct followed ended = *f;
+    struct terms c = f->in.terms;
+    c.dates = date;
+    pack_record(&ended.in, c);
+    ended.path_len = ended.cash_len = date;
+    uint64_t place;
+    struct lent cash;
+    same("walk: number up to death", walk(&ended, &place, &cash), GMWB_SUCCESS);
+    uint64_t paid = ((uint64_t *)start(cash))[date - 1];
+    take_back(cash);
+    return paid;
+}
+
+/* One path's part in the expected cash, times 10^30: the cash of each date, or death in its period. */
+static wide weighed(const struct followed *f, const uint64_t *cash)
+{
+    const struct input *in = &f->in;
+    wide chance = 1, alive = 1, sum = 0, discount = in->terms.discount / 1000;
+    for (uint16_t i = 0; i < PATH_DATES; i++) {
+        wide rate = get(in->rates + GMWB_RATE_BYTES * i, GMWB_RATE_BYTES) / 10;
+        wide paid = rate * paid_at_death(f, i + 1) + (1000 - rate) * cash[i];
+        chance *= get(in->list + GMWB_RETURN_BYTES * f->path[i] + 2, 2);
+        sum += alive * paid * power(discount, i + 1u) * power(1000000, PATH_DATES - 1u - i);
+        alive *= 1000 - rate;
     }
     return chance * sum;
 }
 
+static bool all_zero(const uint8_t *bytes, size_t length)
+{
+    uint8_t any = 0;
+    for (size_t i = 0; i < length; i++)
+        any |= bytes[i];
+    return any == 0;
+}
+
 /*
- * The value of a table is the expected discounted cash of its walks, but for rounding: down, once on
- * each of N dates, by less than one ten-thousandth each time. So the exact expectation lies at or
- * above the value and less than N above it.
+ * The value of a table is the expected discounted cash of its walks, each up to maturity or death,
+ * but for rounding: down, on each of N dates once for the share of death, where there is one, and
+ * once for the discounted sum, by less than one ten-thousandth each time. So the exact expectation
+ * lies at or above the value and less than 2 x N above it, less than N with zero rates.
  *
- * It is exact here in whole numbers: a chance is a product of 3 weights over 10^12, a discount one of
- * up to 3 discounts over 10^18, and all is kept times 10^30. With accounts up to 30 a walk pays at
- * most 7 x 300,000 (2 x N + 1 tops), so that no sum passes 21 x 10^35, below 2^127.
+ * It is exact here in whole numbers: a chance is a product of 3 weights over 10^12, of being alive
+ * one of 3 numbers over 10^9, a discount one of up to 3 over 10^9, and all is kept times 10^30. With
+ * accounts up to 30 a walk pays at most 7 x 300,000 (2 x N + 1 tops), so that no sum passes
+ * 21 x 10^35, below 2^127.
  */
 static void every_path(const struct input *in, const uint16_t *table)
 {
@@ -697,12 +838,14 @@ static void every_path(const struct input *in, const uint16_t *table)
         path[1] = (uint16_t)(k / 3 % 3);
         path[2] = (uint16_t)(k % 3);
         same("walk: number", walk(&f, &place, &cash), GMWB_SUCCESS);
-        sum += weighed(in, path, start(cash));
+        sum += weighed(&f, start(cash));
         take_back(cash);
     }
-    wide one = power(10, 30);
+    wide one = power(10, 30), roundings = PATH_DATES;
+    if (!all_zero(in->rates, in->rates_len))
+        roundings *= 2;
     holds("expected cash at or above the value", sum >= t.value * one);
-    holds("expected cash less than N above the value", sum < (t.value + (wide)PATH_DATES) * one);
+    holds("expected cash less than the roundings above it", sum < (t.value + roundings) * one);
 }
 
 /* A table of any amounts from the dynamic sets. */
@@ -715,11 +858,14 @@ static void fill_table(struct terms c, uint16_t *table)
 static void every_path_by_hand(void)
 {
     static const uint16_t steps[3] = {0, 300, 10000};
+    static const uint16_t rates[3][PATH_DATES] = {{0, 0, 0}, {120, 350, 580}, {4000, 0, 10000}};
     const struct fund_return returns[BRANCHES] = {{6000, 2500}, {10500, 4500}, {16000, 3000}};
-    for (size_t i = 0; i < 3; i++) {
-        const struct terms c = {10, 4, 20, PATH_DATES, 150, 800, 970000, steps[i], 0};
+    for (size_t i = 0; i < 9; i++) {
+        const struct terms c = {10, 4, 20, PATH_DATES, 150, 800, 970000, steps[i % 3], 0};
         struct input in = input_of(c, returns, BRANCHES);
-        about("every path of a contract, step %u", (unsigned)steps[i]);
+        pack_rates(&in, rates[i / 3], PATH_DATES);
+        about("every path of a contract, step %u, rates from %u", (unsigned)steps[i % 3],
+              (unsigned)rates[i / 3][0]);
         for (uint64_t behaviour = 0; behaviour <= 2; behaviour++) {
             struct told t;
             struct lent work;
@@ -741,6 +887,7 @@ static void every_path_at_random(uint64_t round)
     struct terms c = random_terms(TOP, TOP, DATES);
     c.dates = PATH_DATES;
     struct input in = random_input(c, BRANCHES);
+    in_thousandths(&in);
     fill_table(c, table);
     about("every path, round %" PRIu64, round);
     every_path(&in, table);
@@ -811,7 +958,7 @@ static void along_bookings(const struct followed *f, const uint64_t *cash)
 static void random_round(uint64_t round, uint64_t *tables, uint64_t *walks)
 {
     uint16_t table[RANDOM_ROOM], path[DATES];
-    char record[HEX_ROOM], list[HEX_ROOM];
+    char record[HEX_ROOM], list[HEX_ROOM], rates[HEX_ROOM];
     struct terms c = random_terms(TOP, TOP, DATES);
     size_t count = (size_t)between(1, RETURNS);
     fill_table(c, table);
@@ -825,9 +972,11 @@ static void random_round(uint64_t round, uint64_t *tables, uint64_t *walks)
     if (one_in(16))
         f.path_len = (size_t)upto(DATES + 1);
     damage_some(&f.in);
-    about("round %" PRIu64 ": record %s of %lu bytes, list %s of %lu, table of %lu, path of %lu",
+    about("round %" PRIu64 ": record %s of %lu bytes, list %s of %lu, rates %s of %lu, "
+          "table of %lu, path of %lu",
           round, hex(record, f.in.record, sizeof f.in.record), (unsigned long)f.in.record_len,
           hex(list, f.in.list, f.in.list_len), (unsigned long)f.in.list_len,
+          hex(rates, f.in.rates, f.in.rates_len), (unsigned long)f.in.rates_len,
           (unsigned long)f.table_len, (unsigned long)f.path_len);
     struct told t;
     struct lent work, cash;
@@ -849,7 +998,7 @@ static void random_rounds(uint64_t rounds)
         random_round(round, tables, walks);
     for (uint64_t round = 0; round < rounds / 20; round++)
         every_path_at_random(round);
-    static const uint32_t by_table[] = {0, 1, 2, 3, 4, 5, 6, 7, 8, 9, 11, 14, 15};
+    static const uint32_t by_table[] = {0, 1, 2, 3, 4, 5, 6, 7, 8, 9, 11, 14, 15, 17, 18};
     static const uint32_t by_walk[] = {0, 1, 2, 3, 4, 5, 6, 7, 8, 9, 11, 13, 14, 15};
     if (rounds >= 2000) {
         all_came(tables, by_table, COUNT(by_table));
@@ -870,6 +1019,10 @@ int main(int argc, char **argv)
     each_list(input_answered);
     record_faults_in_order(ordered_case);
     list_faults_in_order(ordered_case);
+    each_rates_length(rates_case);
+    each_rate(rates_case);
+    rates_faults_in_order(ordered_rates_case);
+    no_rates();
     later_checks_in_order();
     cash_by_hand();
     falling_rates();
@@ -879,6 +1032,8 @@ int main(int argc, char **argv)
     excess_on_first_return();
     excess_without_penalty();
     largest_payouts();
+    nothing_drawn();
+    death_above_top();
     path_counts();
     path_numbers();
     bad_entries_met();

@@ -1,7 +1,7 @@
 /*
  * All calls in several threads at once, on contracts that are accepted and on some that are refused:
  * each call tells and leaves what it tells and leaves when the calls are made one after the other.
- * Slices that are only read are shared by the threads.
+ * Slices that are only read are shared by the threads, and death rates by the contracts too.
  */
 #define _POSIX_C_SOURCE 200809L /* barriers */
 #include <pthread.h>
@@ -19,6 +19,8 @@ enum { LEFT = 3 };
 /* What the calls on a contract are given. */
 struct given {
     struct lent record, list, table, path;
+    const uint8_t *rates;
+    size_t rates_len;
     uint64_t behaviour, date, account, guarantee, amount;
     size_t out_len, work_len, cash_len, map_len;
 };
@@ -44,23 +46,24 @@ static void book(const struct given *g, struct answer *a)
 static void value(const struct given *g, struct answer *a)
 {
     a->number = gmwb_value(start(g->record), g->record.bytes, start(g->list), g->list.bytes,
-                           g->behaviour, start(a->left[0]), g->work_len, start(a->left[1]),
-                           g->table.bytes / sizeof(uint16_t),
+                           g->rates, g->rates_len, g->behaviour, start(a->left[0]), g->work_len,
+                           start(a->left[1]), g->table.bytes / sizeof(uint16_t),
                            &a->told.place, &a->told.value, &a->told.margin);
 }
 
 static void value_map(const struct given *g, struct answer *a)
 {
     a->number = gmwb_value_map(start(g->record), g->record.bytes, start(g->list), g->list.bytes,
-                               g->behaviour, start(a->left[0]), g->work_len, start(a->left[1]),
-                               g->table.bytes / sizeof(uint16_t), start(a->left[2]), g->map_len,
+                               g->rates, g->rates_len, g->behaviour, start(a->left[0]), g->work_len,
+                               start(a->left[1]), g->table.bytes / sizeof(uint16_t),
+                               start(a->left[2]), g->map_len,
                                &a->told.place, &a->told.value, &a->told.margin, &a->told.count);
 }
 
 static void value_table(const struct given *g, struct answer *a)
 {
     a->number = gmwb_value_table(start(g->record), g->record.bytes, start(g->list), g->list.bytes,
-                                 start(a->left[0]), g->work_len,
+                                 g->rates, g->rates_len, start(a->left[0]), g->work_len,
                                  start(g->table), g->table.bytes / sizeof(uint16_t),
                                  &a->told.place, &a->told.value, &a->told.margin);
 }
@@ -125,6 +128,20 @@ static bool same_answer(const struct answer *a, const struct answer *b)
 static struct given given[CONTRACTS];
 static struct answer expected[CONTRACTS][KINDS];
 
+/* Two lists of rates for all contracts, in the second of which one is refused. */
+enum { RATES = 11 };
+static struct lent rates[2];
+
+static void lend_both_rates(void)
+{
+    uint16_t some[RATES];
+    for (size_t i = 0; i < RATES; i++)
+        some[i] = (uint16_t)between(1, 500);
+    rates[0] = lend_copy(some, sizeof some, sizeof some);
+    some[1] = 10001;
+    rates[1] = lend_copy(some, sizeof some, sizeof some);
+}
+
 /* Admissible amounts; in one table of four some that are not. */
 static struct lent random_table(struct terms c)
 {
@@ -148,7 +165,10 @@ static struct lent random_path(struct terms c, size_t count)
     return lend_copy(path, bytes, bytes);
 }
 
-/* Half of the contracts are damaged here or there; some are so large that calls overlap long. */
+/*
+ * Half of the contracts are damaged here or there; some are so large that calls overlap long. All
+ * have fewer dates than there are rates.
+ */
 static struct given random_given(void)
 {
     bool damaged = one_in(2);
@@ -160,9 +180,12 @@ static struct given random_given(void)
     if (damaged && one_in(4))
         damage_list(&in);
     struct given g = {lend_record(&in), lend_list(&in), random_table(c), random_path(c, count),
+                      start(rates[damaged && one_in(4)]), GMWB_RATE_BYTES * (size_t)c.dates,
                       upto(damaged ? 3 : 2), between(1, larger(c.dates, 2) - 1), upto(c.top),
                       upto(c.premium), 0, GMWB_BOOKING_BYTES, work_of(c), c.dates, map_of(c)};
     g.amount = upto(larger(g.account, free_amount(c, g.guarantee)) + (damaged ? 1 : 0));
+    if (damaged && one_in(4))
+        g.rates_len += one_in(2) ? 1 : GMWB_RATE_BYTES;
     if (damaged && one_in(4))
         g.work_len--;
     if (damaged && one_in(4))
@@ -175,13 +198,15 @@ static struct given random_given(void)
 /* Every call, one after the other. Both acceptance and refusal must have come of each kind. */
 static void prepare(void)
 {
-    uint64_t accepted[KINDS] = {0};
+    uint64_t accepted[KINDS] = {0}, by_rates = 0;
+    lend_both_rates();
     for (size_t k = 0; k < CONTRACTS; k++) {
         given[k] = random_given();
         for (size_t kind = 0; kind < KINDS; kind++) {
             expected[k][kind] = lent_to(kind, &given[k]);
             CALLS[kind].make(&given[k], &expected[k][kind]);
             accepted[kind] += expected[k][kind].number == 0;
+            by_rates += expected[k][kind].number >= GMWB_REFUSED_RATES_LENGTH;
         }
     }
     for (size_t kind = 0; kind < KINDS; kind++) {
@@ -189,6 +214,8 @@ static void prepare(void)
         holds("some are accepted and some refused",
               accepted[kind] > 0 && accepted[kind] < CONTRACTS);
     }
+    about("death rates");
+    holds("some are refused", by_rates > 0);
 }
 
 /* ---- Threads ---------------------------------------------------------------------------------- */
@@ -280,5 +307,7 @@ int main(int argc, char **argv)
         take_back(given[k].table);
         take_back(given[k].path);
     }
+    take_back(rates[0]);
+    take_back(rates[1]);
     return verdict("threads");
 }

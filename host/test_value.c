@@ -1,7 +1,7 @@
 /*
- * gmwb_value: the marked cases, rates that fall, returns that lift an account above top, every
- * refusal on both sides of its boundary, the order of the checks, what is left in the slices, and
- * random contracts against the second program.
+ * gmwb_value: the marked cases, penalty rates that fall, returns that lift an account above top,
+ * death rates, every refusal on both sides of its boundary, the order of the checks, what is left in
+ * the slices, and random contracts against the second program.
  */
 #include "valuing.h"
 
@@ -9,17 +9,17 @@
 
 static uint32_t value(const struct valuing *v, struct told *told, struct left *left)
 {
-    struct lent record = lend_record(&v->in), list = lend_list(&v->in);
+    struct lent record = lend_record(&v->in), list = lend_list(&v->in), rates = lend_rates(&v->in);
     struct left l = lend_both(v), m = lend_both(v);
     struct told t = untold(), s = untold();
     uint32_t number =
-        gmwb_value(start(record), v->in.record_len, start(list), v->in.list_len, v->behaviour,
-                   start(l.work), v->work_len, start(l.table), v->table_len,
-                   &t.place, &t.value, &t.margin);
+        gmwb_value(start(record), v->in.record_len, start(list), v->in.list_len,
+                   start(rates), v->in.rates_len, v->behaviour, start(l.work), v->work_len,
+                   start(l.table), v->table_len, &t.place, &t.value, &t.margin);
     uint32_t expected =
-        second_value(start(record), v->in.record_len, start(list), v->in.list_len, v->behaviour,
-                     start(m.work), v->work_len, start(m.table), v->table_len,
-                     &s.place, &s.value, &s.margin);
+        second_value(start(record), v->in.record_len, start(list), v->in.list_len,
+                     start(rates), v->in.rates_len, v->behaviour, start(m.work), v->work_len,
+                     start(m.table), v->table_len, &s.place, &s.value, &s.margin);
     same("number against the second program", number, expected);
     same_told(t, s);
     same_left(l, m);
@@ -29,6 +29,7 @@ static uint32_t value(const struct valuing *v, struct told *told, struct left *l
         after_success(terms_in(&v->in), t, l);
     take_back(record);
     take_back(list);
+    take_back(rates);
     take_back_left(m);
     *told = t;
     *left = l;
@@ -115,17 +116,23 @@ static void rates_at_zero(void)
 }
 
 /* Value and recorded amount of a state of date 1. */
-static void state(struct terms c, uint64_t behaviour, size_t account, size_t guarantee,
-                  uint64_t expected, uint16_t amount)
+static void state_with(struct input in, uint64_t behaviour, size_t account, size_t guarantee,
+                       uint64_t expected, uint16_t amount)
 {
-    struct valuing v = exact(input_of(c, P_RETURNS, 2), behaviour);
+    struct valuing v = exact(in, behaviour);
     struct told t;
     struct left l;
     same("number", value(&v, &t, &l), GMWB_SUCCESS);
-    size_t entry = entry_of(c, account, guarantee);
+    size_t entry = entry_of(in.terms, account, guarantee);
     same("value of the state", ((uint64_t *)start(l.work))[entry], expected);
     same("recorded amount", ((uint16_t *)start(l.table))[entry], amount);
     take_back_left(l);
+}
+
+static void state(struct terms c, uint64_t behaviour, size_t account, size_t guarantee,
+                  uint64_t expected, uint16_t amount)
+{
+    state_with(input_of(c, P_RETURNS, 2), behaviour, account, guarantee, expected, amount);
 }
 
 static void marked_states(void)
@@ -233,28 +240,160 @@ static void most_a_value_can_be(void)
 
 /*
  * 4,000 that triple pay 8,000 on each of 39 dates: values pass 2^31, and discount x sum 2^64. Under
- * dynamic withdrawals the second program would take long, so that the engine is called alone.
+ * dynamic withdrawals the second program would take long, so that the engine is called alone. A date
+ * is worth 80,000,000 and what the next one is, or 40,000,000 at death.
  */
-static void largest_payouts(void)
+static void largest_payouts(uint16_t first_rate)
 {
     const struct terms c = {1, 1, 4000, 40, 0, 1000, 1000000, 0, 0};
     const struct fund_return triple[1] = {{30000, 10000}};
     size_t entry = entry_of(c, 4000, 0);
+    uint64_t expected = 40000000;
+    uint16_t rates[40];
+    for (size_t i = 40; i-- > 0;) {
+        rates[i] = (uint16_t)(first_rate * (i + 1));
+        if (i > 0)
+            expected = 80000000 + ((UINT64_C(10000) - rates[i]) * expected +
+                                   rates[i] * UINT64_C(40000000)) / 10000;
+    }
+    struct input in = input_of(c, triple, 1);
+    pack_rates(&in, rates, 40);
     struct told t = untold();
     struct left l;
-    about("largest payouts");
+    about("largest payouts, rates from %u", (unsigned)first_rate);
     for (uint64_t behaviour = 0; behaviour <= 2; behaviour++) {
-        struct valuing v = exact(input_of(c, triple, 1), behaviour);
+        struct valuing v = exact(in, behaviour);
         if (behaviour == GMWB_DYNAMIC) {
             l = lend_both(&v);
             same("number", gmwb_value(v.in.record, v.in.record_len, v.in.list, v.in.list_len,
-                                      behaviour, start(l.work), v.work_len, start(l.table),
-                                      v.table_len, &t.place, &t.value, &t.margin), GMWB_SUCCESS);
+                                      v.in.rates, v.in.rates_len, behaviour, start(l.work),
+                                      v.work_len, start(l.table), v.table_len,
+                                      &t.place, &t.value, &t.margin), GMWB_SUCCESS);
             after_success(c, t, l);
         } else
             same("number", value(&v, &t, &l), GMWB_SUCCESS);
-        same("value of (4,000, 0)", ((uint64_t *)start(l.work))[entry], UINT64_C(3160000000));
+        same("value of (4,000, 0)", ((uint64_t *)start(l.work))[entry], expected);
         same("amount at (4,000, 0)", ((uint16_t *)start(l.table))[entry], 0);
+        take_back_left(l);
+    }
+    if (first_rate == 0)
+        same("the largest", expected, UINT64_C(3160000000));
+}
+
+/* ---- Death rates ------------------------------------------------------------------------------ */
+
+/* Static, mixed and dynamic. */
+static const struct {
+    uint16_t top, dates;
+    uint32_t discount;
+    uint16_t rates[4];
+    uint64_t values[3];
+} DEATHS[] = {
+    {20, 2, 1000000, {0, 0}, {125000, 125000, 130000}},
+    {20, 2, 1000000, {100, 100}, {125000, 125000, 129950}},
+    {20, 2, 1000000, {2500, 5000}, {125000, 125000, 128750}},
+    {20, 2, 1000000, {10000, 0}, {125000, 125000, 125000}},
+    {20, 2, 1000000, {10000, 10000}, {125000, 125000, 125000}},
+    {20, 2, 1000000, {0, 10000}, {125000, 125000, 130000}},
+    {20, 3, 1000000, {100, 200, 300}, {125000, 125000, 131162}},
+    {20, 4, 1000000, {500, 500, 500, 500}, {123927, 123927, 137844}},
+    {20, 2, 950000, {3333, 3333}, {116374, 116374, 118749}},
+    /* Each value is rounded before the weights: 97,500.75 and 145,001.5, dynamic 152,499.25. */
+    {20, 2, 950000, {3, 0}, {115187, 115187, 118749}},
+    /* With one date death pays what maturity does, above top too: 5 or 15. */
+    {20, 1, 1000000, {0}, {125000, 125000, 125000}},
+    {20, 1, 1000000, {5000}, {125000, 125000, 125000}},
+    {12, 1, 1000000, {10000}, {125000, 125000, 125000}},
+    {10, 1, 1000000, {1}, {125000, 125000, 125000}},
+    /* Death on date 1, at 5 or 15, of which 3 or 5 are above top. */
+    {12, 2, 1000000, {10000, 0}, {125000, 125000, 125000}},
+    {10, 2, 1000000, {10000, 0}, {125000, 125000, 125000}},
+    {10, 2, 1000000, {5000, 0}, {127500, 127500, 131250}},
+};
+
+static void death_values(void)
+{
+    for (size_t i = 0; i < COUNT(DEATHS); i++) {
+        struct terms c = P;
+        c.top = DEATHS[i].top;
+        c.dates = DEATHS[i].dates;
+        c.discount = DEATHS[i].discount;
+        struct input in = input_of(c, P_RETURNS, 2);
+        pack_rates(&in, DEATHS[i].rates, c.dates);
+        for (uint64_t behaviour = 0; behaviour <= 2; behaviour++) {
+            about("P under top %u with N %u, discount %lu, rates from %u, behaviour %" PRIu64,
+                  (unsigned)c.top, (unsigned)c.dates, (unsigned long)c.discount,
+                  (unsigned)DEATHS[i].rates[0], behaviour);
+            valued_with(in, behaviour, DEATHS[i].values[behaviour],
+                        (int64_t)DEATHS[i].values[behaviour] - 100000);
+        }
+    }
+}
+
+/*
+ * The first layer is a living holder's: the first rate has no part in it. At (15, 10) nothing drawn
+ * leads to (7, 10) or to (20, 10) and 2, worth 100,000 and 220,000. With three dates the second rate
+ * has a part in it: death for certain makes date 2 maturity.
+ */
+static void living_states(void)
+{
+    about("states of a living holder");
+    state_with(p_with_rates(2, (uint16_t[]){10000, 0}), GMWB_DYNAMIC, 15, 10, 160000, 0);
+    state_with(p_with_rates(2, (uint16_t[]){10000, 10000}), GMWB_DYNAMIC, 15, 10, 160000, 0);
+    state_with(p_with_rates(2, (uint16_t[]){2500, 5000}), GMWB_DYNAMIC, 5, 10, 100000, 0);
+    state_with(p_with_rates(3, (uint16_t[]){0, 10000, 0}), GMWB_DYNAMIC, 15, 10, 160000, 0);
+    state_with(p_with_rates(3, (uint16_t[]){10000, 10000, 0}), GMWB_DYNAMIC, 15, 10, 160000, 0);
+}
+
+/*
+ * Death for certain in a period pays what maturity on its closing date would: the contract is worth
+ * what it is worth with the dates up to there, and the same amounts are recorded before. The layer
+ * of date 1 tells of it where that date comes before.
+ */
+static void certain_death(uint64_t round)
+{
+    struct terms c = random_terms(20, 20, 6);
+    struct input in = random_input(c, (size_t)between(1, 4));
+    size_t period = (size_t)upto(c.dates - UINT64_C(1));
+    put(in.rates + GMWB_RATE_BYTES * period, GMWB_RATE_BYTES, 10000);
+    struct input ended = in;
+    c.dates = (uint16_t)(period + 1);
+    pack_record(&ended, c);
+    ended.rates_len = GMWB_RATE_BYTES * (period + 1);
+    about("round %" PRIu64 ": death for certain in period %lu", round, (unsigned long)period);
+    for (uint64_t behaviour = 0; behaviour <= 2; behaviour++) {
+        struct valuing v = exact(in, behaviour), w = exact(ended, behaviour);
+        struct told t, s;
+        struct left l, m;
+        same("number", value(&v, &t, &l), GMWB_SUCCESS);
+        same("number with fewer dates", value(&w, &s, &m), GMWB_SUCCESS);
+        same("value with fewer dates", t.value, s.value);
+        if (period > 0) {
+            size_t layer = layer_of(c) * sizeof(uint64_t), table = m.table.bytes;
+            holds("layer with fewer dates", memcmp(start(l.work), start(m.work), layer) == 0);
+            holds("table with fewer dates", memcmp(start(l.table), start(m.table), table) == 0);
+        }
+        take_back_left(l);
+        take_back_left(m);
+    }
+}
+
+/* A list of rates without bytes may be NULL; no contract is accepted with it. */
+static void no_rates(void)
+{
+    for (uint16_t dates = 1; dates <= 2; dates++) {
+        struct terms c = P;
+        c.dates = dates;
+        struct valuing v = exact(input_of(c, P_RETURNS, 2), GMWB_STATIC);
+        struct left l = lend_both(&v);
+        struct told t = untold();
+        about("N %u, no rates", (unsigned)dates);
+        same("number", gmwb_value(v.in.record, v.in.record_len, v.in.list, v.in.list_len, NULL, 0,
+                                  v.behaviour, start(l.work), v.work_len, start(l.table),
+                                  v.table_len, &t.place, &t.value, &t.margin),
+             GMWB_REFUSED_RATES_LENGTH);
+        same("place", t.place, 0);
+        after_refusal(t, l);
         take_back_left(l);
     }
 }
@@ -271,7 +410,14 @@ int main(int argc, char **argv)
     excess_on_first_return();
     fee_down_to_top();
     most_a_value_can_be();
-    largest_payouts();
+    largest_payouts(0);
+    largest_payouts(1);
+    largest_payouts(250);
+    death_values();
+    living_states();
+    for (uint64_t round = 0; round < rounds / 10; round++)
+        certain_death(round);
+    no_rates();
     shared_tests(rounds);
     return verdict("value");
 }

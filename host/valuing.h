@@ -105,6 +105,7 @@ static inline void ordered_case(const struct input *in, uint32_t number, uint64_
     answered(&v, number, place);
 }
 
+/* The rates' own come first: rates_faults_in_order. */
 static inline void later_checks_in_order(void)
 {
     struct valuing v = {input_p(), 3, 0, 0};
@@ -160,15 +161,16 @@ static inline size_t random_length(size_t needed)
 static inline void all_behaviours(const char *name, uint64_t round, struct valuing v,
                                   uint64_t *came)
 {
-    char record[HEX_ROOM], list[HEX_ROOM];
+    char record[HEX_ROOM], list[HEX_ROOM], rates[HEX_ROOM];
     uint64_t before = 0;
     bool other = one_in(16);
     for (v.behaviour = 0; v.behaviour <= (other ? 3 : 2); v.behaviour++) {
         about("%s %" PRIu64 ", behaviour %" PRIu64 ": record %s of %lu bytes, list %s of %lu, "
-              "working slice of %lu, table of %lu",
+              "rates %s of %lu, working slice of %lu, table of %lu",
               name, round, v.behaviour, hex(record, v.in.record, sizeof v.in.record),
               (unsigned long)v.in.record_len, hex(list, v.in.list, v.in.list_len),
-              (unsigned long)v.in.list_len, (unsigned long)v.work_len, (unsigned long)v.table_len);
+              (unsigned long)v.in.list_len, hex(rates, v.in.rates, v.in.rates_len),
+              (unsigned long)v.in.rates_len, (unsigned long)v.work_len, (unsigned long)v.table_len);
         struct told t;
         struct left l;
         uint32_t number = value(&v, &t, &l);
@@ -205,8 +207,11 @@ static inline void shared_tests(uint64_t rounds)
 {
     each_record(input_answered);
     each_list(input_answered);
+    each_rates_length(input_answered);
+    each_rate(input_answered);
     record_faults_in_order(ordered_case);
     list_faults_in_order(ordered_case);
+    rates_faults_in_order(ordered_case);
     later_checks_in_order();
     behaviours();
     slice_lengths();
@@ -215,7 +220,7 @@ static inline void shared_tests(uint64_t rounds)
         random_round(round, came);
     for (uint64_t round = 0; round < rounds / 500; round++)
         larger_contract(round, came);
-    static const uint32_t numbers[] = {0, 1, 2, 3, 4, 5, 6, 7, 8, 9, 10, 11, 15};
+    static const uint32_t numbers[] = {0, 1, 2, 3, 4, 5, 6, 7, 8, 9, 10, 11, 15, 17, 18};
     if (rounds >= 2000)
         all_came(came, numbers, COUNT(numbers));
 }

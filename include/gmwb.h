@@ -2,10 +2,10 @@
  * Valuation of guaranteed minimum withdrawal benefits: the calls of libgmwb.a for C hosts.
  *
  * Answers. Each call returns 0 on success, else the number of a refusal (enum gmwb_refusal). Checks
- * run in the order of the numbers, save that 15 comes right after 6 and 16 right after 11; each
- * call makes those for which it has the input, and the first that fails is returned. A refusal
- * changes no slice. What place, value, margin and count point to is always written: place is 0 on
- * success, the others are 0 on refusal.
+ * run in the order of the numbers, save that 15 comes right after 6, 17 and 18 right after 9, and
+ * 16 right after 11; each call makes those for which it has the input, and the first that fails is
+ * returned. A refusal changes no slice. What place, value, margin and count point to is always
+ * written: place is 0 on success, the others are 0 on refusal.
  *
  * Units. Accounts, guarantees and withdrawals are whole money units; values, margins, cash and
  * penalties are ten-thousandths of a unit. Fields of records and buffers are unsigned, low byte
@@ -17,11 +17,11 @@
  * cash has 4 bytes. The amounts of a table and the return numbers of a path have 16 bits.
  *
  * Slices. A slice is a pointer, aligned for its type, and the number of entries behind it (bytes
- * for a record, a list and a booking buffer). Nothing is read or written through a pointer whose
- * length is 0: it may be NULL. The pointers place, value, margin and count must not be NULL. Slices
- * passed as const are only read and may share memory with one another. Each slice that is not
- * const, and each object that place, value, margin or count points to, must be apart from all
- * others of the call.
+ * for a record, a return list, death rates and a booking buffer). Nothing is read or written
+ * through a pointer whose length is 0: it may be NULL. The pointers place, value, margin and count
+ * must not be NULL. Slices passed as const are only read and may share memory with one another.
+ * Each slice that is not const, and each object that place, value, margin or count points to, must
+ * be apart from all others of the call.
  *
  * Threads. A call allocates nothing and keeps no state. Calls may run at the same time where none
  * writes what another reads or writes.
@@ -29,8 +29,9 @@
  * Time. A check and a booking take a few steps, a walk a few for each date and return. Valuing a
  * contract or a supplied table makes (N - 1) x (top + 1) x (U + 1) x returns products, and looks at
  * one amount of each state of each decision date; mixed looks at two, dynamic, on each date, at
- * about top x U x G amounts up to m and at most U^3 / 6 above it. A map adds a look at each entry
- * of the table. docs/BENCHMARK.md has times.
+ * about top x U x G amounts up to m and at most U^3 / 6 above it. A death rate above 0 adds one
+ * pass over a layer on its date. A map adds a look at each entry of the table. docs/BENCHMARK.md
+ * has times.
  *
  * The archive is for x86-64: size_t has 64 bits.
  */
@@ -68,7 +69,11 @@ enum gmwb_refusal {
                                        first such entry; walk, the date; booking, 0 */
     GMWB_REFUSED_STEP = 15,         /* step above 10,000 or a spare byte not zero; checked right
                                        after 6 */
-    GMWB_REFUSED_MAP = 16           /* map shorter than needed; checked right after 11 */
+    GMWB_REFUSED_MAP = 16,          /* map shorter than needed; checked right after 11 */
+    GMWB_REFUSED_RATES_LENGTH = 17, /* list of death rates not of 2 x N bytes; checked
+                                       right after 9 */
+    GMWB_REFUSED_DEATH_RATE = 18    /* death rate above 10,000; place: the index of the first such
+                                       rate; checked right after 17 */
 };
 
 /* ---- Checking a record, booking a withdrawal -------------------------------------------------
@@ -130,32 +135,43 @@ uint32_t gmwb_book(const uint8_t *record, size_t record_len,
  * A return list has 1 to 64 records of 4 bytes: factor (2 bytes, ten-thousandths, 0 to 30,000) and
  * weight (2 bytes, 1 to 10,000). The weights add to 10,000.
  *
+ * A list of death rates, rates, has N rates of 2 bytes (ten-thousandths, 0 to 10,000): the rate of
+ * index i is that of the period from date i to date i + 1. Zero rates give the values without
+ * death.
+ *
  * The value rests on these rules and on those of a withdrawal:
  *
  *     start      balance U and guarantee U, then the first return
  *     return     next account = balance x factor x (10,000 - fee) / 100,000,000, rounded down a
  *                single time; a result above top is held at top, and the excess is paid to the
  *                holder on arrival, without penalty
+ *     death      death in a period pays 10,000 x the larger of W and A as reached on its closing
+ *                date, before any decision, plus 10,000 x the excess
  *     reached    the value reached is that of the next account and the guarantee plus 10,000 x the
- *                excess, also on the first return and at maturity
+ *                excess; it becomes ((10,000 - rate) x value + rate x death payment) / 10,000,
+ *                rounded down, before weights are applied; all this also on the first return and at
+ *                maturity
  *     maturity   the value is 10,000 x the larger of W and A
  *     before it  an amount is worth its cash plus discount x (sum of weight x value reached) /
  *                10,000,000,000, rounded down once; a state's value is the largest worth among
  *                the amounts open to the holder
  *     contract   the same discounted and rounded sum over the first return, without cash
  *
+ * A strategy chooses only while the holder lives.
+ *
  * A layer has (top + 1) x (U + 1) entries; the entry of state (W, A) is W x (U + 1) + A.
  *
  * The working slice, work, needs two layers. After success the first holds the values of date 1
- * (for N = 1 those of maturity), the second zeros. A state's value counts each excess that may be
- * paid after its date, and not the one that was paid on arrival in it.
+ * (for N = 1 those of maturity), the second zeros. They are values of a living holder: a state's
+ * value counts each excess and each death payment that may be paid after its date, and not what was
+ * paid on arrival in it or for death in the period before.
  *
  * The table holds withdrawal amounts and needs N - 1 layers: the layer of date i, from 1 to N - 1,
  * starts at entry (i - 1) x (top + 1) x (U + 1). For N = 1 its length may be 0.
  *
  * Either slice may be longer; entries beyond those needed play no part and are untouched.
  */
-enum { GMWB_RETURN_BYTES = 4, GMWB_MOST_RETURNS = 64 };
+enum { GMWB_RETURN_BYTES = 4, GMWB_MOST_RETURNS = 64, GMWB_RATE_BYTES = 2 };
 
 /* The amounts open to the holder. */
 enum gmwb_behaviour {
@@ -168,11 +184,12 @@ enum gmwb_behaviour {
  * Values a contract under a behaviour. Returns 0 with the contract's value, the margin (value less
  * 10,000 x premium, negative where the contract is worth less than its premium), place 0, the
  * working slice as above, and in each entry of the table the recorded amount: the smallest among
- * the best. Else a refusal (1 to 6, 15, 7 to 11) and its place, with value 0, margin 0, work and
- * table untouched.
+ * the best. Else a refusal (1 to 6, 15, 7 to 9, 17, 18, 10, 11) and its place, with value 0, margin
+ * 0, work and table untouched.
  */
 uint32_t gmwb_value(const uint8_t *record, size_t record_len,
                     const uint8_t *list, size_t list_len,
+                    const uint8_t *rates, size_t rates_len,
                     uint64_t behaviour,
                     uint64_t *work, size_t work_len,
                     uint16_t *table, size_t table_len,
@@ -189,13 +206,14 @@ uint32_t gmwb_value(const uint8_t *record, size_t record_len,
  * For N = 1 that is none, and the map's length may be 0. Bits of the last word that belong to no
  * entry are 0. The map may be longer; words beyond those needed are untouched.
  *
- * Values a contract as gmwb_value does, each excess counted, with the same checks, place, value,
- * margin, working slice and table. Returns 0 with these, the map as above, and count, the number of
- * bits set in the words needed. Else a refusal (1 to 6, 15, 7 to 11, 16) and its place, with value
- * 0, margin 0, count 0, work, table and map untouched.
+ * Values a contract as gmwb_value does, each excess and each death payment counted, with the same
+ * checks, place, value, margin, working slice and table. Returns 0 with these, the map as above,
+ * and count, the number of bits set in the words needed. Else a refusal (1 to 6, 15, 7 to 9, 17,
+ * 18, 10, 11, 16) and its place, with value 0, margin 0, count 0, work, table and map untouched.
  */
 uint32_t gmwb_value_map(const uint8_t *record, size_t record_len,
                         const uint8_t *list, size_t list_len,
+                        const uint8_t *rates, size_t rates_len,
                         uint64_t behaviour,
                         uint64_t *work, size_t work_len,
                         uint16_t *table, size_t table_len,
@@ -204,14 +222,15 @@ uint32_t gmwb_value_map(const uint8_t *record, size_t record_len,
 
 /* ---- Valuing a supplied table ----------------------------------------------------------------
  *
- * Values a contract whose holder withdraws what the table says, each excess counted; record, list,
- * work and table as above. Every needed entry of the table is checked against the dynamic set of
- * its state, reachable or not. Returns 0 with value, margin, place 0 and the working slice as
- * gmwb_value does. Else a refusal (1 to 6, 15, 7 to 9, 11, 14) and its place, with value 0, margin
- * 0 and work untouched.
+ * Values a contract whose holder withdraws, while alive, what the table says, each excess and each
+ * death payment counted; record, list, rates, work and table as above. Every needed entry of the
+ * table is checked against the dynamic set of its state, reachable or not. Returns 0 with value,
+ * margin, place 0 and the working slice as gmwb_value does. Else a refusal (1 to 6, 15, 7 to 9, 17,
+ * 18, 11, 14) and its place, with value 0, margin 0 and work untouched.
  */
 uint32_t gmwb_value_table(const uint8_t *record, size_t record_len,
                           const uint8_t *list, size_t list_len,
+                          const uint8_t *rates, size_t rates_len,
                           uint64_t *work, size_t work_len,
                           const uint16_t *table, size_t table_len,
                           uint64_t *place, uint64_t *value, int64_t *margin);
@@ -219,11 +238,12 @@ uint32_t gmwb_value_table(const uint8_t *record, size_t record_len,
 /* ---- Walking a contract along a path ---------------------------------------------------------
  *
  * Follows a table along a path of N return numbers (from 0, by place in the list), the first return
- * first; record, list and table as above. The table needs all N - 1 layers and cash N entries; only
- * the table entries met are checked. Returns 0 with place 0 and cash filled with N amounts in order
- * of date, from date 1 to maturity: the cash of the withdrawal, on the last the maturity payment,
- * plus 10,000 x the excess of the return that led there. Entries of cash beyond N are untouched.
- * Else a refusal (1 to 6, 15, 7 to 9, 11, 13, 14) and its place, with cash untouched.
+ * first; record, list and table as above. A walk is that of a holder who lives to maturity, and
+ * takes no death rates. The table needs all N - 1 layers and cash N entries; only the table entries
+ * met are checked. Returns 0 with place 0 and cash filled with N amounts in order of date, from
+ * date 1 to maturity: the cash of the withdrawal, on the last the maturity payment, plus 10,000 x
+ * the excess of the return that led there. Entries of cash beyond N are untouched. Else a refusal
+ * (1 to 6, 15, 7 to 9, 11, 13, 14) and its place, with cash untouched.
  *
  * An excess is no withdrawal: it lowers no guarantee, and neither a table nor a booking holds it.
  */

@@ -59,6 +59,8 @@ unsafe extern "C" fn second_value(
     record_len: usize,
     list: *const u8,
     list_len: usize,
+    rates: *const u8,
+    rates_len: usize,
     behaviour: u64,
     work: *mut u64,
     work_len: usize,
@@ -69,8 +71,9 @@ unsafe extern "C" fn second_value(
     margin: *mut i64,
 ) -> u32 {
     let (record, list) = (lent(record, record_len), lent(list, list_len));
+    let rates = lent(rates, rates_len);
     let (work, table) = (lent_mut(work, work_len), lent_mut(table, table_len));
-    let told = gmwb::value(record, list, behaviour, work, table);
+    let told = gmwb::value(record, list, rates, behaviour, work, table);
     tell(told, place, value, margin)
 }
 
@@ -80,6 +83,8 @@ unsafe extern "C" fn second_value_map(
     record_len: usize,
     list: *const u8,
     list_len: usize,
+    rates: *const u8,
+    rates_len: usize,
     behaviour: u64,
     work: *mut u64,
     work_len: usize,
@@ -93,9 +98,10 @@ unsafe extern "C" fn second_value_map(
     count: *mut u64,
 ) -> u32 {
     let (record, list) = (lent(record, record_len), lent(list, list_len));
+    let rates = lent(rates, rates_len);
     let (work, table) = (lent_mut(work, work_len), lent_mut(table, table_len));
     let map = lent_mut(map, map_len);
-    let told = gmwb::value_map(record, list, behaviour, work, table, map);
+    let told = gmwb::value_map(record, list, rates, behaviour, work, table, map);
     *count = told.count;
     tell(told.valued, place, value, margin)
 }
@@ -106,6 +112,8 @@ unsafe extern "C" fn second_value_table(
     record_len: usize,
     list: *const u8,
     list_len: usize,
+    rates: *const u8,
+    rates_len: usize,
     work: *mut u64,
     work_len: usize,
     table: *const u16,
@@ -115,8 +123,9 @@ unsafe extern "C" fn second_value_table(
     margin: *mut i64,
 ) -> u32 {
     let (record, list) = (lent(record, record_len), lent(list, list_len));
+    let rates = lent(rates, rates_len);
     let (work, table) = (lent_mut(work, work_len), lent(table, table_len));
-    let told = gmwb::value_table(record, list, work, table);
+    let told = gmwb::value_table(record, list, rates, work, table);
     tell(told, place, value, margin)
 }
 

@@ -4,16 +4,17 @@
 //! document 01, penalty rates that fall, the ends of every range, every refusal alone and
 //! with the checks behind it failing too, every count of dates, slices of every length
 //! that matters, and random contracts, whole and damaged. Maps of surrender follow, in
-//! parts of the same kinds, then returns that lift an account above top: each behind what
-//! was there before, so that the lines before them keep their seeds.
+//! parts of the same kinds, then returns that lift an account above top, then payment at
+//! death. Random contracts have death rates of every kind; where a part is about something
+//! else, the rates are zero.
 //!
-//! The test program has room for records of 64 bytes, lists of 512, 64 return numbers,
-//! 64 bytes of a buffer, 65,536 numbers of a working slice or of cash, 65,536 amounts
-//! of a table, and 2,048 words of a map (65,536 amounts need 1,024). Nothing here asks
-//! for more.
+//! The test program has room for records of 64 bytes, lists of 512, rates of 128, 64 return
+//! numbers, 64 bytes of a buffer, 65,536 numbers of a working slice or of cash, 65,536
+//! amounts of a table, and 2,048 words of a map (65,536 amounts need 1,024). Nothing here
+//! asks for more.
 
 use crate::script::MOD_64;
-use crate::terms::{list, Return, Terms, P, P_RETURNS, Q};
+use crate::terms::{list, rate_list, Return, Terms, P, P_RETURNS, Q};
 use std::fmt::Write;
 
 impl Terms {
@@ -183,6 +184,19 @@ impl Draw {
         returns
     }
 
+    /// Accepted death rates: none or few, small ones or any, some of them at an end of the
+    /// range or next to it.
+    fn rates(&mut self, dates: u16) -> Vec<u16> {
+        let most = self.one(&[0, 300, 3_000, 10_000]);
+        let mut rates = Vec::new();
+        for _ in 0..dates {
+            let rate = self.upto(most) as u16;
+            let end = self.one(&[0, 1, 9_999, 10_000]);
+            rates.push(if self.upto(6) == 0 { end } else { rate });
+        }
+        rates
+    }
+
     /// A path: N return numbers, each of a list of `count`.
     fn path(&mut self, dates: u16, count: usize) -> String {
         let numbers: Vec<u16> = (0..dates).map(|_| self.upto(count - 1) as u16).collect();
@@ -197,9 +211,27 @@ impl Draw {
 struct Script {
     text: String,
     draw: Draw,
+    /// The death rates of the valuations to come; none stands for zero rates.
+    rates: Option<Vec<u16>>,
 }
 
 impl Script {
+    /// What `write` adds, its valuations with these death rates.
+    fn with_rates(&mut self, rates: &[u16], write: impl FnOnce(&mut Script)) {
+        self.rates = Some(rates.to_vec());
+        write(self);
+        self.rates = None;
+    }
+
+    /// Record, list and rates of a valuation. A count of dates that is refused may pass the
+    /// room for rates.
+    fn bytes(&self, terms: Terms, returns: &[Return]) -> String {
+        let mut rates = self.rates.clone().unwrap_or(terms.zero_rates());
+        rates.truncate(64);
+        let (record, list) = (hex(&terms.record()), hex(&list(returns)));
+        format!("{record} {list} {}", hex(&rate_list(&rates)))
+    }
+
     fn part(&mut self, name: &str) {
         writeln!(self.text, "# {name}").unwrap();
     }
@@ -216,13 +248,9 @@ impl Script {
         work: usize,
         table: usize,
     ) {
-        let (record, list) = (hex(&terms.record()), hex(&list(returns)));
+        let bytes = self.bytes(terms, returns);
         let (work, table) = (self.draw.filled_64(work), self.draw.filled(table));
-        writeln!(
-            self.text,
-            "value {record} {list} {behaviour} {work} {table}"
-        )
-        .unwrap();
+        writeln!(self.text, "value {bytes} {behaviour} {work} {table}").unwrap();
     }
 
     /// A valuation with a map, the table just long enough.
@@ -234,21 +262,20 @@ impl Script {
         work: usize,
         map: usize,
     ) {
-        let (record, list) = (hex(&terms.record()), hex(&list(returns)));
+        let bytes = self.bytes(terms, returns);
         let work = self.draw.filled_64(work);
         let table = self.draw.filled(terms.table());
         let map = self.draw.filled_map(map);
         writeln!(
             self.text,
-            "value_map {record} {list} {behaviour} {work} {table} {map}"
+            "value_map {bytes} {behaviour} {work} {table} {map}"
         )
         .unwrap();
     }
 
     fn value_table(&mut self, terms: Terms, returns: &[Return], work: usize, table: &str) {
-        let (record, list) = (hex(&terms.record()), hex(&list(returns)));
-        let work = self.draw.filled_64(work);
-        writeln!(self.text, "value_table {record} {list} {work} {table}").unwrap();
+        let (bytes, work) = (self.bytes(terms, returns), self.draw.filled_64(work));
+        writeln!(self.text, "value_table {bytes} {work} {table}").unwrap();
     }
 
     fn book(&mut self, terms: Terms, state: [usize; 4], buffer: usize) {
@@ -337,7 +364,7 @@ fn worked_by_hand(s: &mut Script) {
     }
 }
 
-// ------------------------------------------- Document 02, request (i): falling rates
+// ----------------------------------- Document 02, request (i): falling penalty rates
 
 fn falling_rates(s: &mut Script) {
     s.part("Document 02, request (i): P with N 4 and steps 0, 100 and 1,000, valued, supplied back, walked along every path.");
@@ -370,9 +397,9 @@ fn falling_rates(s: &mut Script) {
     }
 }
 
-/// Rates and steps: the rate reaches zero on a date, between two dates or on none. With 16
+/// Penalty rates and steps: the rate reaches zero on a date, between two dates or on none. With 16
 /// bits 8 × 8,192 would be 0 again.
-const RATES: [(u16, u16); 8] = [
+const PENALTIES: [(u16, u16); 8] = [
     (1_000, 199),
     (1_000, 200),
     (1_000, 201),
@@ -395,8 +422,8 @@ fn draw_on(s: &mut Script, terms: Terms, date: usize) {
 }
 
 fn rates_at_zero(s: &mut Script) {
-    s.part("Rates that reach zero on a date, between two or never: bookings on every date of P with N 40.");
-    for (penalty, step) in RATES {
+    s.part("Penalty rates that reach zero on a date, between two or never: bookings on every date of P with N 40.");
+    for (penalty, step) in PENALTIES {
         let terms = Terms {
             dates: 40,
             penalty,
@@ -407,8 +434,8 @@ fn rates_at_zero(s: &mut Script) {
             s.book(terms, [date, 20, 10, 20], 16);
         }
     }
-    s.part("These rates: P with N 8 valued; tables that draw 20 at (20, 10) on one date, supplied and walked.");
-    for (penalty, step) in RATES {
+    s.part("These penalty rates: P with N 8 valued; tables that draw 20 at (20, 10) on one date, supplied and walked.");
+    for (penalty, step) in PENALTIES {
         let terms = Terms {
             dates: 8,
             penalty,
@@ -481,8 +508,9 @@ fn lengths_of_bytes(s: &mut Script) {
         let mut list = list(&s.draw.returns(count));
         list.resize(length, 1);
         let (record, list) = (hex(&P.record()), hex(&list));
-        writeln!(s.text, "value {record} {list} 2 462:1 231:1").unwrap();
-        writeln!(s.text, "value_table {record} {list} 462:1 231:0:1").unwrap();
+        let rates = hex(&rate_list(&P.zero_rates()));
+        writeln!(s.text, "value {record} {list} {rates} 2 462:1 231:1").unwrap();
+        writeln!(s.text, "value_table {record} {list} {rates} 462:1 231:0:1").unwrap();
         writeln!(s.text, "walk {record} {list} 231:0:1 0,0 2:1").unwrap();
     }
 }
@@ -530,6 +558,7 @@ struct Parts {
     record: Vec<u8>,
     terms: Terms,
     list: Vec<u8>,
+    rates: Vec<u8>,
     behaviour: u64,
     work: usize,
     table: Vec<u16>,
@@ -558,6 +587,7 @@ fn whole(draw: &mut Draw, most_top: usize, most_dates: usize) -> (Terms, Parts) 
         record: terms.record(),
         terms,
         list: list(&returns),
+        rates: rate_list(&draw.rates(terms.dates)),
         behaviour: draw.upto(2) as u64,
         work: terms.work() + draw.upto(2),
         table,
@@ -626,6 +656,18 @@ impl Parts {
         }
     }
 
+    fn spoil_rates(&mut self, number: u64, draw: &mut Draw) {
+        let length = self.rates.len();
+        if number == 17 {
+            let lengths = [0, 1, length - 2, length - 1, length + 1, length + 2, 80, 82];
+            self.rates.resize(draw.one(&lengths), 0);
+        } else {
+            let rate: u16 = draw.one(&[10_001, 10_240, 65_535]);
+            let place = 2 * draw.upto(length / 2 - 1);
+            self.rates[place..place + 2].copy_from_slice(&rate.to_le_bytes());
+        }
+    }
+
     fn spoil_lent(&mut self, operation: &str, draw: &mut Draw) {
         match operation {
             "book" => self.buffer = draw.one(&[0, 1, 15, 17, 64]),
@@ -662,6 +704,7 @@ impl Parts {
                 _ => self.state[2] = draw.one(&[u64::from(self.terms.premium) + 1, u64::MAX]),
             },
             13 => self.spoil_path(draw),
+            17 | 18 => self.spoil_rates(number, draw),
             16 => self.map = draw.one(&[0, self.map - 1]),
             _ if operation == "book" => {
                 let most = self.state[1].max(u64::from(self.terms.premium));
@@ -679,15 +722,16 @@ impl Parts {
 
     fn line(&self, operation: &str, draw: &mut Draw) -> String {
         let (record, list) = (hex(&self.record), hex(&self.list));
+        let (rates, behaviour) = (hex(&self.rates), self.behaviour);
         let (table, work) = (listed(&self.table), draw.filled_64(self.work));
         match operation {
             "check" => format!("check {record}"),
-            "value" => format!("value {record} {list} {} {work} {table}", self.behaviour),
+            "value" => format!("value {record} {list} {rates} {behaviour} {work} {table}"),
             "value_map" => {
-                let (behaviour, map) = (self.behaviour, draw.filled_map(self.map));
-                format!("value_map {record} {list} {behaviour} {work} {table} {map}")
+                let map = draw.filled_map(self.map);
+                format!("value_map {record} {list} {rates} {behaviour} {work} {table} {map}")
             }
-            "value_table" => format!("value_table {record} {list} {work} {table}"),
+            "value_table" => format!("value_table {record} {list} {rates} {work} {table}"),
             "book" => {
                 let [date, account, guarantee, amount] = self.state;
                 let buffer = draw.filled(self.buffer);
@@ -704,11 +748,17 @@ impl Parts {
 /// The operations, each with the numbers of its checks in their order.
 pub const ORDERS: [(&str, &[u64]); 6] = [
     ("check", &[1, 2, 3, 4, 5, 6, 15]),
-    ("value", &[1, 2, 3, 4, 5, 6, 15, 7, 8, 9, 10, 11]),
-    ("value_table", &[1, 2, 3, 4, 5, 6, 15, 7, 8, 9, 11, 14]),
+    ("value", &[1, 2, 3, 4, 5, 6, 15, 7, 8, 9, 17, 18, 10, 11]),
+    (
+        "value_table",
+        &[1, 2, 3, 4, 5, 6, 15, 7, 8, 9, 17, 18, 11, 14],
+    ),
     ("book", &[1, 2, 3, 4, 5, 6, 15, 11, 12, 14]),
     ("walk", &[1, 2, 3, 4, 5, 6, 15, 7, 8, 9, 11, 13, 14]),
-    ("value_map", &[1, 2, 3, 4, 5, 6, 15, 7, 8, 9, 10, 11, 16]),
+    (
+        "value_map",
+        &[1, 2, 3, 4, 5, 6, 15, 7, 8, 9, 17, 18, 10, 11, 16],
+    ),
 ];
 
 /// For each check of each operation: input that fails it alone, with the next check, and
@@ -933,8 +983,8 @@ fn random_bookings(s: &mut Script) {
 
 fn random_contract(s: &mut Script, terms: Terms, most_returns: usize) {
     let count = 1 + s.draw.upto(most_returns - 1);
-    let returns = s.draw.returns(count);
-    tried(s, terms, &returns);
+    let (returns, rates) = (s.draw.returns(count), s.draw.rates(terms.dates));
+    s.with_rates(&rates, |s| tried(s, terms, &returns));
 }
 
 /// A table that is filled, supplied back whole and with one entry changed, and walked.
@@ -1124,9 +1174,9 @@ fn maps_of_every_date(s: &mut Script) {
 /// A map of at most two words more than are needed.
 fn random_map(s: &mut Script, terms: Terms, most_returns: usize) {
     let count = 1 + s.draw.upto(most_returns - 1);
-    let returns = s.draw.returns(count);
+    let (returns, rates) = (s.draw.returns(count), s.draw.rates(terms.dates));
     let map = terms.map() + s.draw.upto(2);
-    mapped(s, terms, &returns, map);
+    s.with_rates(&rates, |s| mapped(s, terms, &returns, map));
 }
 
 fn random_maps(s: &mut Script) {
@@ -1311,23 +1361,26 @@ fn large_payouts(s: &mut Script) {
     }
 }
 
+fn random_payout(s: &mut Script, terms: Terms, most_returns: usize) {
+    let count = 1 + s.draw.upto(most_returns - 1);
+    let (returns, rates) = (s.draw.lifting(count), s.draw.rates(terms.dates));
+    s.with_rates(&rates, |s| {
+        tried(s, terms, &returns);
+        mapped(s, terms, &returns, terms.map());
+    });
+}
+
 fn random_payouts(s: &mut Script) {
     s.part("Random contracts whose returns lift accounts above top.");
     for _ in 0..60 {
         let terms = s.draw.near_top(12, 6);
-        let count = 1 + s.draw.upto(3);
-        let returns = s.draw.lifting(count);
-        tried(s, terms, &returns);
-        mapped(s, terms, &returns, terms.map());
+        random_payout(s, terms, 4);
     }
     s.part("The same with up to 64 returns, then with tops up to 60.");
     for (most_top, most_dates, most_returns) in [(10, 4, 64), (60, 4, 20)] {
         for _ in 0..8 {
             let terms = s.draw.near_top(most_top, most_dates);
-            let count = 1 + s.draw.upto(most_returns - 1);
-            let returns = s.draw.lifting(count);
-            tried(s, terms, &returns);
-            mapped(s, terms, &returns, terms.map());
+            random_payout(s, terms, most_returns);
         }
     }
 }
@@ -1342,11 +1395,251 @@ fn payouts(s: &mut Script) {
     random_payouts(s);
 }
 
+// ------------------------------------- Document 02, request (v): payment at death
+
+/// The calls that take rates, their slices just long enough: each behaviour, a map, the last
+/// table supplied back.
+fn valued_with_rates(s: &mut Script, terms: Terms, returns: &[Return], rates: &[u16]) {
+    s.with_rates(rates, |s| {
+        for behaviour in 0..3 {
+            s.value(terms, returns, behaviour, terms.work(), terms.table());
+        }
+        let behaviour = s.draw.upto(2) as u64;
+        s.value_map(terms, returns, behaviour, terms.work(), terms.map());
+        s.value_table(terms, returns, terms.work(), "=");
+    });
+}
+
+fn deaths_worked_by_hand(s: &mut Script) {
+    s.part("Document 02, request (v): P and Q with death rates, each behaviour, the table supplied back.");
+    let pairs = [
+        [0, 0],
+        [100, 100],
+        [2_500, 5_000],
+        [10_000, 0],
+        [10_000, 10_000],
+        [0, 10_000],
+    ];
+    for terms in [P, Q] {
+        for rates in pairs {
+            valued_with_rates(s, terms, &P_RETURNS, &rates);
+        }
+        let three = Terms { dates: 3, ..terms };
+        valued_with_rates(s, three, &P_RETURNS, &[100, 200, 300]);
+        let four = Terms { dates: 4, ..terms };
+        valued_with_rates(s, four, &P_RETURNS, &[500; 4]);
+        let discount = 950_000;
+        let terms = Terms { discount, ..terms };
+        valued_with_rates(s, terms, &P_RETURNS, &[3_333; 2]);
+    }
+}
+
+/// A discount and a fee, so that the death payment is not worth what the guarantee is.
+const DISCOUNTED: Terms = Terms {
+    fee: 150,
+    discount: 950_000,
+    ..P
+};
+
+fn one_period_only(s: &mut Script) {
+    s.part("Death rates of one period only, each period in turn.");
+    for (dates, deadly) in [
+        (1, &[1, 10_000][..]),
+        (2, &[1, 5_000, 10_000]),
+        (3, &[1, 5_000, 9_999, 10_000]),
+        (6, &[5_000]),
+    ] {
+        for period in 0..usize::from(dates) {
+            for rate in deadly {
+                let terms = Terms {
+                    dates,
+                    ..DISCOUNTED
+                };
+                let mut rates = terms.zero_rates();
+                rates[period] = *rate;
+                valued_with_rates(s, terms, &P_RETURNS, &rates);
+            }
+        }
+    }
+    for period in 0..40 {
+        let terms = Terms {
+            dates: 40,
+            top: 12,
+            ..DISCOUNTED
+        };
+        let mut rates = terms.zero_rates();
+        rates[period] = 5_000;
+        s.with_rates(&rates, |s| {
+            let behaviour = s.draw.upto(2) as u64;
+            s.value(terms, &P_RETURNS, behaviour, terms.work(), terms.table());
+            s.value_table(terms, &P_RETURNS, terms.work(), "=");
+            s.value_map(terms, &P_RETURNS, 2 - behaviour, terms.work(), terms.map());
+        });
+    }
+}
+
+/// A line for each operation that takes rates, with these bytes as rates.
+fn rates_as_bytes(s: &mut Script, terms: Terms, rates: &[u8]) {
+    let (record, list, rates) = (hex(&terms.record()), hex(&list(&P_RETURNS)), hex(rates));
+    let bytes = format!("{record} {list} {rates}");
+    let (behaviour, table) = (s.draw.upto(2), terms.table());
+    let work = s.draw.filled_64(terms.work());
+    let map = s.draw.filled_map(terms.map());
+    let text = &mut s.text;
+    writeln!(text, "value {bytes} {behaviour} {work} {table}:0:1").unwrap();
+    writeln!(text, "value_map {bytes} {behaviour} {work} = {map}").unwrap();
+    writeln!(text, "value_table {bytes} {work} {table}:0:1").unwrap();
+}
+
+/// Rates of 1,799, then of 65,535, which are refused where their count is right.
+fn lengths_of_rates(s: &mut Script) {
+    s.part("Death rates of every length around 2 x N bytes, also with rates above 10,000.");
+    let longest = [0, 1, 2, 4, 40, 78, 79, 80, 81, 82, 84, 127, 128].to_vec();
+    for (dates, lengths) in [
+        (1, (0..=5).chain([80]).collect()),
+        (2, (0..=7).chain([78, 80, 82]).collect()),
+        (40, longest),
+    ] {
+        for length in lengths {
+            for byte in [7, 255] {
+                let terms = Terms {
+                    dates,
+                    top: 10,
+                    ..P
+                };
+                rates_as_bytes(s, terms, &vec![byte; length]);
+            }
+        }
+    }
+}
+
+fn rates_above_whole(s: &mut Script) {
+    s.part("Death rates of 10,000 and above it, at each index and at two.");
+    for (dates, rates) in [
+        (1, &[10_000, 10_001, 10_240, 65_535][..]),
+        (2, &[10_000, 10_001, 65_535]),
+        (3, &[10_001, 65_535]),
+        (40, &[10_001]),
+    ] {
+        let terms = Terms {
+            dates,
+            top: 10,
+            ..P
+        };
+        for index in 0..usize::from(dates) {
+            for rate in rates {
+                let mut rates = s.draw.rates(dates);
+                rates[index] = *rate;
+                rates_as_bytes(s, terms, &rate_list(&rates));
+            }
+        }
+    }
+    for (first, second) in [(0, 1), (0, 39), (1, 2), (7, 30), (38, 39)] {
+        let terms = Terms {
+            dates: 40,
+            top: 10,
+            ..P
+        };
+        let mut rates = s.draw.rates(40);
+        rates[first] = s.draw.one(&[10_001, 65_535]);
+        rates[second] = s.draw.one(&[10_001, 65_535]);
+        rates_as_bytes(s, terms, &rate_list(&rates));
+    }
+}
+
+/// 18 is spoilt before 17, which may cut the rates.
+fn rates_refused_in_order(s: &mut Script) {
+    s.part("Refusals 17 and 18 beside each other check of the operation.");
+    for (operation, order) in ORDERS.iter().filter(|(_, order)| order.contains(&17)) {
+        let twice = order.iter().chain(*order);
+        let pairs = twice.flat_map(|other| [(17, *other), (18, *other)]);
+        for (number, other) in pairs.filter(|(number, other)| number != other) {
+            let (_, mut parts) = whole(&mut s.draw, 5, 4);
+            for spoilt in [number.max(other), number.min(other)] {
+                parts.spoil(operation, spoilt, &mut s.draw);
+            }
+            let line = parts.line(operation, &mut s.draw);
+            writeln!(s.text, "{line}").unwrap();
+        }
+    }
+}
+
+/// The returns lead below the guarantee, to it, above it, to top and past it.
+fn guarantee_or_account(s: &mut Script) {
+    s.part("Deaths on an account below the guarantee, at it and above it, at top and past it.");
+    for factor in [0, 5_000, 10_000, 15_000, 20_000, 30_000] {
+        for rates in [&[4_999][..], &[10_000], &[5_000, 1], &[1, 5_000, 3_333]] {
+            let terms = Terms {
+                dates: rates.len() as u16,
+                discount: 900_000,
+                ..P
+            };
+            valued_with_rates(s, terms, &[(factor, 10_000)], rates);
+        }
+    }
+}
+
+fn deaths_past_top(s: &mut Script) {
+    s.part(
+        "Deaths on arrival past top: on the first return, on one between, at maturity, on several.",
+    );
+    for dates in 1..=3 {
+        let terms = Terms {
+            dates,
+            top: 12,
+            ..DISCOUNTED
+        };
+        for chosen in 1..1_u16 << dates {
+            let rates: Vec<u16> = (0..dates).map(|i| (chosen >> i & 1) * 2_501).collect();
+            valued_with_rates(s, terms, &STILL_OR_TRIPLE, &rates);
+        }
+    }
+    s.part("Large death payments: a top of 4,000 that triples.");
+    for (rate, behaviour) in [(1, 0), (5_000, 1), (9_999, 0), (10_000, 1)] {
+        let terms = Terms {
+            top: 4_000,
+            premium: 1,
+            level: 1,
+            dates: 9,
+            ..P
+        };
+        s.with_rates(&[rate; 9], |s| {
+            s.valued_and_walked(terms, &[(30_000, 10_000)], behaviour);
+        });
+    }
+}
+
+fn deaths_on_every_date(s: &mut Script) {
+    s.part("N from 1 to 40 with random death rates, under a random behaviour, the table supplied back and walked.");
+    for dates in 1..=40 {
+        let terms = Terms {
+            dates,
+            ..s.draw.terms(12, 1)
+        };
+        let count = 1 + s.draw.upto(3);
+        let (returns, rates) = (s.draw.returns(count), s.draw.rates(dates));
+        let behaviour = s.draw.upto(2) as u64;
+        s.with_rates(&rates, |s| s.valued_and_walked(terms, &returns, behaviour));
+    }
+}
+
+fn deaths(s: &mut Script) {
+    deaths_worked_by_hand(s);
+    one_period_only(s);
+    lengths_of_rates(s);
+    rates_above_whole(s);
+    rates_refused_in_order(s);
+    guarantee_or_account(s);
+    deaths_past_top(s);
+    deaths_on_every_date(s);
+}
+
 /// The whole script.
 pub fn script() -> String {
     let mut s = Script {
         text: String::new(),
         draw: Draw(20_250_101),
+        rates: None,
     };
     s.part("The script of the test program, written by `second script`. second/script.rs has its language.");
     unmarked(&mut s);
@@ -1376,5 +1669,6 @@ pub fn script() -> String {
     maps_of_every_date(&mut s);
     random_maps(&mut s);
     payouts(&mut s);
+    deaths(&mut s);
     s.text
 }

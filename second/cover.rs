@@ -19,7 +19,9 @@ const LEAST_MARKED: u64 = 10;
 const LEAST_WIDE: u64 = 20;
 const LEAST_LIFTED: u64 = 50;
 
-/// Tables up to here are also made without payment of an excess.
+const LEAST_DEATHS: u64 = 10;
+
+/// Tables up to here are also made by other versions of the rules.
 const MOST_COMPARED: u64 = 400;
 
 /// The fields of a record.
@@ -99,6 +101,11 @@ fn returns(list: &[u8]) -> Vec<(u64, u64)> {
     records
         .map(|r| (number_at(r, 0, 2), number_at(r, 2, 2)))
         .collect()
+}
+
+/// Each whole rate of a list of death rates.
+fn death_rates(rates: &[u8]) -> Vec<u64> {
+    rates.chunks_exact(2).map(|r| number_at(r, 0, 2)).collect()
 }
 
 fn record_fails(number: u64, record: &[u8]) -> bool {
@@ -250,6 +257,24 @@ fn list_of(operation: &Operation) -> &[u8] {
     }
 }
 
+/// The death rates of an operation that takes some.
+fn rates_of(operation: &Operation) -> Option<&[u8]> {
+    match operation {
+        Operation::Value(v) | Operation::ValueMap(v, _) => Some(&v.rates),
+        Operation::ValueTable { rates, .. } => Some(rates),
+        _ => None,
+    }
+}
+
+/// Checks 17 and 18.
+fn rates_fail(number: u64, operation: &Operation) -> bool {
+    let c = Fields::of(record_of(operation));
+    rates_of(operation).is_some_and(|rates| match number {
+        17 => rates.len() as u64 != 2 * c.dates,
+        _ => death_rates(rates).iter().any(|rate| *rate > 10_000),
+    })
+}
+
 /// Check 11: lent slices, a map left out, shorter than needed, or a booking buffer not of 16
 /// bytes.
 fn lent_fails(operation: &Operation) -> bool {
@@ -313,6 +338,7 @@ fn fails(number: u64, operation: &Operation) -> bool {
         1..=6 | 15 => record_fails(number, record_of(operation)),
         7..=9 => list_fails(number, list_of(operation)),
         11 => lent_fails(operation),
+        17 | 18 => rates_fail(number, operation),
         _ => other_fails(number, operation),
     }
 }
@@ -389,10 +415,10 @@ const ENDS: [&str; 3] = [
 ];
 
 fn rate_at_end(behaviour: u64, end: &str) -> String {
-    format!("a rate that falls, {end}, valued under behaviour {behaviour}")
+    format!("a penalty rate that falls, {end}, valued under behaviour {behaviour}")
 }
 
-/// Where the rate of a valuation with a step gets to; it has two decision dates or more.
+/// Where the penalty rate of a valuation with a step gets to; it has two decision dates or more.
 fn rate_case(c: &Fields, behaviour: u64) -> String {
     let last = c.dates - 1;
     match (c.rate(last - 1), c.rate(last)) {
@@ -404,7 +430,7 @@ fn rate_case(c: &Fields, behaviour: u64) -> String {
 }
 
 fn fallen(name: &str, to: &str) -> String {
-    format!("{name} above m at a rate that has fallen {to}")
+    format!("{name} above m at a penalty rate that has fallen {to}")
 }
 
 /// Whether an accepted booking, supplied table or walk draws above m on a date whose rate
@@ -481,7 +507,7 @@ const SURRENDERED: [&str; 7] = [
     "on date 1 of several",
     "on a later date",
     "at penalty rate 0",
-    "at a rate that has fallen",
+    "at a penalty rate that has fallen",
     "in the lowest bit of a word",
     "in the highest bit of a word",
     "in the table's last entry",
@@ -537,7 +563,7 @@ const LIFTED: [&str; 12] = [
     "no return above top",
 ];
 
-fn lifted(name: &str, how: &str) -> String {
+fn with(name: &str, how: &str) -> String {
     format!("{name} with {how}")
 }
 
@@ -631,44 +657,149 @@ fn open(c: &Fields, behaviour: u64, state: &Drawn) -> Vec<u64> {
     }
 }
 
-/// Value and amounts of a contract whose excess is dropped and not paid. The states are those of
-/// the table; `open` gives the amounts to choose from in one, smallest first.
-fn dropped(
-    c: &Fields,
-    list: &[u8],
-    states: &[Drawn],
-    open: impl Fn(&Drawn) -> Vec<u64>,
-) -> (u64, Vec<u16>) {
-    let returns = returns(list);
-    let average = |next: &[u64], balance: u64, guarantee: u64| {
-        let share = |r: &(u64, u64)| {
-            let account = c.account_after(balance, r.0);
-            r.1 * next[(account * (c.premium + 1) + guarantee) as usize]
-        };
-        c.discount * returns.iter().map(share).sum::<u64>() / 10_000_000_000
-    };
-    let matured = |entry: u64| {
-        let (_, account, guarantee) = c.state(entry);
-        10_000 * account.max(guarantee)
-    };
-    let mut next: Vec<u64> = (0..c.layer()).map(matured).collect();
-    let mut amounts = Vec::new();
-    for layer in states.chunks(c.layer() as usize).rev() {
-        let best = |state: &Drawn| {
-            let worth = |amount: &u64| {
-                let amount = *amount;
-                let drawn = Drawn { amount, ..*state };
-                drawn.cash(c) + average(&next, drawn.balance_after(), drawn.guarantee_after(c))
-            };
-            // The last of the largest, so the smallest amount where they go downwards.
-            let amount = open(state).into_iter().rev().max_by_key(worth).unwrap_or(0);
-            (worth(&amount), amount as u16)
-        };
-        let (values, drawn): (Vec<u64>, Vec<u16>) = layer.iter().map(best).unzip();
-        next = values;
-        amounts.splice(0..0, drawn);
+/// The rules, and what they are not to be mistaken for.
+#[derive(Clone, Copy, PartialEq)]
+enum Version {
+    Rules,
+    ExcessDropped,
+    PeriodLate,
+    PeriodEarly,
+    FirstReturnWithout,
+    GuaranteeAlone,
+    AccountAlone,
+    RoundedLater,
+    ExcessNotAtDeath,
+    Exchanged,
+}
+
+/// Payment at death otherwise than the rules have it.
+const MISTAKEN: [(Version, &str); 8] = [
+    (Version::PeriodLate, "the rates a period late"),
+    (Version::PeriodEarly, "the rates a period early"),
+    (Version::FirstReturnWithout, "no rate on the first return"),
+    (Version::GuaranteeAlone, "the guarantee alone paid at death"),
+    (Version::AccountAlone, "the account alone paid at death"),
+    (Version::RoundedLater, "death rounded after the weights"),
+    (Version::ExcessNotAtDeath, "no excess paid at death"),
+    (Version::Exchanged, "rate and complement exchanged"),
+];
+
+/// A contract with its returns and death rates, valued by a version of the rules.
+struct Model<'a> {
+    c: &'a Fields,
+    returns: Vec<(u64, u64)>,
+    rates: Vec<u64>,
+    version: Version,
+}
+
+impl Model<'_> {
+    /// The rate that counts in a period.
+    fn rate(&self, period: u64) -> u64 {
+        let rate = |period: u64| *self.rates.get(period as usize).unwrap_or(&0);
+        match self.version {
+            Version::PeriodLate => period.checked_sub(1).map_or(0, rate),
+            Version::PeriodEarly => rate(period + 1),
+            Version::FirstReturnWithout if period == 0 => 0,
+            Version::Exchanged => 10_000 - rate(period),
+            _ => rate(period),
+        }
     }
-    (average(&next, c.premium, c.premium), amounts)
+
+    /// A value reached with death in it, times 10,000.
+    fn reached(&self, rate: u64, value: u64, guarantee: u64, lifted: u64) -> u64 {
+        let account = lifted.min(self.c.top);
+        let excess = match self.version {
+            Version::ExcessDropped => 0,
+            _ => lifted - account,
+        };
+        let paid = match self.version {
+            Version::GuaranteeAlone => guarantee + excess,
+            Version::AccountAlone => account + excess,
+            Version::ExcessNotAtDeath => account.max(guarantee),
+            _ => account.max(guarantee) + excess,
+        };
+        let mixed = (10_000 - rate) * (value + 10_000 * excess) + rate * 10_000 * paid;
+        match self.version {
+            Version::RoundedLater => mixed,
+            _ => mixed / 10_000 * 10_000,
+        }
+    }
+
+    /// The discounted sum over the returns of a period.
+    fn average(&self, period: u64, next: &[u64], balance: u64, guarantee: u64) -> u64 {
+        let (c, rate) = (self.c, self.rate(period));
+        let share = |(factor, weight): &(u64, u64)| {
+            let lifted = c.lifted(balance, *factor);
+            let value = next[(lifted.min(c.top) * (c.premium + 1) + guarantee) as usize];
+            u128::from(*weight) * u128::from(self.reached(rate, value, guarantee, lifted))
+        };
+        let sum: u128 = self.returns.iter().map(share).sum();
+        (u128::from(c.discount) * sum / 100_000_000_000_000) as u64
+    }
+
+    /// Value, values of date 1 and amounts. The states are those of the table; `open` gives the
+    /// amounts to choose from in one, smallest first.
+    fn valued(
+        &self,
+        states: &[Drawn],
+        open: impl Fn(&Drawn) -> Vec<u64>,
+    ) -> (u64, Vec<u64>, Vec<u16>) {
+        let c = self.c;
+        let matured = |entry: u64| {
+            let (_, account, guarantee) = c.state(entry);
+            10_000 * account.max(guarantee)
+        };
+        let mut next: Vec<u64> = (0..c.layer()).map(matured).collect();
+        let mut amounts = Vec::new();
+        for layer in states.chunks(c.layer() as usize).rev() {
+            let best = |state: &Drawn| {
+                let worth = |amount: &u64| {
+                    let amount = *amount;
+                    let drawn = Drawn { amount, ..*state };
+                    let (balance, guarantee) = (drawn.balance_after(), drawn.guarantee_after(c));
+                    drawn.cash(c) + self.average(state.date, &next, balance, guarantee)
+                };
+                // The last of the largest, so the smallest amount where they go downwards.
+                let amount = open(state).into_iter().rev().max_by_key(worth).unwrap_or(0);
+                (worth(&amount), amount as u16)
+            };
+            let (values, drawn): (Vec<u64>, Vec<u16>) = layer.iter().map(best).unzip();
+            next = values;
+            amounts.splice(0..0, drawn);
+        }
+        let value = self.average(0, &next, c.premium, c.premium);
+        (value, next, amounts)
+    }
+}
+
+/// A valuation by a version of the rules: value, values of date 1 and amounts. `left` is its
+/// table after the call.
+fn by_version(
+    c: &Fields,
+    operation: &Operation,
+    left: &[u16],
+    version: Version,
+) -> (u64, Vec<u64>, Vec<u16>) {
+    let states = drawn_in_table(c, left);
+    let model = Model {
+        c,
+        returns: returns(list_of(operation)),
+        rates: death_rates(rates_of(operation).unwrap_or(&[])),
+        version,
+    };
+    match operation {
+        Operation::Value(v) | Operation::ValueMap(v, _) => {
+            model.valued(&states, |state| open(c, v.behaviour, state))
+        }
+        _ => model.valued(&states, |state| vec![state.amount]),
+    }
+}
+
+fn behaviour_of(operation: &Operation) -> Option<u64> {
+    match operation {
+        Operation::Value(v) | Operation::ValueMap(v, _) => Some(v.behaviour),
+        _ => None,
+    }
 }
 
 const BESIDE_DROPPED: [&str; 2] = ["worth more than", "worth as much as"];
@@ -687,15 +818,8 @@ fn count_beside_dropped(
     left: &[u16],
     value: u64,
 ) {
-    let (name, list) = (name_of(operation), list_of(operation));
-    let states = drawn_in_table(c, left);
-    let (behaviour, (plain, amounts)) = match operation {
-        Operation::Value(v) | Operation::ValueMap(v, _) => {
-            let open = |state: &Drawn| open(c, v.behaviour, state);
-            (Some(v.behaviour), dropped(c, list, &states, open))
-        }
-        _ => (None, dropped(c, list, &states, |state| vec![state.amount])),
-    };
+    let (name, behaviour) = (name_of(operation), behaviour_of(operation));
+    let (plain, _, amounts) = by_version(c, operation, left, Version::ExcessDropped);
     for (how, holds) in BESIDE_DROPPED.iter().zip([value > plain, value == plain]) {
         if holds {
             count(tally, beside_dropped(name, how, behaviour));
@@ -733,18 +857,131 @@ fn count_lifted(tally: &mut Tally, c: &Fields, operation: &Operation, left: &[u1
         _ => {
             let holds = lifted_holds(c, list);
             for (how, _) in LIFTED.iter().zip(holds).filter(|(_, holds)| *holds) {
-                count(tally, lifted(name, how));
+                count(tally, with(name, how));
             }
-            let value = answer.split(' ').nth(2).and_then(|w| w.parse().ok());
             let above = returns(list).iter().any(|r| c.lifted(c.top, r.0) > c.top);
             if c.top == 4_000 && c.dates > 1 && above {
                 count(tally, past_highest(name));
             }
-            if let Some(value) = value.filter(|_| above && c.table() <= MOST_COMPARED) {
+            if let Some(value) = value_in(answer).filter(|_| above && c.table() <= MOST_COMPARED) {
                 count_beside_dropped(tally, c, operation, left, value);
             }
         }
     }
+}
+
+const PERIODS: [&str; 3] = ["the first period", "a period between", "the last period"];
+const RATES: [&str; 4] = ["0", "1", "2 to 9,999", "10,000"];
+
+fn rate_in(name: &str, rate: &str, period: &str) -> String {
+    format!("{name} with a death rate of {rate} in {period}")
+}
+
+/// The cases of the rates themselves: three periods or more, not all rates zero.
+fn count_rates(tally: &mut Tally, name: &str, rates: &[u64]) {
+    let last = rates.len() - 1;
+    if last < 2 || rates.iter().all(|rate| *rate == 0) {
+        return;
+    }
+    let parts = [&rates[..1], &rates[1..last], &rates[last..]];
+    for (period, part) in PERIODS.iter().zip(parts) {
+        let between = |rate: &u64| (2..10_000).contains(rate);
+        let holds = [
+            part.contains(&0),
+            part.contains(&1),
+            part.iter().any(between),
+            part.contains(&10_000),
+        ];
+        for (rate, _) in RATES.iter().zip(holds).filter(|(_, holds)| *holds) {
+            count(tally, rate_in(name, rate, period));
+        }
+    }
+}
+
+const DEATHS: [&str; 11] = [
+    "zero death rates",
+    "a death rate in one period only, of several",
+    "a death on the first return below the guarantee",
+    "a death on the first return at the guarantee",
+    "a death on the first return above the guarantee",
+    "a death past top on the first return",
+    "a death past top on a return between",
+    "a death past top on the last return",
+    "a death past top, N 1",
+    "death rates for N 40",
+    "the first layer other than with deaths in it",
+];
+
+/// `first` has the values of date 1, where they are at hand.
+fn deaths_hold(c: &Fields, list: &[u8], rates: &[u64], first: Option<&[u64]>) -> [bool; 11] {
+    let returns = returns(list);
+    let dies = |from: usize, to: usize| rates[from..to].iter().any(|rate| *rate > 0);
+    let (last, deaths) = (rates.len() - 1, rates.iter().filter(|r| **r > 0).count());
+    let reaches = |holds: &dyn Fn(u64) -> bool, balance: u64| {
+        let mut lifted = returns.iter().map(|r| c.lifted(balance, r.0));
+        lifted.any(holds)
+    };
+    let first_past_top = dies(0, 1) && reaches(&|l| l > c.top, c.premium);
+    let past_top = reaches(&|l| l > c.top, c.top);
+    let with_deaths = |(entry, value): (u64, &u64)| {
+        let (_, account, guarantee) = c.state(entry);
+        let paid = rates[0] * 10_000 * account.max(guarantee);
+        ((10_000 - rates[0]) * value + paid) / 10_000 != *value
+    };
+    [
+        deaths == 0,
+        deaths == 1 && last > 0,
+        dies(0, 1) && reaches(&|l| l < c.premium, c.premium),
+        dies(0, 1) && reaches(&|l| l == c.premium, c.premium),
+        dies(0, 1) && reaches(&|l| l > c.premium, c.premium),
+        last > 0 && first_past_top,
+        last > 1 && dies(1, last) && past_top,
+        last > 0 && dies(last, last + 1) && past_top,
+        last == 0 && first_past_top,
+        last == 39 && deaths > 0,
+        first.is_some_and(|values| (0..).zip(values).any(with_deaths)),
+    ]
+}
+
+fn mistaken(name: &str, how: &str) -> String {
+    format!("{name} worth otherwise than with {how}")
+}
+
+/// What an accepted valuation has of death rates. A small one is valued anew by the rules, and
+/// where there are rates by what they are not. Gives whether the rules have the same value.
+fn count_deaths(
+    tally: &mut Tally,
+    c: &Fields,
+    operation: &Operation,
+    left: &[u16],
+    answer: &str,
+) -> bool {
+    let Some(rates) = rates_of(operation).map(death_rates) else {
+        return true;
+    };
+    let (name, list) = (name_of(operation), list_of(operation));
+    count_rates(tally, name, &rates);
+    let small = c.table() <= MOST_COMPARED && c.layer() <= MOST_COMPARED;
+    let ruled = small.then(|| by_version(c, operation, left, Version::Rules));
+    let first = ruled.as_ref().map(|(_, first, _)| &first[..]);
+    let holds = deaths_hold(c, list, &rates, first);
+    for (how, _) in DEATHS.iter().zip(holds).filter(|(_, holds)| *holds) {
+        count(tally, with(name, how));
+    }
+    let Some((value, _, amounts)) = ruled else {
+        return true;
+    };
+    for (version, how) in MISTAKEN.iter().filter(|_| rates.iter().any(|r| *r > 0)) {
+        if by_version(c, operation, left, *version).0 != value {
+            count(tally, mistaken(name, how));
+        }
+    }
+    value_in(answer) == Some(value) && left[..amounts.len()] == amounts
+}
+
+/// The value in the answer of a valuation.
+fn value_in(answer: &str) -> Option<u64> {
+    answer.split(' ').nth(2).and_then(|word| word.parse().ok())
 }
 
 const AT_TOP: &str = "book at an account of top";
@@ -835,14 +1072,15 @@ fn count_added(tally: &mut Tally, c: &Fields) {
     }
 }
 
-/// The cases of an operation that is accepted; `left` is the table it left.
+/// The cases of an operation that is accepted; `left` is the table it left. Gives whether the
+/// answer is that of the rules, where they are followed here.
 fn count_accepted(
     tally: &mut Tally,
     c: &Fields,
     operation: &Operation,
     left: &[u16],
     answer: &str,
-) {
+) -> bool {
     let name = name_of(operation);
     count(tally, format!("{name} accepted"));
     if c.step > 0 {
@@ -861,12 +1099,82 @@ fn count_accepted(
     }
     count_fallen(tally, c, operation);
     count_lifted(tally, c, operation, left, answer);
+    count_deaths(tally, c, operation, left, answer)
 }
 
-fn count_refused(tally: &mut Tally, c: &Fields, operation: &Operation, number: u64) {
+const LENGTHS: [&str; 6] = [
+    "no rates",
+    "one byte of rates short",
+    "one rate short",
+    "one byte of rates more",
+    "one rate more",
+    "twice the rates or more",
+];
+
+/// What a refusal by 17 has that the script is to have.
+fn count_lengths(tally: &mut Tally, c: &Fields, name: &str, rates: &[u8]) {
+    let (length, needed) = (rates.len() as u64, 2 * c.dates);
+    let holds = [
+        length == 0,
+        length + 1 == needed,
+        length + 2 == needed,
+        length == needed + 1,
+        length == needed + 2,
+        length >= 2 * needed,
+    ];
+    for (how, _) in LENGTHS.iter().zip(holds).filter(|(_, holds)| *holds) {
+        count(tally, with(name, how));
+    }
+}
+
+const ABOVE: [&str; 7] = [
+    "the only rate above 10,000",
+    "the first rate above 10,000",
+    "a rate between above 10,000",
+    "the last rate above 10,000",
+    "several rates above 10,000",
+    "a rate of 10,001",
+    "a rate of 65,535",
+];
+
+/// What a refusal by 18 has that the script is to have. Gives whether its place is the index of
+/// the first rate above 10,000.
+fn count_above(tally: &mut Tally, name: &str, rates: &[u8], answer: &str) -> bool {
+    let rates = death_rates(rates);
+    let above: Vec<usize> = (0..rates.len()).filter(|i| rates[*i] > 10_000).collect();
+    let (last, first) = (rates.len() - 1, above[0]);
+    let holds = [
+        last == 0,
+        last > 0 && first == 0,
+        first > 0 && first < last,
+        last > 0 && first == last,
+        above.len() > 1,
+        rates.contains(&10_001),
+        rates.contains(&65_535),
+    ];
+    for (how, _) in ABOVE.iter().zip(holds).filter(|(_, holds)| *holds) {
+        count(tally, with(name, how));
+    }
+    answer.split(' ').nth(1) == Some(&first.to_string())
+}
+
+/// The cases of an operation that is refused. Gives whether the place is right, where it is
+/// looked at here.
+fn count_refused(
+    tally: &mut Tally,
+    c: &Fields,
+    operation: &Operation,
+    number: u64,
+    answer: &str,
+) -> bool {
     let name = name_of(operation);
     count(tally, refusal(name, number));
+    let behind = order_of(name).iter().skip_while(|n| **n != number).skip(1);
+    for next in behind.filter(|next| fails(**next, operation)) {
+        count(tally, beside(name, number, *next));
+    }
     let returns = returns(list_of(operation));
+    let rates = rates_of(operation).unwrap_or(&[]);
     match (number, operation) {
         (2, _) if c.top == 4_001 => count(tally, "top 4,001 refused with 2".to_string()),
         (8, _) if returns.iter().any(|r| r.0 == 30_001) => {
@@ -875,12 +1183,11 @@ fn count_refused(tally: &mut Tally, c: &Fields, operation: &Operation, number: u
         (11, _) => count_short(tally, c, operation),
         (15, _) => count_added(tally, c),
         (16, Operation::ValueMap(_, map)) => count_short_map(tally, c, map),
+        (17, _) => count_lengths(tally, c, name, rates),
+        (18, _) => return count_above(tally, name, rates, answer),
         _ => {}
     }
-    let mut behind = order_of(name).iter().skip_while(|n| **n != number).skip(1);
-    if let Some(next) = behind.next().filter(|next| fails(**next, operation)) {
-        count(tally, beside(name, number, *next));
-    }
+    true
 }
 
 /// Cases that there have to be somewhere.
@@ -959,6 +1266,7 @@ fn wanted() -> Vec<(String, u64)> {
         wanted.extend(WIDE.map(|which| (wide(name, which), LEAST_WIDE)));
     }
     wanted.extend(wanted_lifted());
+    wanted.extend(wanted_deaths());
     wanted.extend(SOMEWHERE.map(|case| (case.to_string(), 1)));
     wanted
 }
@@ -967,7 +1275,7 @@ fn wanted() -> Vec<(String, u64)> {
 fn wanted_lifted() -> Vec<(String, u64)> {
     let mut cases = vec![AT_TOP.to_string()];
     for name in ["value", "value_map", "value_table"] {
-        cases.extend(LIFTED.map(|how| lifted(name, how)));
+        cases.extend(LIFTED.map(|how| with(name, how)));
     }
     for name in ["value", "value_map"] {
         for behaviour in (0..3).map(Some) {
@@ -980,6 +1288,27 @@ fn wanted_lifted() -> Vec<(String, u64)> {
     let mut wanted: Vec<(String, u64)> = cases.into_iter().map(|c| (c, LEAST_LIFTED)).collect();
     let highest = ["value", "value_map", "value_table", "walk"].map(past_highest);
     wanted.extend(highest.map(|case| (case, 1)));
+    wanted
+}
+
+/// The cases of death rates.
+fn wanted_deaths() -> Vec<(String, u64)> {
+    let mut wanted = Vec::new();
+    for name in ["value", "value_map", "value_table"] {
+        let rates = RATES
+            .iter()
+            .flat_map(|r| PERIODS.map(|p| rate_in(name, r, p)));
+        let cases = rates
+            .chain(DEATHS.map(|how| with(name, how)))
+            .chain(MISTAKEN.map(|(_, how)| mistaken(name, how)));
+        wanted.extend(cases.map(|case| (case, LEAST_DEATHS)));
+        let refused = LENGTHS.iter().chain(&ABOVE).map(|how| with(name, how));
+        wanted.extend(refused.map(|case| (case, 2)));
+        for number in [17, 18] {
+            let behind = order_of(name).iter().skip_while(|n| **n != number).skip(1);
+            wanted.extend(behind.map(|next| (beside(name, number, *next), 1)));
+        }
+    }
     wanted
 }
 
@@ -1010,11 +1339,11 @@ fn take_line(tally: &mut Tally, session: &mut Session, line: &str) -> Option<Str
     count_table(tally, line);
     let c = Fields::of(record_of(&operation));
     count_wide(tally, &c, &operation, number);
-    match number {
+    let sound = match number {
         0 => count_accepted(tally, &c, &operation, session.table(), &answer),
-        _ => count_refused(tally, &c, &operation, number),
-    }
-    None
+        _ => count_refused(tally, &c, &operation, number, &answer),
+    };
+    (!sound).then(|| "value, amounts or place are not those of the rules".to_string())
 }
 
 /// What was found, in words, and what lacks.

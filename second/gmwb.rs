@@ -1,4 +1,4 @@
-//! GMWB valuation: the rules of document 01 (01-scope.md), with requests (i) to (iv)
+//! GMWB valuation: the rules of document 01 (01-scope.md), with requests (i) to (v)
 //! of document 02 (02-change-requests.md), written plainly.
 //!
 //! The parts follow document 01: units and records, one date, values, lent
@@ -62,7 +62,7 @@ fn answer(result: Result<(), Answer>) -> Answer {
 
 /// "Values, cash and penalties are ten-thousandths of a unit."
 const UNIT: u64 = 10_000;
-/// "ten-thousandths": the whole of a fee, penalty rate, step, factor or weight.
+/// "ten-thousandths": the whole of a fee, penalty rate, step, factor, weight or death rate.
 const WHOLE: u64 = 10_000;
 const MOST_TOP: u64 = 4_000;
 const MOST_DATES: u64 = 40;
@@ -71,6 +71,7 @@ const MOST_FACTOR: u64 = 30_000;
 const RECORD_BYTES: usize = 20;
 const RETURN_BYTES: usize = 4;
 const MOST_LIST_BYTES: usize = 256;
+const RATE_BYTES: usize = 2;
 const BOOKING_BYTES: usize = 16;
 /// "64-bit words".
 const WORD_BITS: usize = 64;
@@ -151,11 +152,39 @@ fn read_returns(list: &[u8]) -> Result<Vec<Return>, Answer> {
     Ok(returns)
 }
 
+/// "A list of N death rates (2 bytes, ten-thousandths), one per period, accompanies the
+/// contract." Refusals "17, list not of 2 × N bytes; 18, first rate above 10,000, place its
+/// index".
+fn read_rates(c: &Contract, rates: &[u8]) -> Result<Vec<u64>, Answer> {
+    refuse_if(rates.len() != RATE_BYTES * c.dates as usize, 17, 0)?;
+    let mut read = Vec::new();
+    for bytes in rates.chunks(RATE_BYTES) {
+        let rate = number_in(bytes);
+        refuse_if(rate > WHOLE, 18, read.len() as u64)?;
+        read.push(rate);
+    }
+    Ok(read)
+}
+
 /// "A contract record is read whole before the return list is looked at."
 fn read_both(record: &[u8], list: &[u8]) -> Result<(Contract, Vec<Return>), Answer> {
     let contract = read_contract(record)?;
     let returns = read_returns(list)?;
     Ok((contract, returns))
+}
+
+/// What accompanies a contract that is valued: the returns, and the death rates in the order
+/// of the periods. Period i runs from date i to date i + 1.
+struct Lists {
+    returns: Vec<Return>,
+    rates: Vec<u64>,
+}
+
+/// Refusals 17 and 18, "both after 9".
+fn read_lists(record: &[u8], list: &[u8], rates: &[u8]) -> Result<(Contract, Lists), Answer> {
+    let (contract, returns) = read_both(record, list)?;
+    let rates = read_rates(&contract, rates)?;
+    Ok((contract, Lists { returns, rates }))
 }
 
 #[derive(Clone, Copy, Debug)]
@@ -272,31 +301,48 @@ fn value_reached(c: &Contract, next: &[u64], balance: u64, factor: u64, guarante
     next[entry(c, account, guarantee)] + paid_on_arrival(c, balance, factor)
 }
 
-/// "discount × (sum of weight × value reached) / 10,000,000,000, rounded down once".
+/// "Death in a period pays 10,000 × the larger of W and A as reached on its closing date,
+/// before any decision, plus 10,000 × any excess over top."
+fn death_payment(c: &Contract, balance: u64, factor: u64, guarantee: u64) -> u64 {
+    let account = next_account(c, balance, factor);
+    UNIT * account.max(guarantee) + UNIT * excess(c, balance, factor)
+}
+
+/// "Each reached value becomes ((10,000 − rate) × value + rate × death payment) / 10,000,
+/// rounded down".
+fn value_with_death(rate: u64, value: u64, payment: u64) -> u64 {
+    ((WHOLE - rate) * value + rate * payment) / WHOLE
+}
+
+/// "discount × (sum of weight × value reached) / 10,000,000,000, rounded down once", over the
+/// returns of a period. Death is counted in each value reached "before weights are applied".
 /// Maturity pays at most 10,000 × top; a decision with the return behind it 20,000 × top,
-/// since what is drawn is not lifted; the first return as much. So a value reached is at
-/// most 81 × 10,000 × 4,000 = 3,240,000,000 and the product 32.4 × 10^18, above 2^64.
-fn discounted(c: &Contract, returns: &[Return], next: &[u64], balance: u64, guarantee: u64) -> u64 {
+/// since what is drawn is not lifted; the first return as much. A death payment is at most
+/// 10,000 × top and the excess. So a value reached is at most 81 × 10,000 × 4,000 =
+/// 3,240,000,000 and the product 32.4 × 10^18, above 2^64.
+fn discounted(
+    c: &Contract,
+    lists: &Lists,
+    period: u64,
+    next: &[u64],
+    balance: u64,
+    guarantee: u64,
+) -> u64 {
+    let rate = lists.rates[period as usize];
     let mut sum = 0;
-    for r in returns {
-        sum += r.weight * value_reached(c, next, balance, r.factor, guarantee);
+    for r in &lists.returns {
+        let value = value_reached(c, next, balance, r.factor, guarantee);
+        let payment = death_payment(c, balance, r.factor, guarantee);
+        sum += r.weight * value_with_death(rate, value, payment);
     }
     (u128::from(c.discount) * u128::from(sum) / 10_000_000_000) as u64
 }
 
-/// "a choice is worth its cash plus" the discounted sum.
-fn worth(
-    c: &Contract,
-    returns: &[Return],
-    next: &[u64],
-    date: u64,
-    w: u64,
-    a: u64,
-    amount: u64,
-) -> u64 {
+/// "a choice is worth its cash plus" the discounted sum over the period behind its date.
+fn worth(c: &Contract, lists: &Lists, next: &[u64], date: u64, w: u64, a: u64, amount: u64) -> u64 {
     let balance = balance_after(w, amount);
     let guarantee = guarantee_after(c, w, a, amount);
-    cash_for(c, date, a, amount) + discounted(c, returns, next, balance, guarantee)
+    cash_for(c, date, a, amount) + discounted(c, lists, date, next, balance, guarantee)
 }
 
 /// "A state's value under a behaviour is the largest worth among its admissible
@@ -304,7 +350,7 @@ fn worth(
 /// Amounts come smallest first, so only a larger worth replaces the one held.
 fn best(
     c: &Contract,
-    returns: &[Return],
+    lists: &Lists,
     next: &[u64],
     date: u64,
     w: u64,
@@ -313,7 +359,7 @@ fn best(
 ) -> (u64, u64) {
     let mut held = None;
     for amount in admissible(c, b, w, a) {
-        let worth = worth(c, returns, next, date, w, a, amount);
+        let worth = worth(c, lists, next, date, w, a, amount);
         match held {
             Some((most, _)) if worth <= most => {}
             _ => held = Some((worth, amount)),
@@ -325,8 +371,8 @@ fn best(
 /// "Start: balance U and guarantee U, then the first return." "The contract's value
 /// is the same discounted and rounded sum over the first return, without cash."
 /// "the margin: value less 10,000 × premium".
-fn value_at_start(c: &Contract, returns: &[Return], first: &[u64]) -> (u64, i64) {
-    let value = discounted(c, returns, first, c.premium, c.premium);
+fn value_at_start(c: &Contract, lists: &Lists, first: &[u64]) -> (u64, i64) {
+    let value = discounted(c, lists, 0, first, c.premium, c.premium);
     (value, value as i64 - (UNIT * c.premium) as i64)
 }
 
@@ -374,7 +420,8 @@ fn maturity_layer(c: &Contract) -> Vec<u64> {
     states(c).map(|(w, a)| maturity_value(w, a)).collect()
 }
 
-/// "After success the first layer holds the values of date 1 and the second zeros."
+/// "After success the first layer holds the values of date 1 and the second zeros." They are
+/// a living holder's: the first death rate counts in the contract's value alone.
 fn leave_work(work: &mut [u64], first: &[u64]) {
     work[..first.len()].copy_from_slice(first);
     work[first.len()..2 * first.len()].fill(0);
@@ -400,25 +447,26 @@ pub fn check(record: &[u8]) -> Answer {
     answer(read_contract(record).map(|_| ()))
 }
 
-/// What a valuing call reads: refusals 1 to 6, 15 and 7 to 11.
+/// What a valuing call reads: refusals 1 to 6, 15, 7 to 9, 17, 18, 10 and 11.
 fn read_valuing(
     record: &[u8],
     list: &[u8],
+    rates: &[u8],
     behaviour: u64,
     work: &[u64],
     table: &[u16],
-) -> Result<(Contract, Vec<Return>, Behaviour), Answer> {
-    let (c, returns) = read_both(record, list)?;
+) -> Result<(Contract, Lists, Behaviour), Answer> {
+    let (c, lists) = read_lists(record, list, rates)?;
     let behaviour = read_behaviour(behaviour)?;
     let short = work.len() < work_size(&c) || table.len() < table_size(&c);
     refuse_if(short, 11, 0)?;
-    Ok((c, returns, behaviour))
+    Ok((c, lists, behaviour))
 }
 
 /// Fills working slice and table, date by date from the last; gives value and margin.
 fn fill_table(
     c: &Contract,
-    returns: &[Return],
+    lists: &Lists,
     behaviour: Behaviour,
     work: &mut [u64],
     table: &mut [u16],
@@ -427,48 +475,52 @@ fn fill_table(
     for date in (1..c.dates).rev() {
         let mut values = Vec::with_capacity(next.len());
         for (w, a) in states(c) {
-            let (worth, amount) = best(c, returns, &next, date, w, a, behaviour);
+            let (worth, amount) = best(c, lists, &next, date, w, a, behaviour);
             values.push(worth);
             table[layer_start(c, date) + entry(c, w, a)] = amount as u16;
         }
         next = values;
     }
     leave_work(work, &next);
-    value_at_start(c, returns, &next)
+    value_at_start(c, lists, &next)
 }
 
-/// "valuing a contract": refusals 1 to 6, 15 and 7 to 11.
+/// "valuing a contract": refusals 1 to 6, 15, 7 to 9, 17, 18, 10 and 11.
 pub fn value(
     record: &[u8],
     list: &[u8],
+    rates: &[u8],
     behaviour: u64,
     work: &mut [u64],
     table: &mut [u16],
 ) -> Valued {
-    valued(try_value(record, list, behaviour, work, table))
+    valued(try_value(record, list, rates, behaviour, work, table))
 }
 
 fn try_value(
     record: &[u8],
     list: &[u8],
+    rates: &[u8],
     behaviour: u64,
     work: &mut [u64],
     table: &mut [u16],
 ) -> Result<(u64, i64), Answer> {
-    let (c, returns, behaviour) = read_valuing(record, list, behaviour, work, table)?;
-    Ok(fill_table(&c, &returns, behaviour, work, table))
+    let (c, lists, behaviour) = read_valuing(record, list, rates, behaviour, work, table)?;
+    Ok(fill_table(&c, &lists, behaviour, work, table))
 }
 
-/// "A valuing call that is also lent 64-bit words": refusals 1 to 6, 15, 7 to 11 and 16.
+/// "A valuing call that is also lent 64-bit words": refusals 1 to 6, 15, 7 to 9, 17, 18, 10,
+/// 11 and 16.
 pub fn value_map(
     record: &[u8],
     list: &[u8],
+    rates: &[u8],
     behaviour: u64,
     work: &mut [u64],
     table: &mut [u16],
     map: &mut [u64],
 ) -> Mapped {
-    let result = try_value_map(record, list, behaviour, work, table, map);
+    let result = try_value_map(record, list, rates, behaviour, work, table, map);
     Mapped {
         valued: valued(result.map(|(figures, _)| figures)),
         count: result.map_or(0, |(_, count)| count),
@@ -480,14 +532,15 @@ pub fn value_map(
 fn try_value_map(
     record: &[u8],
     list: &[u8],
+    rates: &[u8],
     behaviour: u64,
     work: &mut [u64],
     table: &mut [u16],
     map: &mut [u64],
 ) -> Result<((u64, i64), u64), Answer> {
-    let (c, returns, behaviour) = read_valuing(record, list, behaviour, work, table)?;
+    let (c, lists, behaviour) = read_valuing(record, list, rates, behaviour, work, table)?;
     refuse_if(map.len() < map_size(&c), 16, 0)?;
-    let figures = fill_table(&c, &returns, behaviour, work, table);
+    let figures = fill_table(&c, &lists, behaviour, work, table);
     Ok((figures, fill_map(&c, table, map)))
 }
 
@@ -509,18 +562,25 @@ fn fill_map(c: &Contract, table: &[u16], map: &mut [u64]) -> u64 {
     count
 }
 
-/// "valuing a supplied withdrawal table": refusals 1 to 6, 15, 7 to 9, 11 and 14.
-pub fn value_table(record: &[u8], list: &[u8], work: &mut [u64], table: &[u16]) -> Valued {
-    valued(try_value_table(record, list, work, table))
+/// "valuing a supplied withdrawal table": refusals 1 to 6, 15, 7 to 9, 17, 18, 11 and 14.
+pub fn value_table(
+    record: &[u8],
+    list: &[u8],
+    rates: &[u8],
+    work: &mut [u64],
+    table: &[u16],
+) -> Valued {
+    valued(try_value_table(record, list, rates, work, table))
 }
 
 fn try_value_table(
     record: &[u8],
     list: &[u8],
+    rates: &[u8],
     work: &mut [u64],
     table: &[u16],
 ) -> Result<(u64, i64), Answer> {
-    let (c, returns) = read_both(record, list)?;
+    let (c, lists) = read_lists(record, list, rates)?;
     let short = work.len() < work_size(&c) || table.len() < table_size(&c);
     refuse_if(short, 11, 0)?;
     check_table(&c, table)?;
@@ -530,12 +590,12 @@ fn try_value_table(
         let mut values = Vec::with_capacity(next.len());
         for (w, a) in states(&c) {
             let amount = u64::from(table[layer_start(&c, date) + entry(&c, w, a)]);
-            values.push(worth(&c, &returns, &next, date, w, a, amount));
+            values.push(worth(&c, &lists, &next, date, w, a, amount));
         }
         next = values;
     }
     leave_work(work, &next);
-    Ok(value_at_start(&c, &returns, &next))
+    Ok(value_at_start(&c, &lists, &next))
 }
 
 /// "A supplied table is checked in every entry, reachable or not, against the dynamic
@@ -592,6 +652,7 @@ fn try_book(
 }
 
 /// "walking a contract along a given path": refusals 1 to 6, 15, 7 to 9, 11, 13 and 14.
+/// "a walk is a living holder's and takes no rates".
 pub fn walk(
     record: &[u8],
     list: &[u8],
@@ -660,17 +721,19 @@ pub fn program(record: &[u8], list: &[u8]) -> String {
 /// "The first three lines give each behaviour's name and the contract's value. Each
 /// later line: return number, account and guarantee at date 1, recorded static, mixed
 /// and dynamic amounts; none for N = 1." The program lends "a table of 16,384" and
-/// "4,096 working numbers, refusing by 11 what needs more".
+/// "4,096 working numbers, refusing by 11 what needs more". "Zero rates, as the program uses".
 fn try_program(record: &[u8], list: &[u8]) -> Result<String, Answer> {
+    let (c, returns) = read_both(record, list)?;
+    let rates = vec![0; RATE_BYTES * c.dates as usize];
     let mut work = vec![0; 4_096];
     let mut tables = [vec![0; 16_384], vec![0; 16_384], vec![0; 16_384]];
     let mut lines = String::new();
     for (behaviour, name) in ["static", "mixed", "dynamic"].into_iter().enumerate() {
         let table = &mut tables[behaviour];
-        let (value, _) = try_value(record, list, behaviour as u64, &mut work, table)?;
+        let behaviour = behaviour as u64;
+        let (value, _) = try_value(record, list, &rates, behaviour, &mut work, table)?;
         lines += &format!("{name} {value}\n");
     }
-    let (c, returns) = read_both(record, list)?;
     if c.dates > 1 {
         for (number, r) in returns.iter().enumerate() {
             let account = next_account(&c, c.premium, r.factor);

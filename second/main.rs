@@ -7,8 +7,9 @@
 //! second cover                       whether a script has every case; see cover.rs
 //! second program RECORDFILE LISTFILE prints what `gmwbval` prints for these two files
 //! second self-check                  checks the rules; see self_check.rs
-//! second pack FOLDER                 text to terms.bin and returns.bin; see text.rs
-//! second show RECORDFILE LISTFILE    a record and a list as that text
+//! second pack FOLDER                 text to terms.bin, returns.bin and rates.bin; see text.rs
+//! second show RECORDFILE LISTFILE RATESFILE
+//!                                    a record, a list and death rates as that text
 //! ```
 //!
 //! Exit status: 0; 1 after an error, a failed check or a script line not understood;
@@ -27,7 +28,7 @@ use std::path::Path;
 use std::process::ExitCode;
 
 const USAGE: &str = "usage: second run [full] | script | cover | program RECORDFILE LISTFILE \
-                     | self-check | pack FOLDER | show RECORDFILE LISTFILE";
+                     | self-check | pack FOLDER | show RECORDFILE LISTFILE RATESFILE";
 
 /// "A missing file is empty." Any other failure to read is an error.
 fn bytes_of(path: &str) -> Result<Vec<u8>, String> {
@@ -47,16 +48,17 @@ fn program(record: &str, list: &str) -> Result<bool, String> {
     print(&gmwb::program(&bytes_of(record)?, &bytes_of(list)?))
 }
 
-fn show(record: &str, list: &str) -> Result<bool, String> {
-    print(&text::show(&bytes_of(record)?, &bytes_of(list)?)?)
+fn show(record: &str, list: &str, rates: &str) -> Result<bool, String> {
+    let (record, list) = (bytes_of(record)?, bytes_of(list)?);
+    print(&text::show(&record, &list, &bytes_of(rates)?)?)
 }
 
 fn pack(folder: &str) -> Result<bool, String> {
     let mut input = String::new();
     let read = io::stdin().read_to_string(&mut input);
     read.map_err(|e| e.to_string())?;
-    let (record, list) = text::pack(&input)?;
-    for (name, bytes) in [("terms.bin", record), ("returns.bin", list)] {
+    let packed = text::pack(&input)?;
+    for (name, bytes) in ["terms.bin", "returns.bin", "rates.bin"].iter().zip(packed) {
         let path = Path::new(folder).join(name);
         std::fs::write(&path, bytes).map_err(|e| format!("{}: {e}", path.display()))?;
     }
@@ -101,7 +103,7 @@ fn main() -> ExitCode {
         ["program", record, list] => program(record, list),
         ["self-check"] => self_check(),
         ["pack", folder] => pack(folder),
-        ["show", record, list] => show(record, list),
+        ["show", record, list, rates] => show(record, list, rates),
         _ => {
             eprintln!("{USAGE}");
             return ExitCode::from(2);

@@ -5,14 +5,14 @@
 //!
 //! ```text
 //! check RECORD
-//! value RECORD LIST BEHAVIOUR WORK TABLE
-//! value_map RECORD LIST BEHAVIOUR WORK TABLE MAP
-//! value_table RECORD LIST WORK TABLE
+//! value RECORD LIST RATES BEHAVIOUR WORK TABLE
+//! value_map RECORD LIST RATES BEHAVIOUR WORK TABLE MAP
+//! value_table RECORD LIST RATES WORK TABLE
 //! book RECORD DATE ACCOUNT GUARANTEE AMOUNT BUFFER
 //! walk RECORD LIST TABLE NUMBERS CASH
 //! ```
 //!
-//! RECORD, LIST: bytes as lowercase hex, `-` for none.
+//! RECORD, LIST, RATES: bytes as lowercase hex, `-` for none.
 //! BEHAVIOUR, DATE, ACCOUNT, GUARANTEE, AMOUNT: decimal, up to 64 bits.
 //! WORK, MAP, CASH (64-bit entries), TABLE, NUMBERS (16-bit), BUFFER (8-bit): a slice, as
 //! - `-`: no entries;
@@ -160,6 +160,7 @@ fn table_in(text: &str, last: &[u16]) -> Result<Vec<u16>, String> {
 pub struct Valuing {
     pub record: Vec<u8>,
     pub list: Vec<u8>,
+    pub rates: Vec<u8>,
     pub behaviour: u64,
     pub work: Vec<u64>,
     pub table: Vec<u16>,
@@ -176,6 +177,7 @@ pub enum Operation {
     ValueTable {
         record: Vec<u8>,
         list: Vec<u8>,
+        rates: Vec<u8>,
         work: Vec<u64>,
         table: Vec<u16>,
     },
@@ -196,11 +198,12 @@ pub enum Operation {
     },
 }
 
-fn valuing_in(fields: [&str; 5], last: &[u16]) -> Result<Valuing, String> {
-    let [record, list, behaviour, work, table] = fields;
+fn valuing_in(fields: [&str; 6], last: &[u16]) -> Result<Valuing, String> {
+    let [record, list, rates, behaviour, work, table] = fields;
     Ok(Valuing {
         record: bytes_in(record)?,
         list: bytes_in(list)?,
+        rates: bytes_in(rates)?,
         behaviour: number(behaviour)?,
         work: slice_in(work, MOD_64)?,
         table: table_in(table, last)?,
@@ -214,16 +217,18 @@ fn operation(line: &str, last: &[u16]) -> Result<Operation, String> {
         ["check", record] => Operation::Check {
             record: bytes_in(record)?,
         },
-        ["value", record, list, behaviour, work, table] => {
-            Operation::Value(valuing_in([record, list, behaviour, work, table], last)?)
+        ["value", record, list, rates, behaviour, work, table] => {
+            let fields = [record, list, rates, behaviour, work, table];
+            Operation::Value(valuing_in(fields, last)?)
         }
-        ["value_map", record, list, behaviour, work, table, map] => Operation::ValueMap(
-            valuing_in([record, list, behaviour, work, table], last)?,
-            slice_in(map, MOD_64)?,
-        ),
-        ["value_table", record, list, work, table] => Operation::ValueTable {
+        ["value_map", record, list, rates, behaviour, work, table, map] => {
+            let fields = [record, list, rates, behaviour, work, table];
+            Operation::ValueMap(valuing_in(fields, last)?, slice_in(map, MOD_64)?)
+        }
+        ["value_table", record, list, rates, work, table] => Operation::ValueTable {
             record: bytes_in(record)?,
             list: bytes_in(list)?,
+            rates: bytes_in(rates)?,
             work: slice_in(work, MOD_64)?,
             table: table_in(table, last)?,
         },
@@ -294,21 +299,23 @@ fn answered(operation: &mut Operation, full: bool) -> String {
         Operation::Check { record } => told(gmwb::check(record)),
         Operation::Value(v) => {
             let (work, table) = (&mut v.work, &mut v.table);
-            let answer = gmwb::value(&v.record, &v.list, v.behaviour, work, table);
+            let answer = gmwb::value(&v.record, &v.list, &v.rates, v.behaviour, work, table);
             told_value(answer, work, table, full)
         }
         Operation::ValueMap(v, map) => {
+            let (record, list, rates) = (&v.record, &v.list, &v.rates);
             let (work, table) = (&mut v.work, &mut v.table);
-            let answer = gmwb::value_map(&v.record, &v.list, v.behaviour, work, table, map);
+            let answer = gmwb::value_map(record, list, rates, v.behaviour, work, table, map);
             told_map(answer, work, table, map, full)
         }
         Operation::ValueTable {
             record,
             list,
+            rates,
             work,
             table,
         } => {
-            let answer = gmwb::value_table(record, list, work, table);
+            let answer = gmwb::value_table(record, list, rates, work, table);
             told_value(answer, work, table, full)
         }
         Operation::Book {

@@ -1,13 +1,14 @@
 //! `second self-check`: the figures of document 01's section "Contracts worked by
-//! hand", rates that fall by document 02's request (i), maps of surrender by its request
-//! (ii), payments of what a return lifts above top by its request (iv), every refusal on
-//! both sides of its boundary, the order of the checks, what is left in the lent slices,
-//! whose entries are 64-bit by request (iii), and properties on random small contracts.
+//! hand", penalty rates that fall by document 02's request (i), maps of surrender by its request
+//! (ii), payments of what a return lifts above top by its request (iv), payment at death by
+//! its request (v), every refusal on both sides of its boundary, the order of the checks,
+//! what is left in the lent slices, whose entries are 64-bit by request (iii), and
+//! properties on random small contracts.
 //!
 //! The operations are only called from outside here, as an engine's caller would.
 
 use crate::script::{answer, digest, fill, MOD_16, MOD_64, MOD_8};
-use crate::terms::{list, Terms, P, P_RETURNS, Q};
+use crate::terms::{list, rate_list, Terms, P, P_RETURNS, Q};
 use crate::{gmwb, text};
 use std::fmt::Debug;
 
@@ -42,10 +43,12 @@ pub fn run() -> (u64, u64) {
     map_figures(&mut t);
     map_lengths(&mut t);
     payouts(&mut t);
+    deaths(&mut t);
     printed(&mut t);
     printed_within_slices(&mut t);
     record_boundaries(&mut t);
     list_boundaries(&mut t);
+    rate_boundaries(&mut t);
     slice_boundaries(&mut t);
     booking_boundaries(&mut t);
     number_boundaries(&mut t);
@@ -57,8 +60,15 @@ pub fn run() -> (u64, u64) {
     large_values(&mut t);
     script_lines(&mut t);
     let mut draw = Draw(20_240_601);
+    let mut apart = [0; MISTAKEN.len()];
     for k in 0..48 {
-        random_contract(&mut t, &mut draw, k);
+        random_contract(&mut t, &mut draw, k, &mut apart);
+    }
+    for ((_, how), apart) in MISTAKEN.iter().zip(apart) {
+        t.same(&format!("apart from {how}"), apart >= 10, true);
+    }
+    for k in 0..12 {
+        every_strategy(&mut t, &mut draw, k);
     }
     let mut with_excess = 0;
     for k in 0..200 {
@@ -67,6 +77,7 @@ pub fn run() -> (u64, u64) {
 
     t.same("random walks with an excess", with_excess >= 30, true);
     text_fields(&mut t);
+    text_rates(&mut t);
     for _ in 0..50 {
         random_text(&mut t, &mut draw);
     }
@@ -92,7 +103,7 @@ impl Terms {
         (0..=u64::from(self.top)).flat_map(each).collect()
     }
 
-    /// The rate of a date, in signed numbers.
+    /// The penalty rate of a date, in signed numbers.
     fn rate(&self, date: u64) -> i64 {
         (i64::from(self.penalty) - (date as i64 - 1) * i64::from(self.step)).max(0)
     }
@@ -167,17 +178,26 @@ fn filled_map(length: usize) -> Vec<u64> {
         .collect()
 }
 
-/// A valuation with slices of exactly the needed length.
-fn valued(
-    terms: &Terms,
-    returns: &[(u16, u16)],
-    behaviour: u64,
-) -> (gmwb::Valued, Vec<u64>, Vec<u16>) {
+/// A valuation with zero death rates and slices of exactly the needed length.
+fn valued(terms: &Terms, returns: &[(u16, u16)], behaviour: u64) -> Run {
+    valued_with(terms, returns, &terms.zero_rates(), behaviour)
+}
+
+/// The same with death rates.
+fn valued_with(terms: &Terms, returns: &[(u16, u16)], rates: &[u16], behaviour: u64) -> Run {
     let mut work = filled_64(2 * terms.layer());
     let mut table = filled_16((usize::from(terms.dates) - 1) * terms.layer());
-    let (record, list) = (terms.record(), list(returns));
-    let answer = gmwb::value(&record, &list, behaviour, &mut work, &mut table);
+    let (record, list, rates) = (terms.record(), list(returns), rate_list(rates));
+    let answer = gmwb::value(&record, &list, &rates, behaviour, &mut work, &mut table);
     (answer, work, table)
+}
+
+/// A supplied table valued with zero death rates: number and value.
+fn supplied(terms: &Terms, returns: &[(u16, u16)], table: &[u16]) -> (u64, u64) {
+    let mut work = filled_64(2 * terms.layer());
+    let (list, rates) = (list(returns), rate_list(&terms.zero_rates()));
+    let v = gmwb::value_table(&terms.record(), &list, &rates, &mut work, table);
+    (v.number, v.value)
 }
 
 fn value_of(terms: &Terms, behaviour: u64) -> (u64, u64, i64) {
@@ -327,10 +347,13 @@ fn stepped_bookings(t: &mut Tally) {
     }
 }
 
+/// A return that changes nothing.
+const STILL: [(u16, u16); 1] = [(10_000, 10_000)];
+
 /// A return that changes nothing: 7 are drawn from (20, 20), 7 from (13, 13) and 6 from
 /// (6, 6). The penalty falls on 2, 2 and 1; the value is the sum of the cash.
 fn stepped_walks(t: &mut Tally) {
-    let still = list(&[(10_000, 10_000)]);
+    let still = list(&STILL);
     for (step, expected) in [
         (0, [68_000, 68_000, 59_000, 0]),
         (300, [68_000, 68_600, 59_600, 0]),
@@ -351,25 +374,37 @@ fn stepped_walks(t: &mut Tally) {
         let walked = gmwb::walk(&record, &still, &table, &[0; 4], &mut cash);
         let name = format!("walk with step {step}");
         t.same(&name, (walked.number, &cash[..]), (0, &expected[..]));
-        let mut work = vec![0; 2 * layer];
-        let v = gmwb::value_table(&record, &still, &mut work, &table);
         let name = format!("table with step {step}");
-        t.same(&name, (v.number, v.value), (0, expected.iter().sum()));
+        let got = supplied(&terms, &STILL, &table);
+        t.same(&name, got, (0, expected.iter().sum()));
     }
 }
 
-/// A valuation with a map of some words: the answer, and what is left in the slices.
+/// A valuation with a map of some words and zero death rates: the answer, and what is left in
+/// the slices.
 fn mapped(
     terms: &Terms,
     returns: &[(u16, u16)],
     behaviour: u64,
     words: usize,
 ) -> (gmwb::Mapped, Run, Vec<u64>) {
+    mapped_with(terms, returns, &terms.zero_rates(), behaviour, words)
+}
+
+/// The same with death rates.
+fn mapped_with(
+    terms: &Terms,
+    returns: &[(u16, u16)],
+    rates: &[u16],
+    behaviour: u64,
+    words: usize,
+) -> (gmwb::Mapped, Run, Vec<u64>) {
     let mut work = filled_64(2 * terms.layer());
     let mut table = filled_16((usize::from(terms.dates) - 1) * terms.layer());
     let mut map = filled_map(words);
-    let (record, list) = (terms.record(), list(returns));
-    let answer = gmwb::value_map(&record, &list, behaviour, &mut work, &mut table, &mut map);
+    let (record, list, rates) = (terms.record(), list(returns), rate_list(rates));
+    let (w, t, m) = (&mut work, &mut table, &mut map);
+    let answer = gmwb::value_map(&record, &list, &rates, behaviour, w, t, m);
     (answer, (answer.valued, work, table), map)
 }
 
@@ -555,10 +590,8 @@ fn excess_at_decision_date(t: &mut Tally) {
     undrawn(t, [1, 1, 0], [180_000, 240_000, 120_000]);
     // The cash of the eight paths, all as likely: 3,400,000 in all.
     let zeros = vec![0; 2 * UNDER_12.layer()];
-    let mut work = vec![0; 2 * UNDER_12.layer()];
-    let (record, list) = (UNDER_12.record(), list(&STILL_OR_TRIPLE));
-    let v = gmwb::value_table(&record, &list, &mut work, &zeros);
-    t.same("nothing drawn", (v.number, v.value), (0, 425_000));
+    let got = supplied(&UNDER_12, &STILL_OR_TRIPLE, &zeros);
+    t.same("nothing drawn", got, (0, 425_000));
 }
 
 /// The last return lifts 10 or 12 above top, beside the maturity payment of top.
@@ -668,6 +701,123 @@ fn most_a_value_can_be(t: &mut Tally) {
     }
 }
 
+// ------------------------------------------------------------ Payment at death
+
+fn deaths(t: &mut Tally) {
+    death_values(t);
+    death_payments(t);
+    death_rounded(t);
+    living_holders_layer(t);
+    certain_death(t);
+}
+
+fn values_with(terms: &Terms, returns: &[(u16, u16)], rates: &[u16]) -> [u64; 3] {
+    [0, 1, 2].map(|b| valued_with(terms, returns, rates, b).0.value)
+}
+
+/// The last rate changes nothing: death then pays what maturity does.
+fn death_values(t: &mut Tally) {
+    for (rates, values) in [
+        (&[0, 0][..], [125_000, 125_000, 130_000]),
+        (&[100, 100], [125_000, 125_000, 129_950]),
+        (&[2_500, 5_000], [125_000, 125_000, 128_750]),
+        (&[10_000, 0], [125_000, 125_000, 125_000]),
+        (&[10_000, 10_000], [125_000, 125_000, 125_000]),
+        (&[0, 10_000], [125_000, 125_000, 130_000]),
+        (&[100, 200, 300], [125_000, 125_000, 131_162]),
+        (&[500; 4], [123_927, 123_927, 137_844]),
+    ] {
+        let dates = rates.len() as u16;
+        let got = values_with(&Terms { dates, ..P }, &P_RETURNS, rates);
+        t.same(&format!("P with rates {rates:?}"), got, values);
+    }
+    let discount = 950_000;
+    let got = values_with(&Terms { discount, ..P }, &P_RETURNS, &[3_333; 2]);
+    let expected = [116_374, 116_374, 118_749];
+    t.same("P with a discount and rates", got, expected);
+}
+
+/// A single return leads from 10 below the guarantee, to it, above it, or 10 past a top of 20.
+/// Without decision dates death pays what maturity does.
+fn death_payments(t: &mut Tally) {
+    for (factor, paid) in [
+        (0, 10),
+        (5_000, 10),
+        (10_000, 10),
+        (15_000, 15),
+        (30_000, 30),
+    ] {
+        let single = [(factor, 10_000)];
+        let one = Terms { dates: 1, ..P };
+        for rate in [0, 1, 5_000, 9_999, 10_000] {
+            let name = format!("P with N 1, factor {factor}, rate {rate}");
+            let got = values_with(&one, &single, &[rate]);
+            t.same(&name, got, [10_000 * paid; 3]);
+        }
+        let name = format!("P with factor {factor}, sure death");
+        let got = values_with(&P, &single, &[10_000, 0]);
+        t.same(&name, got, [10_000 * paid; 3]);
+    }
+}
+
+/// Static values of date 1 are 100,000 and 150,010. A rate of 1 makes of the second 150,009.999,
+/// rounded down to 150,009: a sum of 125,009.5009. Rounded after the weights it would be
+/// 125,010.0005.
+fn death_rounded(t: &mut Tally) {
+    let uneven = [(5_000, 4_999), (15_000, 5_001)];
+    let got = [0, 1, 10_000].map(|rate| values_with(&P, &uneven, &[rate, 0])[0]);
+    t.same(
+        "rounded before the weights",
+        got,
+        [125_010, 125_009, 125_005],
+    );
+}
+
+/// The first layer has the values of a living holder, and the second zeros, whatever the first
+/// rate is.
+fn living_holders_layer(t: &mut Tally) {
+    let three = Terms { dates: 3, ..P };
+    for behaviour in 0..3 {
+        let (_, plain, table) = valued_with(&three, &P_RETURNS, &[0, 700, 0], behaviour);
+        for first in [1, 5_000, 10_000] {
+            let rates = [first, 700, 0];
+            let (_, work, amounts) = valued_with(&three, &P_RETURNS, &rates, behaviour);
+            t.same("values of a living holder", &work, &plain);
+            t.same("amounts of a living holder", &amounts, &table);
+        }
+        let (_, other, _) = valued_with(&three, &P_RETURNS, &[0, 0, 0], behaviour);
+        let (_, last, _) = valued_with(&three, &P_RETURNS, &[0, 0, 10_000], behaviour);
+        t.same("the last rate", &last, &other);
+        t.same("a rate between", plain != other, true);
+    }
+    let (_, work, _) = valued_with(&P, &P_RETURNS, &[10_000, 0], 2);
+    t.same("case 2 beside a death", work[P.entry(15, 10)], 160_000);
+}
+
+/// A rate of 10,000 in the first period: the discounted mean of the death payments, under each
+/// behaviour, whatever follows.
+fn certain_death(t: &mut Tally) {
+    for (discount, returns, value) in [
+        (1_000_000, P_RETURNS, 125_000),
+        (950_000, P_RETURNS, 118_750),
+        // 10 or 30, of these 10 past top
+        (1_000_000, STILL_OR_TRIPLE, 200_000),
+        (333_333, STILL_OR_TRIPLE, 66_666),
+    ] {
+        for dates in 1..=4 {
+            let terms = Terms {
+                discount,
+                dates,
+                ..P
+            };
+            let mut rates = vec![1_234; dates.into()];
+            rates[0] = 10_000;
+            let name = format!("sure death, N {dates}, discount {discount}");
+            t.same(&name, values_with(&terms, &returns, &rates), [value; 3]);
+        }
+    }
+}
+
 // ------------------------------------------------------------ The program's text
 
 fn printed(t: &mut Tally) {
@@ -679,10 +829,11 @@ fn printed(t: &mut Tally) {
         expected.into(),
     );
     let packed = text::pack(include_str!("example-p.txt"));
+    let rates = vec![0; 4];
     t.same(
         "example-p.txt",
         packed,
-        Ok((record.clone(), returns.clone())),
+        Ok([record.clone(), returns.clone(), rates]),
     );
     let short = Terms { dates: 1, ..P }.record();
     let expected = "static 125000\nmixed 125000\ndynamic 125000\n";
@@ -741,6 +892,7 @@ fn printed_within_slices(t: &mut Tally) {
 struct Call {
     record: Vec<u8>,
     list: Vec<u8>,
+    rates: Vec<u8>,
     behaviour: u64,
     work: usize,
     table: Vec<u16>,
@@ -769,12 +921,19 @@ fn list_fault(number: u64, place: u64) -> Five {
     [(0, 0), refused, refused, (0, 0), refused]
 }
 
-/// A call that each operation takes: a table of zeros, slices of the exact length.
+/// A fault in the death rates is refused by the two that take some.
+fn rate_fault(number: u64, place: u64) -> Five {
+    let refused = (number, place);
+    [(0, 0), refused, refused, (0, 0), (0, 0)]
+}
+
+/// A call that each operation takes: zero rates, a table of zeros, slices of the exact length.
 fn good(terms: &Terms, returns: &[(u16, u16)]) -> Call {
     let decisions = usize::from(terms.dates).saturating_sub(1);
     Call {
         record: terms.record(),
         list: list(returns),
+        rates: rate_list(&terms.zero_rates()),
         behaviour: 0,
         work: 2 * terms.layer(),
         table: vec![0; decisions * terms.layer()],
@@ -800,24 +959,25 @@ fn called(c: &Call) -> (Five, [bool; 5]) {
     let mut kept = [true; 5];
 
     let (mut work, mut table) = (filled_64(c.work), filled_16(c.table.len()));
-    let v = gmwb::value(&c.record, &c.list, c.behaviour, &mut work, &mut table);
+    let (record, list, rates) = (&c.record, &c.list, &c.rates);
+    let v = gmwb::value(record, list, rates, c.behaviour, &mut work, &mut table);
     got[1] = (v.number, v.place);
     kept[1] = work == filled_64(c.work) && table == filled_16(c.table.len());
     kept[1] &= v.value == 0 && v.margin == 0;
 
     let mut work = filled_64(c.work);
-    let v = gmwb::value_table(&c.record, &c.list, &mut work, &c.table);
+    let v = gmwb::value_table(record, list, rates, &mut work, &c.table);
     got[2] = (v.number, v.place);
     kept[2] = work == filled_64(c.work) && v.value == 0 && v.margin == 0;
 
     let mut buffer = filled_8(c.buffer);
     let (w, a) = (c.account, c.guarantee);
-    let b = gmwb::book(&c.record, c.date, w, a, c.amount, &mut buffer);
+    let b = gmwb::book(record, c.date, w, a, c.amount, &mut buffer);
     got[3] = (b.number, b.place);
     kept[3] = buffer == filled_8(c.buffer);
 
     let mut cash = filled_64(c.cash);
-    let b = gmwb::walk(&c.record, &c.list, &c.table, &c.numbers, &mut cash);
+    let b = gmwb::walk(record, list, &c.table, &c.numbers, &mut cash);
     got[4] = (b.number, b.place);
     kept[4] = cash == filled_64(c.cash);
     (got, kept)
@@ -828,8 +988,9 @@ fn called(c: &Call) -> (Five, [bool; 5]) {
 fn called_with_map(c: &Call, words: usize) -> ((u64, u64), bool) {
     let (mut work, mut table) = (filled_64(c.work), filled_16(c.table.len()));
     let mut map = filled_map(words);
-    let (record, list) = (&c.record, &c.list);
-    let m = gmwb::value_map(record, list, c.behaviour, &mut work, &mut table, &mut map);
+    let (record, list, rates) = (&c.record, &c.list, &c.rates);
+    let (w, t, m) = (&mut work, &mut table, &mut map);
+    let m = gmwb::value_map(record, list, rates, c.behaviour, w, t, m);
     let kept = work == filled_64(c.work) && table == filled_16(c.table.len());
     let zeros = m.valued.value == 0 && m.valued.margin == 0 && m.count == 0;
     let told = (m.valued.number, m.valued.place);
@@ -959,6 +1120,54 @@ fn list_boundaries(t: &mut Tally) {
         (vec![(0, whole); 64], list_fault(9, 0)),
     ] {
         t.five("list", &good(&P, &returns), expected);
+    }
+}
+
+/// Lengths around 2 × N, with accepted rates and with ones that 18 refuses; each index.
+fn rate_boundaries(t: &mut Tally) {
+    for dates in [1, 2, 40] {
+        let fine = good(
+            &Terms {
+                dates,
+                top: 10,
+                ..P
+            },
+            &P_RETURNS,
+        );
+        let expected = |refused: Five| match dates {
+            1 => [refused[0], refused[1], refused[2], (12, 0), refused[4]],
+            _ => refused,
+        };
+        let needed = 2 * usize::from(dates);
+        for (length, byte) in (0..needed + 6).flat_map(|length| [(length, 1), (length, 255)]) {
+            let refused = match (length == needed, byte) {
+                (false, _) => rate_fault(17, 0),
+                (_, 1) => FINE,
+                _ => rate_fault(18, 0),
+            };
+            let rates = vec![byte; length];
+            let call = Call {
+                rates,
+                ..fine.clone()
+            };
+            let name = format!("{length} bytes of {byte} as rates, N {dates}");
+            t.five(&name, &call, expected(refused));
+        }
+        for (index, rate) in (0..dates).flat_map(|i| [10_000, 10_001, 65_535].map(|r| (i, r))) {
+            let mut rates = vec![10_000; dates.into()];
+            rates[usize::from(index)..].fill(rate);
+            let refused = match rate {
+                10_000 => FINE,
+                _ => rate_fault(18, index.into()),
+            };
+            let rates = rate_list(&rates);
+            let call = Call {
+                rates,
+                ..fine.clone()
+            };
+            let name = format!("rates of {rate} from {index} on, N {dates}");
+            t.five(&name, &call, expected(refused));
+        }
     }
 }
 
@@ -1113,6 +1322,7 @@ fn all_wrong() -> (Terms, Call) {
     };
     let call = Call {
         list: vec![255; 3],
+        rates: vec![255; 5],
         behaviour: 3,
         work: 0,
         table: Vec::new(),
@@ -1162,6 +1372,18 @@ fn order_of_later_checks(t: &mut Tally) {
     call.list = list(&[(0, 1), (30_000, 1)]);
     t.five(name, &call, [fine, (9, 0), (9, 0), short, (9, 0)]);
     call.list = list(&P_RETURNS);
+    t.five(name, &call, [fine, (17, 0), (17, 0), short, short]);
+    call.rates = vec![255; 3];
+    t.five(name, &call, [fine, (17, 0), (17, 0), short, short]);
+    call.rates = rate_list(&[10_000, 10_001]);
+    t.five(name, &call, [fine, (18, 1), (18, 1), short, short]);
+    let room = Call {
+        work: 462,
+        table: vec![99; 231],
+        ..call.clone()
+    };
+    t.five(name, &room, [fine, (18, 1), (18, 1), short, short]);
+    call.rates = rate_list(&[10_000, 10_000]);
     t.five(name, &call, [fine, (10, 0), short, short, short]);
     call.behaviour = 2;
     call.buffer = 16;
@@ -1185,8 +1407,9 @@ fn order_of_later_checks(t: &mut Tally) {
 /// Slices longer than needed: the parts named by the document, and the rest as before.
 fn left_in_slices(t: &mut Tally) {
     let (record, returns, layer) = (P.record(), list(&P_RETURNS), P.layer());
+    let rates = rate_list(&[2_500, 5_000]);
     let (mut work, mut table) = (filled_64(2 * layer + 9), filled_16(layer + 9));
-    gmwb::value(&record, &returns, 2, &mut work, &mut table);
+    gmwb::value(&record, &returns, &rates, 2, &mut work, &mut table);
     let second_zero = work[layer..2 * layer].iter().all(|x| *x == 0);
     t.same("second layer zeros", second_zero, true);
     let rest = filled_64(2 * layer + 9)[2 * layer..].to_vec();
@@ -1197,7 +1420,7 @@ fn left_in_slices(t: &mut Tally) {
     t.same("table beyond", table[layer..].to_vec(), beyond);
 
     let mut again = filled_64(2 * layer + 9);
-    gmwb::value_table(&record, &returns, &mut again, &table);
+    gmwb::value_table(&record, &returns, &rates, &mut again, &table);
     t.same("work after a supplied table", again, work);
 
     let mut cash = filled_64(4);
@@ -1250,8 +1473,8 @@ fn large_values(t: &mut Tally) {
         table.extend(keep);
     }
     let mut work = vec![0; 2 * terms.layer()];
-    let single = list(&[(30_000, 10_000)]);
-    let v = gmwb::value_table(&terms.record(), &single, &mut work, &table);
+    let (single, rates) = (list(&[(30_000, 10_000)]), rate_list(&terms.zero_rates()));
+    let v = gmwb::value_table(&terms.record(), &single, &rates, &mut work, &table);
     t.same("large values: accepted", v.number, 0);
     let expected = 39 * (26_660_000 + 20_000) + 40_000_000;
     t.same("large values", work[terms.entry(4_000, 0)], expected);
@@ -1274,14 +1497,25 @@ fn script_lines(t: &mut Tally) {
         ("check P", "0 0"),
         ("check -", "1 0"),
         ("check 00", "1 0"),
-        ("value T 10271027 0 8:5 -", valued),
+        ("value T 10271027 0000 0 8:5 -", valued),
+        ("value T 10271027 1027 0 8:5 -", valued),
         (
-            "value_map T 10271027 0 8:5 - 2:18446744073709551556",
+            "value_map T 10271027 0000 0 8:5 - 2:18446744073709551556",
             with_map,
         ),
-        ("value_table T 10271027 8:5 -", valued),
-        ("value T 10271027 0 9:4294967296 -", longer),
-        ("value_table T 10271027 9:4294967296 -", longer),
+        ("value_table T 10271027 0000 8:5 -", valued),
+        ("value T 10271027 0000 0 9:4294967296 -", longer),
+        ("value_table T 10271027 0000 9:4294967296 -", longer),
+        ("value T 10271027 - 0 2:5 -", "17 0 0 0 14838 7 5,7924 -"),
+        ("value T 10271027 1127 0 2:5 -", "18 0 0 0 14838 7 5,7924 -"),
+        (
+            "value_map T 10271027 000000 0 2:5 - -",
+            "17 0 0 0 0 14838 7 7 5,7924 - -",
+        ),
+        (
+            "value_table T 10271027 1127 2:5 -",
+            "18 0 0 0 14838 7 5,7924 -",
+        ),
         ("book P 1 15 10 6 3:250", "11 0 454051 fa8918"),
         ("book P 1 15 10 6 2:9:1", "11 0 6759 0000"),
         ("book P 1 15 10 6 -", "11 0 7 -"),
@@ -1303,7 +1537,12 @@ fn script_lines(t: &mut Tally) {
         "check  ",
         "check 0",
         "check 0A",
-        "value - - 0 1:x -",
+        "value - - - 0 1:x -",
+        "value - - 0 1:5 -",
+        "value - - 0g 0 1:5 -",
+        "value_map - - 0 1:5 - -",
+        "value_table - - 1:5 -",
+        "walk - - - - - -",
     ] {
         t.same("line not understood", answer(line, false).is_err(), true);
     }
@@ -1351,6 +1590,16 @@ impl Draw {
         returns.push((5_000 + self.upto(10_000) as u16, left));
         returns
     }
+
+    /// Accepted death rates, one per period.
+    fn rates(&mut self, dates: u16) -> Vec<u16> {
+        let most = [0, 500, 10_000][self.upto(2) as usize];
+        let rate = |draw: &mut Draw| match draw.upto(9) {
+            0 => [1, 9_999, 10_000][draw.upto(2) as usize],
+            _ => draw.upto(most) as u16,
+        };
+        (0..dates).map(|_| rate(self)).collect()
+    }
 }
 
 /// The amounts open in a state, smallest first: 0 static, 1 mixed, 2 dynamic.
@@ -1368,42 +1617,48 @@ fn open(terms: &Terms, behaviour: usize, w: u64, a: u64) -> Vec<u64> {
 type Run = (gmwb::Valued, Vec<u64>, Vec<u16>);
 
 /// A contract from each of its dates on, the last first, so that the values of date 1 run
-/// through those of every date. The amounts are those in the whole contract's table.
-fn random_contract(t: &mut Tally, draw: &mut Draw, k: u64) {
+/// through those of every date. The amounts are those in the whole contract's table. Counts
+/// for each way to mistake payment at death whether it gives another value.
+fn random_contract(t: &mut Tally, draw: &mut Draw, k: u64, apart: &mut [u64]) {
     let (terms, returns) = (draw.terms(), draw.returns());
-    let whole = [0, 1, 2].map(|b| valued(&terms, &returns, b));
+    let rates = draw.rates(terms.dates);
+    let whole = [0, 1, 2].map(|b| valued_with(&terms, &returns, &rates, b));
     let mut next: Vec<Vec<u64>> = Vec::new();
     for date in (1..=u64::from(terms.dates)).rev() {
-        let name = format!("random contract {k}: {terms:?} {returns:?}, date {date}");
+        let name = format!("random contract {k}: {terms:?} {returns:?} {rates:?}, date {date}");
         let later = terms.from_date(date);
-        let runs = [0, 1, 2].map(|b| valued(&later, &returns, b));
+        // The period before a date is the first of the contract from it on.
+        let lists = (&returns[..], &rates[date as usize - 1..]);
+        let runs = [0, 1, 2].map(|b| valued_with(&later, lists.0, lists.1, b));
         ordered(t, &name, &later, &runs);
-        at_start(t, &name, &later, &returns, &runs);
-        supplied_back(t, &name, &later, &returns, &runs);
-        same_with_map(t, &name, &later, &returns, &runs);
+        at_start(t, &name, &later, lists, &runs);
+        supplied_back(t, &name, &later, lists, &runs);
+        same_with_map(t, &name, &later, lists, &runs);
         for (behaviour, next) in next.iter().enumerate() {
             let layer = (date as usize - 1) * terms.layer();
             let left = (&runs[behaviour].1[..], &whole[behaviour].2[layer..]);
-            one_step(t, &name, &terms, &returns, (date, behaviour), next, left);
+            let lists = (&returns[..], &rates[..]);
+            one_step(t, &name, &terms, lists, (date, behaviour), next, left);
         }
         next = runs.into_iter().map(|(_, work, _)| work).collect();
     }
-    without_step(t, &format!("random contract {k}"), &terms, &returns, &whole);
-    beside_dropped(t, &format!("random contract {k}"), &terms, &returns);
+    let (name, lists) = (format!("random contract {k}"), (&returns[..], &rates[..]));
+    without_step(t, &name, &terms, lists, &whole);
+    beside_dropped(t, &name, &terms, lists);
+    zero_rates(t, &name, &terms, &returns);
+    dead_at_once(t, &name, &terms, lists);
+    beside_mistaken(t, &name, &terms, lists, &whole, apart);
 }
 
+/// Returns and death rates.
+type Lists<'a> = (&'a [(u16, u16)], &'a [u16]);
+
 /// Each table, supplied back, gets the answer of the valuation that left it.
-fn supplied_back(
-    t: &mut Tally,
-    name: &str,
-    terms: &Terms,
-    returns: &[(u16, u16)],
-    runs: &[Run; 3],
-) {
+fn supplied_back(t: &mut Tally, name: &str, terms: &Terms, lists: Lists, runs: &[Run; 3]) {
     for (answer, work, table) in runs {
         let mut again = filled_64(work.len());
-        let (record, list) = (terms.record(), list(returns));
-        let supplied = gmwb::value_table(&record, &list, &mut again, table);
+        let (record, list, rates) = (terms.record(), list(lists.0), rate_list(lists.1));
+        let supplied = gmwb::value_table(&record, &list, &rates, &mut again, table);
         t.same(&format!("{name}: supplied table"), supplied, *answer);
         t.same(&format!("{name}: supplied table, work"), &again, work);
     }
@@ -1411,16 +1666,10 @@ fn supplied_back(
 
 /// With a map each valuation answers and leaves the same. Every bit is read back, and the
 /// count is that of the bits.
-fn same_with_map(
-    t: &mut Tally,
-    name: &str,
-    terms: &Terms,
-    returns: &[(u16, u16)],
-    runs: &[Run; 3],
-) {
+fn same_with_map(t: &mut Tally, name: &str, terms: &Terms, lists: Lists, runs: &[Run; 3]) {
     for (behaviour, run) in runs.iter().enumerate() {
         let words = run.2.len().div_ceil(64);
-        let (answer, again, map) = mapped(terms, returns, behaviour as u64, words);
+        let (answer, again, map) = mapped_with(terms, lists.0, lists.1, behaviour as u64, words);
         t.same(&format!("{name}: with a map"), &again, run);
         let dates = 1..usize::from(terms.dates);
         let states = dates.flat_map(|_| terms.states());
@@ -1443,10 +1692,10 @@ fn same_with_map(
 
 /// Without the step the value is no higher. It is the same for static, and for all where
 /// there is no decision after date 1.
-fn without_step(t: &mut Tally, name: &str, terms: &Terms, returns: &[(u16, u16)], runs: &[Run; 3]) {
+fn without_step(t: &mut Tally, name: &str, terms: &Terms, lists: Lists, runs: &[Run; 3]) {
     let same_rate = Terms { step: 0, ..*terms };
     for (behaviour, (stepped, _, _)) in runs.iter().enumerate() {
-        let (answer, _, _) = valued(&same_rate, returns, behaviour as u64);
+        let (answer, _, _) = valued_with(&same_rate, lists.0, lists.1, behaviour as u64);
         let expected = if behaviour == 0 || terms.dates <= 2 {
             answer.value
         } else {
@@ -1468,31 +1717,77 @@ fn ordered(t: &mut Tally, name: &str, terms: &Terms, runs: &[Run; 3]) {
     t.same(&format!("{name}: order at the start"), rising, true);
 }
 
-/// The discounted sum over the returns from a balance and a guarantee, each value reached with
-/// the excess that is paid.
-fn expected(
+/// Where a return leads in a period: to an account and the guarantee, with an excess over top,
+/// and the value of the state there.
+struct Arrival {
+    period: usize,
+    account: u64,
+    guarantee: u64,
+    excess: u64,
+    value: u64,
+}
+
+impl Arrival {
+    /// "A value reached above top is the value at top plus 10,000 × the excess".
+    fn alive(&self) -> u64 {
+        self.value + 10_000 * self.excess
+    }
+
+    fn payment(&self) -> u64 {
+        10_000 * (self.account.max(self.guarantee) + self.excess)
+    }
+}
+
+/// What becomes of a value reached, times 10,000, not yet rounded: living at the complement of
+/// the rate, paid at the rate.
+fn mixed_at(rate: u16, alive: u64, payment: u64) -> u128 {
+    let rate = u128::from(rate);
+    (10_000 - rate) * u128::from(alive) + rate * u128::from(payment)
+}
+
+/// Rounded down, as a value is.
+fn whole_value(mixed: u128) -> u128 {
+    mixed / 10_000 * 10_000
+}
+
+/// The same by the rules.
+fn reached_at(rates: &[u16], at: &Arrival) -> u128 {
+    whole_value(mixed_at(rates[at.period], at.alive(), at.payment()))
+}
+
+/// The discounted sum over the returns of a period from a balance and a guarantee; `reached`
+/// says what is made of each arrival, times 10,000.
+fn discounted(
     terms: &Terms,
     returns: &[(u16, u16)],
-    next: &[u64],
-    balance: u64,
-    guarantee: u64,
-) -> u128 {
+    (period, next): (usize, &[u64]),
+    (balance, guarantee): (u64, u64),
+    reached: &dyn Fn(&Arrival) -> u128,
+) -> u64 {
     let mut sum = 0;
     for (factor, weight) in returns {
         let (account, excess) = terms.reached(balance, *factor);
-        let value = next[terms.entry(account, guarantee)] + 10_000 * excess;
-        sum += u128::from(*weight) * u128::from(value);
+        let arrival = Arrival {
+            period,
+            account,
+            guarantee,
+            excess,
+            value: next[terms.entry(account, guarantee)],
+        };
+        sum += u128::from(*weight) * reached(&arrival);
     }
-    u128::from(terms.discount) * sum / 10_000_000_000
+    (u128::from(terms.discount) * sum / 100_000_000_000_000) as u64
 }
 
 /// The value of a contract is that of the first return, and no value passes what dates and top
 /// allow.
-fn at_start(t: &mut Tally, name: &str, terms: &Terms, returns: &[(u16, u16)], runs: &[Run; 3]) {
+fn at_start(t: &mut Tally, name: &str, terms: &Terms, lists: Lists, runs: &[Run; 3]) {
     let (premium, dates) = (u64::from(terms.premium), u64::from(terms.dates));
+    let (returns, rates) = lists;
     for (answer, work, _) in runs {
-        let value = expected(terms, returns, work, premium, premium);
-        t.same(&format!("{name}: value"), u128::from(answer.value), value);
+        let reached = |at: &Arrival| reached_at(rates, at);
+        let value = discounted(terms, returns, (0, work), (premium, premium), &reached);
+        t.same(&format!("{name}: value"), answer.value, value);
         let within = work.iter().all(|v| *v <= terms.tops(2 * dates - 1));
         t.same(&format!("{name}: most of a state"), within, true);
         let within = answer.value <= terms.tops(2 * dates + 1);
@@ -1500,24 +1795,24 @@ fn at_start(t: &mut Tally, name: &str, terms: &Terms, returns: &[(u16, u16)], ru
     }
 }
 
-/// Value, values of date 1 and amounts of a contract whose excess is dropped and not paid.
-fn dropped(terms: &Terms, returns: &[(u16, u16)], behaviour: usize) -> (u64, Vec<u64>, Vec<u16>) {
-    let average = |next: &[u64], balance: u64, guarantee: u64| {
-        let share = |(factor, weight): &(u16, u16)| {
-            let place = terms.entry(terms.reached(balance, *factor).0, guarantee);
-            u64::from(*weight) * next[place]
-        };
-        let sum: u64 = returns.iter().map(share).sum();
-        u64::from(terms.discount) * sum / 10_000_000_000
-    };
+/// Value, values of date 1 and amounts of a contract, `reached` being what is made of each
+/// arrival, times 10,000.
+fn valued_by(
+    terms: &Terms,
+    returns: &[(u16, u16)],
+    behaviour: usize,
+    reached: &dyn Fn(&Arrival) -> u128,
+) -> (u64, Vec<u64>, Vec<u16>) {
     let states = terms.states();
     let mut values: Vec<u64> = states.iter().map(|(w, a)| 10_000 * w.max(a)).collect();
     let mut table = Vec::new();
-    for date in (1..u64::from(terms.dates)).rev() {
+    for date in (1..terms.dates).rev() {
         let best = |(w, a): &(u64, u64)| {
             let worth = |amount: &u64| {
-                let [cash, _, balance, guarantee] = terms.figures(date, *w, *a, *amount);
-                cash + average(&values, balance, guarantee)
+                let figures = terms.figures(date.into(), *w, *a, *amount);
+                let [cash, _, balance, guarantee] = figures;
+                let (next, from) = ((date.into(), &values[..]), (balance, guarantee));
+                cash + discounted(terms, returns, next, from, reached)
             };
             // The last of the largest, so the smallest amount where they go downwards.
             let amounts = open(terms, behaviour, *w, *a).into_iter().rev();
@@ -1529,20 +1824,22 @@ fn dropped(terms: &Terms, returns: &[(u16, u16)], behaviour: usize) -> (u64, Vec
         table.splice(0..0, amounts);
     }
     let premium = u64::from(terms.premium);
-    (average(&values, premium, premium), values, table)
+    let value = discounted(terms, returns, (0, &values), (premium, premium), reached);
+    (value, values, table)
 }
 
 /// Where no return lifts a balance above top, all is as if an excess were dropped; where one
 /// does, no value is lower. Without factors above 10,000 none does.
-fn beside_dropped(t: &mut Tally, name: &str, terms: &Terms, returns: &[(u16, u16)]) {
+fn beside_dropped(t: &mut Tally, name: &str, terms: &Terms, (returns, rates): Lists) {
     let falling: Vec<(u16, u16)> = returns.iter().map(|(f, w)| (10_000.min(*f), *w)).collect();
     t.same(&format!("{name}: no lift"), terms.lifts(&falling), false);
+    let dropped = |at: &Arrival| reached_at(rates, &Arrival { excess: 0, ..*at });
     for (returns, behaviour) in [returns, &falling]
         .into_iter()
         .flat_map(|r| [(r, 0), (r, 1), (r, 2)])
     {
-        let (answer, work, table) = valued(terms, returns, behaviour as u64);
-        let (value, values, amounts) = dropped(terms, returns, behaviour);
+        let (answer, work, table) = valued_with(terms, returns, rates, behaviour as u64);
+        let (value, values, amounts) = valued_by(terms, returns, behaviour, &dropped);
         let (first, second) = work.split_at(terms.layer());
         let name = format!("{name}: beside dropped, behaviour {behaviour}");
         t.same(&name, second.iter().all(|v| *v == 0), true);
@@ -1560,17 +1857,219 @@ fn beside_dropped(t: &mut Tally, name: &str, terms: &Terms, returns: &[(u16, u16
     }
 }
 
+/// "Zero rates .. give the earlier values": those of a contract that knows no death.
+fn zero_rates(t: &mut Tally, name: &str, terms: &Terms, returns: &[(u16, u16)]) {
+    for behaviour in 0..3 {
+        let (answer, work, table) = valued(terms, returns, behaviour as u64);
+        let deathless = |at: &Arrival| 10_000 * u128::from(at.alive());
+        let (value, values, amounts) = valued_by(terms, returns, behaviour, &deathless);
+        let name = format!("{name}: zero rates, behaviour {behaviour}");
+        let got = (answer.value, &work[..terms.layer()], &table);
+        t.same(&name, got, (value, &values[..], &amounts));
+    }
+}
+
+/// With a first rate of 10,000 every behaviour has the discounted mean of the death payments.
+fn dead_at_once(t: &mut Tally, name: &str, terms: &Terms, (returns, rates): Lists) {
+    let mut rates = rates.to_vec();
+    rates[0] = 10_000;
+    let premium = u64::from(terms.premium);
+    let paid = |(factor, weight): &(u16, u16)| {
+        let (account, excess) = terms.reached(premium, *factor);
+        u64::from(*weight) * (account.max(premium) + excess)
+    };
+    let sum: u64 = returns.iter().map(paid).sum();
+    let mean = u64::from(terms.discount) * sum / 1_000_000;
+    let got = values_with(terms, returns, &rates);
+    t.same(&format!("{name}: dead at once"), got, [mean; 3]);
+}
+
+/// Ways to mistake payment at death: what is made of an arrival, times 10,000, and in words.
+type Mistaken = (fn(&[u16], &Arrival) -> u128, &'static str);
+
+const MISTAKEN: [Mistaken; 8] = [
+    (a_period_late, "the rates a period late"),
+    (a_period_early, "the rates a period early"),
+    (first_without, "no rate on the first return"),
+    (guarantee_alone, "the guarantee alone paid at death"),
+    (account_alone, "the account alone paid at death"),
+    (rounded_later, "death rounded after the weights"),
+    (without_excess, "no excess paid at death"),
+    (exchanged, "rate and complement exchanged"),
+];
+
+fn a_period_late(rates: &[u16], at: &Arrival) -> u128 {
+    let rate = if at.period == 0 {
+        0
+    } else {
+        rates[at.period - 1]
+    };
+    whole_value(mixed_at(rate, at.alive(), at.payment()))
+}
+
+fn a_period_early(rates: &[u16], at: &Arrival) -> u128 {
+    let rate = *rates.get(at.period + 1).unwrap_or(&0);
+    whole_value(mixed_at(rate, at.alive(), at.payment()))
+}
+
+fn first_without(rates: &[u16], at: &Arrival) -> u128 {
+    let rate = if at.period == 0 { 0 } else { rates[at.period] };
+    whole_value(mixed_at(rate, at.alive(), at.payment()))
+}
+
+fn guarantee_alone(rates: &[u16], at: &Arrival) -> u128 {
+    let payment = 10_000 * (at.guarantee + at.excess);
+    whole_value(mixed_at(rates[at.period], at.alive(), payment))
+}
+
+fn account_alone(rates: &[u16], at: &Arrival) -> u128 {
+    let payment = 10_000 * (at.account + at.excess);
+    whole_value(mixed_at(rates[at.period], at.alive(), payment))
+}
+
+fn rounded_later(rates: &[u16], at: &Arrival) -> u128 {
+    mixed_at(rates[at.period], at.alive(), at.payment())
+}
+
+fn without_excess(rates: &[u16], at: &Arrival) -> u128 {
+    let payment = 10_000 * at.account.max(at.guarantee);
+    whole_value(mixed_at(rates[at.period], at.alive(), payment))
+}
+
+fn exchanged(rates: &[u16], at: &Arrival) -> u128 {
+    let rate = 10_000 - rates[at.period];
+    whole_value(mixed_at(rate, at.alive(), at.payment()))
+}
+
+/// The rules as they stand give the answers; each way to mistake them is counted where it gives
+/// another value.
+fn beside_mistaken(
+    t: &mut Tally,
+    name: &str,
+    terms: &Terms,
+    (returns, rates): Lists,
+    runs: &[Run; 3],
+    apart: &mut [u64],
+) {
+    for (behaviour, (answer, work, table)) in runs.iter().enumerate() {
+        let ruled = |at: &Arrival| reached_at(rates, at);
+        let (value, values, amounts) = valued_by(terms, returns, behaviour, &ruled);
+        let got = (answer.value, &work[..terms.layer()], table);
+        t.same(
+            &format!("{name}: by the rules"),
+            got,
+            (value, &values[..], &amounts),
+        );
+        for ((reached, _), apart) in MISTAKEN.iter().zip(&mut *apart) {
+            let mistaken = |at: &Arrival| reached(rates, at);
+            let other = valued_by(terms, returns, behaviour, &mistaken).0;
+            *apart += u64::from(other != value);
+        }
+    }
+}
+
+/// A rule that names an amount from the numbers of the returns so far. "A strategy chooses only
+/// while the holder lives".
+struct Strategy<'a> {
+    terms: &'a Terms,
+    lists: Lists<'a>,
+    behaviour: usize,
+    /// The amount for each list of return numbers, shorter lists first.
+    amounts: &'a [u64],
+}
+
+impl Strategy<'_> {
+    /// What it earns over a period from a balance and a guarantee; none where it names an amount
+    /// that is not open. `place` is that of the list so far among those of its length.
+    fn over_period(&self, period: u16, place: usize, from: (u64, u64)) -> Option<u64> {
+        let (returns, rates) = self.lists;
+        let mut sum = 0;
+        for (number, (factor, weight)) in returns.iter().enumerate() {
+            let (account, excess) = self.terms.reached(from.0, *factor);
+            let place = place * returns.len() + number;
+            let arrival = Arrival {
+                period: period.into(),
+                account,
+                guarantee: from.1,
+                excess,
+                value: self.on_date(period + 1, place, (account, from.1))?,
+            };
+            sum += u128::from(*weight) * reached_at(rates, &arrival);
+        }
+        Some((u128::from(self.terms.discount) * sum / 100_000_000_000_000) as u64)
+    }
+
+    fn on_date(&self, date: u16, place: usize, (w, a): (u64, u64)) -> Option<u64> {
+        if date == self.terms.dates {
+            return Some(10_000 * w.max(a));
+        }
+        let count = self.lists.0.len();
+        let shorter: usize = (1..date).map(|length| count.pow(length.into())).sum();
+        let amount = self.amounts[shorter + place];
+        if !open(self.terms, self.behaviour, w, a).contains(&amount) {
+            return None;
+        }
+        let [cash, _, balance, guarantee] = self.terms.figures(date.into(), w, a, amount);
+        let later = self.over_period(date, place, (balance, guarantee))?;
+        Some(cash + later)
+    }
+}
+
+/// Every strategy of a contract under a top of at most 3 with two returns and at most two
+/// decision dates: under each behaviour none earns more than the value, and some as much.
+fn every_strategy(t: &mut Tally, draw: &mut Draw, k: u64) {
+    let top = 2 + draw.upto(1);
+    let premium = 1 + draw.upto(top - 1) as u16;
+    let terms = Terms {
+        premium,
+        level: 1 + draw.upto(u64::from(premium) - 1) as u16,
+        top: top as u16,
+        dates: 2 + (k % 2) as u16,
+        ..draw.terms()
+    };
+    let weight = 1 + draw.upto(9_998) as u16;
+    let returns = [
+        (draw.upto(12_000) as u16, weight),
+        (10_000 + draw.upto(20_000) as u16, 10_000 - weight),
+    ];
+    let rates = draw.rates(terms.dates);
+    let places = if terms.dates == 2 { 2 } else { 6 };
+    let choices = top + 1;
+    let strategies = (0..choices.pow(places)).map(|s| {
+        let amount = |place: u32| s / choices.pow(place) % choices;
+        (0..places).map(amount).collect::<Vec<u64>>()
+    });
+    let mut most = [None; 3];
+    for amounts in strategies {
+        for (behaviour, most) in most.iter_mut().enumerate() {
+            let strategy = Strategy {
+                terms: &terms,
+                lists: (&returns, &rates),
+                behaviour,
+                amounts: &amounts,
+            };
+            let premium = u64::from(premium);
+            let earned = strategy.over_period(0, 0, (premium, premium));
+            *most = earned.max(*most);
+        }
+    }
+    let got = values_with(&terms, &returns, &rates).map(Some);
+    let name = format!("every strategy {k}: {terms:?} {returns:?} {rates:?}");
+    t.same(&name, got, most);
+}
+
 /// Value and amount of each state of a date, from bookings and the values of the next
 /// date.
 fn one_step(
     t: &mut Tally,
     name: &str,
     terms: &Terms,
-    returns: &[(u16, u16)],
+    (returns, rates): Lists,
     (date, behaviour): (u64, usize),
     next: &[u64],
     left: (&[u64], &[u16]),
 ) {
+    let reached = |at: &Arrival| reached_at(rates, at);
     for (w, a) in terms.states() {
         let mut best = (0, 0);
         for (index, amount) in open(terms, behaviour, w, a).into_iter().enumerate() {
@@ -1578,13 +2077,14 @@ fn one_step(
             let figures = (0, 0, terms.figures(date, w, a, amount));
             t.same(&format!("{name}: booking"), booking, figures);
             let [cash, _, balance, guarantee] = booking.2;
-            let worth = u128::from(cash) + expected(terms, returns, next, balance, guarantee);
+            let (next, from) = ((date as usize, next), (balance, guarantee));
+            let worth = cash + discounted(terms, returns, next, from, &reached);
             if index == 0 || worth > best.0 {
                 best = (worth, amount);
             }
         }
         let place = terms.entry(w, a);
-        let got = (u128::from(left.0[place]), u64::from(left.1[place]));
+        let got = (left.0[place], u64::from(left.1[place]));
         t.same(&format!("{name}: state ({w}, {a})"), got, best);
     }
 }
@@ -1663,13 +2163,37 @@ fn text_fields(t: &mut Tally) {
     for (line, spare) in [("", 0), ("spare 0\n", 0), ("spare 258\n", 258)] {
         let record = Terms { spare, ..P }.record();
         let packed = text::pack(&format!("{text}{line}"));
-        t.same("spare bytes", packed, Ok((record, list(&P_RETURNS))));
+        let expected = [record, list(&P_RETURNS), vec![0; 4]];
+        t.same("spare bytes", packed, Ok(expected));
     }
-    let shown = text::show(&P.record(), &list(&P_RETURNS));
+    let shown = text::show(&P.record(), &list(&P_RETURNS), &[0; 4]);
     t.same("example-p.txt shown", shown, Ok(text.into()));
 }
 
-/// Any record and list in words, and back.
+/// Rates may be left out and given once, each in 2 bytes.
+fn text_rates(t: &mut Tally) {
+    let text = include_str!("example-p.txt").replace("rates 0 0\n", "");
+    for (line, rates) in [
+        ("", Some(vec![])),
+        ("rates 1\n", Some(vec![1, 0])),
+        (
+            "rates 258 65535 10000\n",
+            Some(vec![2, 1, 255, 255, 16, 39]),
+        ),
+        ("rates\n", None),
+        ("rates 1  2\n", None),
+        ("rates 1 65536\n", None),
+        ("rates 1\nrates 2\n", None),
+    ] {
+        let packed = text::pack(&format!("{text}{line}")).ok();
+        let expected = rates.map(|rates| [P.record(), list(&P_RETURNS), rates]);
+        t.same(&format!("text with {line:?}"), packed, expected);
+    }
+    let shown = text::show(&P.record(), &list(&P_RETURNS), &[0; 3]);
+    t.same("half a rate shown", shown.is_err(), true);
+}
+
+/// Any record, list and rates in words, and back.
 fn random_text(t: &mut Tally, draw: &mut Draw) {
     let mut record: Vec<u8> = (0..20).map(|_| draw.upto(255) as u8).collect();
     if draw.upto(1) == 0 {
@@ -1677,8 +2201,10 @@ fn random_text(t: &mut Tally, draw: &mut Draw) {
     }
     let length = 4 * draw.upto(70);
     let list: Vec<u8> = (0..length).map(|_| draw.upto(255) as u8).collect();
-    let back = text::show(&record, &list).and_then(|words| text::pack(&words));
-    t.same("show, then pack", back, Ok((record, list)));
+    let length = 2 * draw.upto(45);
+    let rates: Vec<u8> = (0..length).map(|_| draw.upto(255) as u8).collect();
+    let back = text::show(&record, &list, &rates).and_then(|words| text::pack(&words));
+    t.same("show, then pack", back, Ok([record, list, rates]));
 }
 
 /// Any bytes, lengths and numbers: each call comes back, and a refusal changes nothing.
@@ -1689,6 +2215,9 @@ fn random_bytes(t: &mut Tally, draw: &mut Draw) {
         call.record[place] = draw.upto(255) as u8;
         let place = draw.upto(call.list.len() as u64 - 1) as usize;
         call.list[place] = draw.upto(255) as u8;
+    }
+    if draw.upto(2) == 0 {
+        call.rates = (0..draw.upto(9)).map(|_| draw.upto(255) as u8).collect();
     }
     call.behaviour = draw.upto(3);
     call.work = draw.upto(300) as usize;

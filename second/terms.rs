@@ -1,4 +1,5 @@
-//! Contracts as bytes, for the checks and the script: terms, P and Q of document 01, returns.
+//! Contracts as bytes, for the checks and the script: terms, P and Q of document 01, returns,
+//! death rates.
 
 /// A contract record, each field in its own width, so that bad ones can be written.
 #[derive(Clone, Copy, Debug)]
@@ -54,6 +55,11 @@ impl Terms {
         bytes
     }
 
+    /// A zero rate for each period.
+    pub fn zero_rates(self) -> Vec<u16> {
+        vec![0; self.dates.into()]
+    }
+
     pub fn layer(self) -> usize {
         (usize::from(self.top) + 1) * (usize::from(self.premium) + 1)
     }
@@ -62,4 +68,8 @@ impl Terms {
 pub fn list(returns: &[Return]) -> Vec<u8> {
     let fields = returns.iter().flat_map(|(f, w)| [*f, *w]);
     fields.flat_map(u16::to_le_bytes).collect()
+}
+
+pub fn rate_list(rates: &[u16]) -> Vec<u8> {
+    rates.iter().copied().flat_map(u16::to_le_bytes).collect()
 }

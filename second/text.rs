@@ -1,11 +1,12 @@
-//! A contract record and a return list as readable text, both ways.
+//! A contract record, a return list and death rates as readable text, both ways.
 //!
 //! One field a line, name and decimal number parted by a single space:
 //! `premium`, `level`, `top`, `dates`, `fee`, `penalty`, `discount`, `step`, each once,
-//! in any order. Then or between them, in the order of the list, `return FACTOR WEIGHT`.
-//! `spare`, the two spare bytes, is left out where it is zero. Blank lines and lines that
-//! start with `#` are passed over. Only the width of a field is checked here, so that a
-//! record that the rules refuse can be written too.
+//! in any order. Then or between them, in the order of the list, `return FACTOR WEIGHT`,
+//! and at most once `rates R0 R1 ..`, the death rates in the order of the periods; left out
+//! there are none. `spare`, the two spare bytes, is left out where it is zero. Blank lines
+//! and lines that start with `#` are passed over. Only the width of a field is checked here,
+//! so that what the rules refuse can be written too.
 
 const RECORD_BYTES: usize = 20;
 
@@ -44,11 +45,12 @@ fn field_bytes(name: &str, text: &str, width: usize) -> Result<Vec<u8>, String> 
     Ok(bytes[..width].to_vec())
 }
 
-/// Record and list from text.
-pub fn pack(text: &str) -> Result<(Vec<u8>, Vec<u8>), String> {
+/// Record, list and rates from text.
+pub fn pack(text: &str) -> Result<[Vec<u8>; 3], String> {
     let mut record = vec![0; RECORD_BYTES];
     let mut given = [false; FIELDS.len()];
     let mut list = Vec::new();
+    let mut rates = Vec::new();
     for line in text.lines() {
         if line.is_empty() || line.starts_with('#') {
             continue;
@@ -57,6 +59,15 @@ pub fn pack(text: &str) -> Result<(Vec<u8>, Vec<u8>), String> {
         if let ["return", factor, weight] = words[..] {
             list.extend(field_bytes("factor", factor, 2)?);
             list.extend(field_bytes("weight", weight, 2)?);
+            continue;
+        }
+        if let ["rates", _, ..] = words[..] {
+            if !rates.is_empty() {
+                return Err("rates are given twice".to_string());
+            }
+            for rate in &words[1..] {
+                rates.extend(field_bytes("rate", rate, 2)?);
+            }
             continue;
         }
         let [word, value] = words[..] else {
@@ -75,7 +86,7 @@ pub fn pack(text: &str) -> Result<(Vec<u8>, Vec<u8>), String> {
     let mut fields = FIELDS.iter().zip(given);
     match fields.find(|((name, _, _), given)| !given && *name != SPARE) {
         Some(((name, _, _), _)) => Err(format!("{name} is not given")),
-        None => Ok((record, list)),
+        None => Ok([record, list, rates]),
     }
 }
 
@@ -83,17 +94,19 @@ fn number_in(bytes: &[u8]) -> u64 {
     bytes.iter().rev().fold(0, |n, b| n * 256 + u64::from(*b))
 }
 
-/// Text from record and list; `pack` gives the same bytes back.
-pub fn show(record: &[u8], list: &[u8]) -> Result<String, String> {
+/// Text from record, list and rates; `pack` gives the same bytes back.
+pub fn show(record: &[u8], list: &[u8], rates: &[u8]) -> Result<String, String> {
     if record.len() != RECORD_BYTES {
         let length = record.len();
         return Err(format!("the record has {length} bytes, not {RECORD_BYTES}"));
     }
-    if list.len() % 4 != 0 {
-        return Err(format!(
-            "the list has {} bytes, no multiple of 4",
-            list.len()
-        ));
+    for (name, bytes, width) in [("list", list, 4), ("list of rates", rates, 2)] {
+        let length = bytes.len();
+        if length % width != 0 {
+            return Err(format!(
+                "the {name} has {length} bytes, no multiple of {width}"
+            ));
+        }
     }
     let mut text = String::new();
     for (name, offset, width) in FIELDS {
@@ -105,6 +118,10 @@ pub fn show(record: &[u8], list: &[u8]) -> Result<String, String> {
     for bytes in list.chunks(4) {
         let (factor, weight) = (number_in(&bytes[..2]), number_in(&bytes[2..]));
         text += &format!("return {factor} {weight}\n");
+    }
+    if !rates.is_empty() {
+        let rates: Vec<String> = rates.chunks(2).map(|b| number_in(b).to_string()).collect();
+        text += &format!("rates {}\n", rates.join(" "));
     }
     Ok(text)
 }

@@ -1,18 +1,26 @@
 -- What an accepted reading shows of the bytes. Assumes nothing.
 use mathlib.Core.List.{List, _++_}
 use mathlib.Core.Path.{_≡_, refl, ap, ap₂, sym, _∙_, subst}
-use Prim.Native.Nat.{ℕ}
+use Prim.Native.Nat.{ℕ, _*_, _≤_}
+use native.Mathlib.Nat.{le-of-eq}
 use native.Mathlib.Omega.{arith}
-use Rattle.rules.specs.Contract.{termsOf, returnsOf}
-use Rattle.rules.specs.Refusals.{Verdict, accepted, refused, verdict, recordChecks, listChecks}
-use Rattle.laws.specs.Accepted.{Valid, ValidReturns, all-pass, valid-record, valid-returns, andThen, verdict-append, both-terms, both-returns}
+use lib.Dec.{eqb, eqb→eq}
+use lib.ListN.{length}
+use Rattle.rules.specs.Contract.{Terms, termsOf, returnsOf, rateBytes, ratesOf}
+use Rattle.rules.specs.Refusals.{checkEach, Verdict, accepted, refused, verdict, numbers, numberOf, placeOf, recordChecks, listChecks}
+use Rattle.rules.specs.Refusals.{ratesChecks, inputChecks}
+use Rattle.laws.specs.Accepted.{Valid, ValidReturns, ValidInput, AllPass, all-pass, pass-right, not-not, valid-record, valid-returns}
+use Rattle.laws.specs.Accepted.{Positive, zero-accepts, andThen, verdict-append, then-accepted, then-refused, both-terms, both-returns}
+use Rattle.laws.specs.Accepted.{input-valid}
 use Rattle.contract.specs.declared.Contract.{Contract}
 use Rattle.contract.specs.declared.Returns.{Returns}
 use Rattle.contract.specs.declared.Outcome.{Outcome}
 use Rattle.contract.specs.declared.Reading.the-variants as reading
 use Rattle.contract.specs.declared.Listing.the-variants as listing
 use Rattle.contract.specs.declared.Agreement.the-variants as agreement
-use Rattle.contract.specs.Reading.{contractOf, termsIn, outcomeAt, readingOf, readingVerdict, listingOf, listingVerdict, agreementOf, agreementVerdict, recordRead, listRead, bothRead}
+use Rattle.contract.specs.Reading.{contractOf, termsIn, outcomeAt, outcomeOf, readingOf, readingVerdict}
+use Rattle.contract.specs.Reading.{listingOf, listingVerdict, agreementOf, agreementVerdict, recordRead, listRead, bothRead}
+use Rattle.contract.specs.Reading.{inputRead}
 
 -- the terms c were read from the bytes
 pub record Read (bytes : List ℕ) (c : Contract) : Type 0 where
@@ -132,3 +140,58 @@ pub both-refused : (bytes list : List ℕ) (n p : ℕ) → andThen (verdict (rec
     → agreement.Refused (outcomeAt n p) ≡ bothRead bytes list
 unfolding bothRead
 both-refused bytes list n p e = rw (verdict-append (recordChecks bytes) (listChecks list) ∙ e)
+
+-- ---- record, list and rates that were read
+pub record Given (c : Terms) (list rates : List ℕ) : Type 0 where
+  pub valid : ValidInput c (returnsOf list) (ratesOf rates)
+  pub long : rateBytes * c .dates ≤ length rates
+
+-- what checks that accept show of the bytes
+pub given : {c : Terms} (bytes list rates : List ℕ) → verdict (inputChecks bytes list rates) ≡ accepted → c ≡ termsOf bytes
+    → Given c list rates
+unfolding inputChecks ratesChecks AllPass
+given bytes list rates e same =
+    let n = rateBytes * termsOf bytes .dates in
+    let size = pass-right (recordChecks bytes ++ listChecks list) _ (all-pass _ e) .0 in
+    let long = eqb→eq (length rates) n (not-not (eqb (length rates) n) size) in
+    rw same (record { valid = input-valid bytes list rates e; long = le-of-eq (sym long) })
+
+-- reading all is reading record and list and then the rates
+module _ (bytes list rates : List ℕ) where
+  pub input-read : (c : Contract) (rs : Returns) → inputRead bytes list rates ≡ agreement.Accepted c rs
+      → Agreed (verdict (inputChecks bytes list rates)) bytes list c rs
+  unfolding inputRead
+  input-read c rs e = agreed _ bytes list c rs e
+
+  pub input-not-read : (o : Outcome) → inputRead bytes list rates ≡ agreement.Refused o
+      → verdict (inputChecks bytes list rates) ≡ refused (o .number) (o .place)
+  unfolding inputRead
+  input-not-read o e = disagreed _ bytes list o e
+
+  pub both-first : (o : Outcome) → bothRead bytes list ≡ agreement.Refused o → agreement.Refused o ≡ inputRead bytes list rates
+  unfolding inputRead inputChecks
+  both-first o e = rw (then-refused (recordChecks bytes ++ listChecks list) _ (both-not-read bytes list o e))
+
+  module _ {c : Contract} {rs : Returns} (known : Both bytes list c rs) where
+    rates-then : verdict (inputChecks bytes list rates) ≡ verdict (ratesChecks (c .dates) rates)
+    unfolding inputChecks
+    rates-then =
+        then-accepted (recordChecks bytes ++ listChecks list) _ (known .accepts)
+        ∙ ap (λ (x : Terms). verdict (ratesChecks (x .dates) rates)) (sym (known .terms))
+
+    pub rates-passed : numberOf (verdict (ratesChecks (c .dates) rates)) ≡ 0 → agreement.Accepted c rs ≡ inputRead bytes list rates
+    unfolding inputRead ratesChecks checkEach numbers Positive
+    rates-passed e =
+        let passed = zero-accepts (ratesChecks (c .dates) rates) (omega arith, (omega arith, tt)) e in
+        rw (rates-then ∙ passed)
+        (ap₂ agreement.Accepted (ap contractOf (known .terms)) (ap (λ (n : ℕ). record { count = n }) (known .count)))
+
+    pub rates-refused : (numberOf (verdict (ratesChecks (c .dates) rates)) ≡ 0 → ⊥)
+        → agreement.Refused (outcomeOf (verdict (ratesChecks (c .dates) rates))) ≡ inputRead bytes list rates
+    unfolding inputRead numberOf placeOf
+    rates-refused h = rw rates-then (go (verdict (ratesChecks (c .dates) rates)) h)
+      where
+        go : (v : Verdict) → (numberOf v ≡ 0 → ⊥)
+            → agreement.Refused (outcomeOf v) ≡ agreementOf v (termsOf bytes) (returnsOf list .count)
+        go accepted h = absurd (h refl)
+        go (refused n p) h = refl

@@ -1,8 +1,8 @@
--- What reading a record, a list or both answers, in the words of the rules. Assumes nothing.
+-- What reading a record, a list and rates answers, in the words of the rules. Assumes nothing.
 use mathlib.Core.List.{List, _++_}
 use Prim.Native.Nat.{ℕ}
 use Rattle.rules.specs.Contract.{Terms, termsOf, returnsOf}
-use Rattle.rules.specs.Refusals.{Verdict, accepted, refused, verdict, numberOf, placeOf, recordChecks, listChecks}
+use Rattle.rules.specs.Refusals.{Verdict, accepted, refused, verdict, numberOf, placeOf, recordChecks, listChecks, inputChecks}
 use Rattle.contract.specs.declared.Contract.{Contract}
 use Rattle.contract.specs.declared.Outcome.{Outcome}
 use Rattle.contract.specs.declared.Reading.{Reading}
@@ -83,6 +83,10 @@ listRead bytes = listingOf (verdict (listChecks bytes)) (returnsOf bytes .count)
 
 unfoldable pub bothRead : List ℕ → List ℕ → Agreement
 bothRead bytes list = agreementOf (verdict (recordChecks bytes ++ listChecks list)) (termsOf bytes) (returnsOf list .count)
+
+-- .. with rates
+unfoldable pub inputRead : List ℕ → List ℕ → List ℕ → Agreement
+inputRead bytes list rates = agreementOf (verdict (inputChecks bytes list rates)) (termsOf bytes) (returnsOf list .count)
 
 -- "Success gives number 0, place 0. A refusal gives its number and place"
 abbrev pub outcomeOf : Verdict → Outcome

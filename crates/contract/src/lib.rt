@@ -1,17 +1,18 @@
-// The contract record and the return list, read from bytes: terms and returns in range, or a refusal with its place.
+// The contract record, the return list and the death rates, read from bytes: all in range, or a refusal with its place.
 ghost use mathlib.Core.Path.{_≡_};
 ghost use mathlib.Core.Bool.{_||_, not};
-ghost use Prim.Native.Nat.{_+_, _*_, _/_, _%_, _≤_, _<_};
+ghost use Prim.Native.Nat.{ℕ, _+_, _*_, _/_, _%_, _≤_, _<_};
 ghost use lib.Dec.{ltb, eqb};
 ghost use lib.ListN.{length};
 ghost use Rattle.decision.specs.Index.{sum, first};
-ghost use Rattle.rules.specs.Contract.{word, topMost, rateMost, returnBytes, returnsMost, returnsOf};
-ghost use Rattle.rules.specs.Refusals.{outside, verdict, termsChecks, badReturn};
+ghost use Rattle.rules.specs.Contract.{word, topMost, datesMost, rateMost, returnBytes, returnsMost, returnsOf, rateBytes, ratesOf};
+ghost use Rattle.rules.specs.Refusals.{outside, verdict, termsChecks, badReturn, ratesChecks};
 ghost use Rattle.rules.specs.FixedTerm.{layerSize};
 ghost use Rattle.rules.specs.Operations.{tableSize};
 ghost use Rattle.laws.specs.Accepted.{Valid};
 ghost use Rattle.laws.specs.FixedTerm.{layerMost, tableMost};
-ghost use Rattle.contract.specs.Reading.{readingOf, readingVerdict, listingVerdict, agreementVerdict, outcomeOf, refusedReading, refusedListing, termsIn, recordRead, listRead, bothRead};
+ghost use Rattle.contract.specs.Reading.{readingOf, readingVerdict, listingVerdict, agreementVerdict, outcomeOf};
+ghost use Rattle.contract.specs.Reading.{refusedReading, refusedListing, termsIn, recordRead, listRead, bothRead, inputRead};
 
 // A number and its place: 0 and 0 for success.
 pub struct Outcome {
@@ -165,6 +166,8 @@ impl Contract {
 
     pub const WEIGHT_TOTAL: usize = 10000;
 
+    pub const RATE_BYTES: usize = 2;
+
     // The terms if every one is in range: the conditions, then the refusals in their order.
     fn checked(self) -> Reading
         ensures { λ r. ⌜ r ≡ readingOf (verdict (termsChecks (termsIn self))) self ⌝ }
@@ -306,6 +309,13 @@ impl Returns {
     }
 }
 
+// How many returns a list has.
+pub fn returns_in(list: &[u8]) -> usize
+    ensures { λ r. ⌜ r ≡ returnsOf (now (list .entry)) .count ⌝ }
+{
+    list.len() / Contract::RETURN_BYTES
+}
+
 // Record and list: the record is read whole before the list is looked at.
 pub fn read(bytes: &[u8], list: &[u8]) -> Agreement
     ensures { λ r. ⌜ r ≡ bothRead (now (bytes .entry)) (now (list .entry)) ⌝ }
@@ -319,4 +329,66 @@ pub fn read(bytes: &[u8], list: &[u8]) -> Agreement
         return Agreement::Refused(listing.outcome());
     };
     Agreement::Accepted(c, returns)
+}
+
+// The death rate of the period that begins on date i.
+pub fn rate_of(rates: &[u8], i: usize) -> usize
+    requires { ⌜ (i < datesMost) × (rateBytes * i + 2 ≤ length (now rates)) ⌝ }
+    ensures { λ r. ⌜ r ≡ ratesOf (now (rates .entry)) i ⌝ }
+{
+    word(rates, Contract::RATE_BYTES * i)
+}
+
+// The first death rate above 10,000, or how many there are.
+fn first_high(rates: &[u8], dates: usize) -> usize
+    requires { ⌜ (dates ≤ datesMost) × (rateBytes * dates ≤ length (now rates)) ⌝ }
+    ensures { λ r. ⌜ r ≡ first (λ (i : ℕ). ltb rateMost (ratesOf (now (rates .entry)) i)) dates ⌝ }
+{
+    let mut i: usize = 0;
+    while i < dates {
+        if Contract::RATE_MOST < rate_of(rates, i) {
+            return i;
+        }
+        i += 1;
+    }
+    i
+}
+
+// Refusals 17 and 18.
+fn check_rates(rates: &[u8], dates: usize) -> Outcome
+    requires { ⌜ dates ≤ datesMost ⌝ }
+    ensures { λ r. ⌜ r ≡ outcomeOf (verdict (ratesChecks dates (now (rates .entry)))) ⌝ }
+{
+    if rates.len() != Contract::RATE_BYTES * dates {
+        return Outcome {
+            number: 17,
+            place: 0,
+        };
+    }
+    let high = first_high(rates, dates);
+    if high < dates {
+        return Outcome {
+            number: 18,
+            place: high as u64,
+        };
+    }
+    Outcome {
+        number: 0,
+        place: 0,
+    }
+}
+
+// Record, list and rates, which are looked at last.
+pub fn read_all(bytes: &[u8], list: &[u8], rates: &[u8]) -> Agreement
+    ensures { λ r. ⌜ r ≡ inputRead (now (bytes .entry)) (now (list .entry)) (now (rates .entry)) ⌝ }
+{
+    let agreement = read(bytes, list);
+    let Agreement::Accepted(c, _) = agreement else {
+        return agreement;
+    };
+    let outcome = check_rates(rates, c.dates);
+    if outcome.number != 0 {
+        return Agreement::Refused(outcome);
+    }
+    agreement
 }

@@ -3,7 +3,8 @@ ghost use mathlib.Core.Path.{_≡_};
 ghost use Prim.Native.Nat.{_-_, _*_, _≤_, _<_, max, min};
 ghost use Rattle.rules.specs.Contract.{topMost, datesMost, rateMost, discountMost, factorMost};
 ghost use Rattle.rules.specs.Date.{dynamic, freeAmount, largestAmount, admits, rateOn, penalty, cash, guaranteeAfter};
-ghost use Rattle.rules.specs.Date.{balanceAfter, liftedAccount, nextAccount, excessPaid, maturityValue, discounted};
+ghost use Rattle.rules.specs.Date.{balanceAfter, liftedAccount, nextAccount, excess, excessPaid, maturityValue};
+ghost use Rattle.rules.specs.Date.{deathPayment, deathShare, discounted};
 
 // An entry of a working slice, and one of a table, as a number.
 pub fn wide(x: u64) -> usize
@@ -108,12 +109,20 @@ pub fn next_account(fee: usize, top: usize, balance: usize, factor: usize) -> us
     smaller(top, lifted_account(fee, balance, factor))
 }
 
+// What a return lifts above top.
+pub fn excess(fee: usize, top: usize, balance: usize, factor: usize) -> usize
+    requires { ⌜ (fee ≤ rateMost) × (balance ≤ topMost) × (factor ≤ factorMost) ⌝ }
+    ensures { λ r. ⌜ (r ≡ excess fee top balance factor) × (r ≤ 3 * balance) ⌝ }
+{
+    less(lifted_account(fee, balance, factor), top)
+}
+
 // What a return pays on arrival.
 pub fn excess_paid(fee: usize, top: usize, balance: usize, factor: usize) -> usize
     requires { ⌜ (fee ≤ rateMost) × (balance ≤ topMost) × (factor ≤ factorMost) ⌝ }
     ensures { λ r. ⌜ (r ≡ excessPaid fee top balance factor) × (r ≤ factorMost * balance) ⌝ }
 {
-    10000 * less(lifted_account(fee, balance, factor), top)
+    10000 * excess(fee, top, balance, factor)
 }
 
 pub fn maturity_value(w: usize, a: usize) -> usize
@@ -121,6 +130,22 @@ pub fn maturity_value(w: usize, a: usize) -> usize
     ensures { λ r. ⌜ (r ≡ maturityValue w a) × (r ≤ 40000000) ⌝ }
 {
     10000 * larger(w, a)
+}
+
+// What a death pays where a return leads to account w and guarantee a, with an excess.
+pub fn death_payment(w: usize, a: usize, over: usize) -> usize
+    requires { ⌜ (w ≤ topMost) × (a ≤ topMost) × (over ≤ 3 * topMost) ⌝ }
+    ensures { λ r. ⌜ (r ≡ deathPayment w a over) × (r ≤ 160000000) ⌝ }
+{
+    10000 * larger(w, a) + 10000 * over
+}
+
+// What value and death payment become, by the death rate.
+pub fn death_share(rate: usize, value: usize, payment: usize) -> usize
+    requires { ⌜ (rate ≤ rateMost) × (value ≤ 4294967295) × (payment ≤ 4294967295) ⌝ }
+    ensures { λ r. ⌜ (r ≡ deathShare rate value payment) × (r ≤ 8589934590) ⌝ }
+{
+    ((10000 - rate) * value + rate * payment) / 10000
 }
 
 // In two parts where the product would pass 64 bits.

@@ -4,7 +4,7 @@ ghost use Prim.Native.Nat.{ℕ, _+_, _-_, _*_, _≤_, _<_};
 ghost use lib.ListN.{length};
 ghost use Rattle.slices.specs.Stored.{stored};
 ghost use Rattle.slices.specs.Rows.{flat};
-ghost use Rattle.rules.specs.Contract.{topMost, returnsOf};
+ghost use Rattle.rules.specs.Contract.{topMost, returnsOf, ratesOf};
 ghost use Rattle.rules.specs.Date.{maturityValue};
 ghost use Rattle.rules.specs.Operations.{behaviourOf};
 ghost use Rattle.contract.specs.Reading.{termsIn};
@@ -44,18 +44,22 @@ pub fn clear(work: &mut [u64], from: usize, n: usize)
     }
 }
 
-// The discounted sums of date i, in the second layer. Gives where they stand, with the date's terms.
-pub fn sum_date(work: &mut [u64], list: &[u8], count: usize, c: Contract, i: usize) -> Date
-    requires { ⌜ OneDate (termsIn c) count i (now work) (now list) ⌝ }
+// The discounted sums of date i, in the second layer, over the next date's values, each with its share at death. Gives where they
+// stand, with the date's terms.
+pub fn sum_date(work: &mut [u64], list: &[u8], rates: &[u8], c: Contract, i: usize) -> Date
+    requires { ⌜ OneDate (termsIn c) i (now work) (now list) (now rates) ⌝ }
     ensures { λ r. ⌜
         (r ≡ dateOf (termsIn c) i)
-        × Summed (termsIn c) (returnsOf (now (list .entry))) (now (work .entry)) (now (work .exit)) r
+        × Summed (termsIn c) (returnsOf (now (list .entry))) (ratesOf (now (rates .entry)) i) (now (work .entry))
+        (now (work .exit)) r
         ⌝ }
 {
-    expect::expect_layer(work, list, count, c, i);
+    let stride = c.premium + 1;
+    death::share_layer(work, contract::rate_of(rates, i), stride, c.top + 1);
+    expect::expect_layer(work, list, contract::returns_in(list), c, i);
     Date {
         base: c.layer_size(),
-        stride: c.premium + 1,
+        stride,
         level: c.level,
         rate: date::rate_on(c.penalty, c.step, i),
     }
@@ -67,17 +71,17 @@ fn one_date(
     work: &mut [u64],
     table: &mut [u16],
     list: &[u8],
-    count: usize,
+    rates: &[u8],
     c: Contract,
     i: usize,
 )
-    requires { ⌜ (behaviour ≤ 2) × OneDate (termsIn c) count i (now work) (now list) ⌝ }
+    requires { ⌜ (behaviour ≤ 2) × OneDate (termsIn c) i (now work) (now list) (now rates) ⌝ }
     ensures { λ _. ⌜
-        Dated (behaviourOf behaviour) (termsIn c) (returnsOf (now (list .entry))) i (now (work .entry)) (now (table .entry))
-        (now (work .exit)) (now (table .exit))
+        Dated (behaviourOf behaviour) (termsIn c) (returnsOf (now (list .entry))) (ratesOf (now (rates .entry))) i
+        (now (work .entry)) (now (table .entry)) (now (work .exit)) (now (table .exit))
         ⌝ }
 {
-    let d = sum_date(work, list, count, c, i);
+    let d = sum_date(work, list, rates, c, i);
     states::decide_layer(behaviour, work, table, d, c.top + 1);
 }
 
@@ -118,13 +122,13 @@ pub fn all_dates(
     work: &mut [u64],
     table: &mut [u16],
     list: &[u8],
-    count: usize,
+    rates: &[u8],
     c: Contract,
 )
-    requires { ⌜ Starting behaviour (termsIn c) count (now work) (now list) ⌝ }
+    requires { ⌜ Starting behaviour (termsIn c) (now work) (now list) (now rates) ⌝ }
     ensures { λ _. ⌜
-        Valued (behaviourOf behaviour) (termsIn c) (returnsOf (now (list .entry))) (now (work .entry)) (now (table .entry))
-        (now (work .exit)) (now (table .exit)) 0
+        Valued (behaviourOf behaviour) (termsIn c) (returnsOf (now (list .entry))) (ratesOf (now (rates .entry)))
+        (now (work .entry)) (now (table .entry)) (now (work .exit)) (now (table .exit)) 0
         ⌝ }
 {
     let mut i = c.dates - 1;
@@ -132,7 +136,7 @@ pub fn all_dates(
         let part = lent_layer(c, i, table.len());
         let from = part.from;
         let to = part.to;
-        one_date(behaviour, work, &mut table[from..to], list, count, c, i);
+        one_date(behaviour, work, &mut table[from..to], list, rates, c, i);
         i -= 1;
     }
 }

@@ -9,14 +9,15 @@ use lib.ListN.{getD, length, replicate, getD-replicate}
 use Rattle.decision.specs.Index.{sum, sum-eq, sum-next, weighted-le}
 use Rattle.slices.specs.Stored.{stored, length-stored, stored-out, stored-first, stored-join}
 use Rattle.slices.specs.Rows.{cells, flat, flat-at, within-rows, rows-le, rows-step}
-use Rattle.rules.specs.Contract.{Terms, Returns, returnsOf, weightTotal, weightMost}
-use Rattle.rules.specs.Date.{nextAccount, excessPaid, discounted}
-use Rattle.rules.specs.FixedTerm.{layerSize}
+use Rattle.rules.specs.Contract.{Terms, Returns, word, returnsOf, factorMost, weightTotal, weightMost}
+use Rattle.rules.specs.Date.{nextAccount, excess, excessPaid, deathPayment, deathShare, discounted}
+use Rattle.rules.specs.FixedTerm.{reachBy, paidBy, deathBy, startOf, layerSize}
 use Rattle.laws.specs.Bounds.{stateMost, value-room, value-most, entryMost}
 use Rattle.laws.specs.Narrow.{value-narrow}
-use Rattle.laws.specs.Date.{account-le}
+use Rattle.laws.specs.Date.{account-le, excess-paid-le}
 use Rattle.expect.specs.Expected.{reachedSum, expected, paidSum, stateSum, two-sums, paid-sum-le, scaled, term, lowMost, productMost}
-use Rattle.expect.specs.Expected.{Reached, Run, Adding, Summed, Row, Listing, Layers, Values, Within, Balance}
+use Rattle.expect.specs.Expected.{Reached, Run, Adding, Summed, Row, Listing, Layers, Values, Within, Balance, Starting}
+use Rattle.expect.specs.Expected.{startReached, start-reached-le}
 
 -- ---- sums along the guarantees
 -- a product is small
@@ -215,24 +216,7 @@ module _ {c : Terms} {i : ℕ} {work list weights : List ℕ} {count discount mo
             ap₂ discounted (b .discount-is)
             (ap₂ _+_ (b .paid-is) (states-are a) ∙ two-sums c (returnsOf list) (cells work 0 stride) balance a)
 
--- ---- the balance of the start
-pub start-balance : {c : Terms} {work list weights : List ℕ} {count paid : ℕ} → Listing list count → Values c 0 work
-    → ((k : ℕ) → k < count → getD weights k 0 ≡ returnsOf list .weight k) → paid ≡ paidSum c (returnsOf list) (c .premium)
-    → Balance c 0 work list weights count (c .discount) (stateMost c 1) paid (c .premium) (c .premium + 1) ((c .top + 1) * (c .premium + 1))
-start-balance h v w p = record {
-  listing = h;
-  layers = v .layers;
-  discount-is = refl;
-  most-is = refl;
-  paid-is = p;
-  small = v .small;
-  weights-are = w;
-  balance-is = v .layers .valid .premium;
-  stride-is = refl;
-  size-is = refl;
-}
-
--- .. and of any other: the first layer stays as the second is filled
+-- ---- the balances: the first layer stays as the second is filled
 pub layer-balance : {c : Terms} {work list weights : List ℕ} {count i most paid : ℕ} (work' : List ℕ) (f : ℕ → ℕ) (n b : ℕ)
     → Listing list count → Values c i work → most ≡ stateMost c (i + 1)
     → ((k : ℕ) → k < count → getD weights k 0 ≡ returnsOf list .weight k) → paid ≡ paidSum c (returnsOf list) b
@@ -282,3 +266,63 @@ module _ (c : Terms) (rs : Returns) (work : List ℕ) (stride size : ℕ) (size-
       ∙ stored-join work size sums _ (b * stride) stride (λ k l.
       ap (λ (x : ℕ). 8192 * x) (kept (b * stride) b k l) ∙ sym (flat-at stride (scaled (expected c rs (cells work 0 stride))) b k l))
       ∙ ap (stored work size sums) (rows-step stride b)
+
+-- ---- the first return
+module _ {c : Terms} {rate : ℕ} {work list : List ℕ} (s : Starting c rate work list) (k : ℕ) (l : k < returnsOf list .count) where
+  -- it stands in the list
+  pub return-in : 4 * k + 4 ≤ length list
+  unfolding returnsOf
+  return-in = omega arith
+
+  pub return-number : k < 64
+  return-number = omega (arith, s .returns .count)
+
+  pub factor-small : {factor : ℕ} → factor ≡ word list (4 * k) → factor ≤ factorMost
+  unfolding returnsOf
+  factor-small e = rw e (s .returns .factor k l)
+
+  pub weight-is : {weight : ℕ} → weight ≡ word list (4 * k + 2) → weight ≡ returnsOf list .weight k
+  unfolding returnsOf
+  weight-is e = e
+
+  pub weight-small : {weight : ℕ} → weight ≡ word list (4 * k + 2) → weight ≤ weightMost
+  weight-small e = rw (weight-is e) (s .returns .weight k l)
+
+  -- what it leads to stands in the first layer, and is of 32 bits with what is paid on arrival
+  pub account-in : (w : ℕ) → w ≤ c .top → w * (c .premium + 1) + c .premium < length work
+  unfolding layerSize
+  account-in w h =
+      let i = within-rows (c .premium + 1) (c .top + 1) w (c .premium) (omega arith) (omega arith) in
+      omega (arith, s .first .layers .room)
+
+  pub value-low : (w : ℕ) → w ≤ c .top → 20000 * c .top + getD work (w * (c .premium + 1) + c .premium) 0 ≤ lowMost
+  value-low w h =
+      let small = s .first .small w (c .premium) h (omega arith) in
+      let low = value-narrow c (s .first .layers .valid) 1 (omega arith) in
+      let at = ap (λ (i : ℕ). getD work i 0) (zero-add (w * (c .premium + 1) + c .premium)) in
+      omega arith
+
+  pub over-small : {factor over : ℕ} → factor ≡ word list (4 * k) → over ≡ excess (c .fee) (c .top) (c .premium) factor
+      → 10000 * over ≤ 20000 * c .top
+  unfolding excessPaid
+  over-small {factor} f e =
+      rw e (excess-paid-le (c .fee) (c .top) (c .premium) factor (s .first .layers .valid .premium) (factor-small f))
+
+  -- the share is the rule's
+  pub start-is : {factor account over value payment r : ℕ}
+      → factor ≡ word list (4 * k)
+      → account ≡ nextAccount (c .fee) (c .top) (c .premium) factor
+      → over ≡ excess (c .fee) (c .top) (c .premium) factor
+      → value ≡ getD work (account * (c .premium + 1) + c .premium) 0
+      → payment ≡ deathPayment account (c .premium) over
+      → r ≡ deathShare rate (10000 * over + value) payment
+      → r ≡ startReached c (returnsOf list) rate (cells work 0 (c .premium + 1)) k
+  unfolding startReached paidBy reachBy deathBy startOf excessPaid returnsOf
+  start-is {account = account} f w x v p r =
+      let at = ap (λ (i : ℕ). getD work i 0) (sym (zero-add (account * (c .premium + 1) + c .premium))) in
+      r ∙ rw (p, v ∙ at, x, w, f) refl
+
+  pub start-is-le : startReached c (returnsOf list) rate (cells work 0 (c .premium + 1)) k ≤ entryMost
+  start-is-le =
+      start-reached-le c (returnsOf list) rate _ k (s .first .layers .valid) (s .rate-is) (s .returns .factor k l)
+      (λ w h. s .first .small w (c .premium) h (omega arith))

@@ -2,16 +2,16 @@
 use mathlib.Core.List.{List}
 use mathlib.Core.Path.{_≡_, ap, sym, _∙_}
 use Prim.Native.Nat.{ℕ, _+_, _*_, _≤_, _<_}
-use native.Mathlib.Nat.{le-trans, add-le-add}
+use native.Mathlib.Nat.{le-trans, add-le-add, div-add-mod'}
 use native.Mathlib.Omega.{arith}
 use lib.ListN.{getD, length}
 use Rattle.decision.specs.Index.{sum, sum-eq, sum-add, weighted-le}
 use Rattle.slices.specs.Rows.{cells}
-use Rattle.rules.specs.Contract.{Terms, Returns, returnsOf, discountMost, weightTotal, weightMost, returnsMost}
-use Rattle.rules.specs.Date.{nextAccount, excessPaid, discounted}
-use Rattle.rules.specs.FixedTerm.{layerSize}
+use Rattle.rules.specs.Contract.{Terms, Returns, returnsOf, rateMost, discountMost, factorMost, weightTotal, weightMost, returnsMost}
+use Rattle.rules.specs.Date.{nextAccount, excess, excessPaid, deathShare, discounted}
+use Rattle.rules.specs.FixedTerm.{reachBy, paidBy, deathBy, startOf, layerSize}
 use Rattle.laws.specs.Accepted.{Valid, ValidReturns}
-use Rattle.laws.specs.Date.{account-le, excess-paid-le}
+use Rattle.laws.specs.Date.{account-le, excess-paid-le, share-le, death-le}
 use Rattle.laws.specs.Bounds.{discounted-average, stateMost, value-room, value-most, entryMost}
 
 -- the sum of weight × value reached
@@ -95,6 +95,15 @@ pub record Listing (list : List ℕ) (count : ℕ) : Type 0 where
   pub valid : ValidReturns (returnsOf list)
   pub all : count ≡ returnsOf list .count
 
+pub listing : {list : List ℕ} {n : ℕ} → n ≡ returnsOf list .count → ValidReturns (returnsOf list) → Listing list n
+unfolding returnsOf
+listing {list} e valid = record {
+  few = rw e (valid .count);
+  long = rw e (let d = div-add-mod' (length list) 4 in omega arith);
+  valid = valid;
+  all = e;
+}
+
 -- a slice with room for two layers
 pub record Layers (c : Terms) (work : List ℕ) : Type 0 where
   pub valid : Valid c
@@ -108,6 +117,12 @@ Within c work most = (w a : ℕ) → w ≤ c .top → a ≤ c .premium → cells
 pub record Values (c : Terms) (i : ℕ) (work : List ℕ) : Type 0 where
   pub layers : Layers c work
   pub small : Within c work (stateMost c (i + 1))
+
+-- .. and those of date 1, before the first return, whose period has this death rate
+pub record Starting (c : Terms) (rate : ℕ) (work list : List ℕ) : Type 0 where
+  pub returns : ValidReturns (returnsOf list)
+  pub rate-is : rate ≤ rateMost
+  pub first : Values c 0 work
 
 -- a balance whose row is to be filled, over the values of date i + 1
 pub record Balance (c : Terms) (i : ℕ) (work list weights : List ℕ) (count discount most paid balance stride size : ℕ) : Type 0 where
@@ -150,3 +165,41 @@ expected-same c rs v v' balance a h =
     (sum-eq _ _ (rs .count) (λ k l.
     ap (λ (z : ℕ). rs .weight k * (excessPaid (c .fee) (c .top) balance (rs .factor k) + z))
     (h _ (account-le (c .fee) (c .top) balance (rs .factor k)))))
+
+-- ---- the first return
+-- the value that return k reaches from the start, as its share at death leaves it
+unfoldable pub startReached : Terms → Returns → ℕ → (ℕ → ℕ → ℕ) → ℕ → ℕ
+startReached c rs rate v k =
+    deathShare rate (paidBy c rs (startOf c) k + v (reachBy c rs (startOf c) k .account) (c .premium)) (deathBy c rs (startOf c) k)
+
+unfoldable pub startExpected : Terms → Returns → ℕ → (ℕ → ℕ → ℕ) → ℕ
+startExpected c rs rate v = discounted (c .discount) (sum (λ k. rs .weight k * startReached c rs rate v k) (rs .count))
+
+-- over values of date 1 it is within the bound on an entry
+pub start-reached-le : (c : Terms) (rs : Returns) (rate : ℕ) (v : ℕ → ℕ → ℕ) (k : ℕ) → Valid c → rate ≤ rateMost
+    → rs .factor k ≤ factorMost → ((w : ℕ) → w ≤ c .top → v w (c .premium) ≤ stateMost c 1) → startReached c rs rate v k ≤ entryMost
+unfolding startReached paidBy reachBy deathBy startOf excessPaid
+start-reached-le c rs rate v k valid small f h =
+    let paid = excess-paid-le (c .fee) (c .top) (c .premium) (rs .factor k) (valid .premium) f in
+    let account = account-le (c .fee) (c .top) (c .premium) (rs .factor k) in
+    let room = le-trans (value-room c valid 1 (omega arith)) (value-most valid) in
+    let value = h _ account in
+    let dies = death-le _ (c .premium) (excess (c .fee) (c .top) (c .premium) (rs .factor k)) (c .top) account (valid .premium) in
+    share-le entryMost small (le-trans (add-le-add paid value) room) (omega arith)
+
+pub start-expected-le : (c : Terms) (rs : Returns) (rate : ℕ) (v : ℕ → ℕ → ℕ) → Valid c → ValidReturns rs → rate ≤ rateMost
+    → ((w : ℕ) → w ≤ c .top → v w (c .premium) ≤ stateMost c 1) → startExpected c rs rate v ≤ entryMost
+unfolding startExpected
+start-expected-le c rs rate v valid returns small h =
+    discounted-average (c .discount) _ entryMost (valid .discount)
+    (weighted-le (rs .weight) _ (rs .count) (returns .total) (λ k l. start-reached-le c rs rate v k valid small (returns .factor k l) h))
+
+-- only the values that it can reach count
+pub start-expected-same : (c : Terms) (rs : Returns) (rate : ℕ) (v v' : ℕ → ℕ → ℕ)
+    → ((w : ℕ) → w ≤ c .top → v w (c .premium) ≡ v' w (c .premium)) → startExpected c rs rate v ≡ startExpected c rs rate v'
+unfolding startExpected startReached reachBy startOf
+start-expected-same c rs rate v v' h =
+    ap (discounted (c .discount))
+    (sum-eq _ _ (rs .count) (λ k l.
+    ap (λ (z : ℕ). rs .weight k * deathShare rate (paidBy c rs (startOf c) k + z) (deathBy c rs (startOf c) k))
+    (h _ (account-le (c .fee) (c .top) (c .premium) (rs .factor k)))))

@@ -13,7 +13,7 @@ ghost use Rattle.rules.specs.FixedTerm.{layerSize};
 ghost use Rattle.laws.specs.Accepted.{Valid};
 ghost use Rattle.contract.specs.Reading.{termsIn};
 ghost use Rattle.expect.specs.Expected.{term, productMost, Reached, Run, Adding, Summed, Row, Listing, Values};
-ghost use Rattle.expect.specs.Expected.{paidSum, expected, scaled};
+ghost use Rattle.expect.specs.Expected.{paidSum, expected, scaled, Starting, startReached, startExpected};
 use contract::Contract;
 
 // How many returns are averaged, by what they are discounted, what no value of the layer passes, and what the returns pay on
@@ -80,32 +80,6 @@ fn eight_products(
         ⌝ }
 {
     four_products(work, starts, weights, k, a) + four_products(work, starts, weights, k + 4, a)
-}
-
-// The sum over the returns for guarantee a, with what is paid on arrival.
-fn reached_sum(
-    work: &[u64],
-    starts: &[usize; 64],
-    weights: &[u32; 64],
-    paid: usize,
-    count: usize,
-    a: usize,
-) -> usize
-    requires { ⌜
-        (paid ≤ productMost)
-        × (count ≤ returnsMost)
-        × ((k : ℕ) → k < count → Reached (now work) (now starts) (now weights) a k)
-        ⌝ }
-    ensures { λ r. ⌜
-        (r ≡ paid + sum (term (now (work .entry)) (now (starts .entry)) (now (weights .entry)) a) count)
-        × (r ≤ productMost * (returnsMost + 1))
-        ⌝ }
-{
-    let mut s = paid;
-    for k in 0..count {
-        s += product(work, starts, weights, k, a);
-    }
-    s
 }
 
 // Return k, for n guarantees.
@@ -461,21 +435,35 @@ pub fn expect_layer(work: &mut [u64], list: &[u8], count: usize, c: Contract, i:
     }
 }
 
-// The discounted sum over the first return, from balance and guarantee U.
-pub fn start_value(work: &[u64], list: &[u8], count: usize, c: Contract) -> u64
-    requires { ⌜ Listing (now list) count × Values (termsIn c) 0 (now work) ⌝ }
+// What return k is worth from the start: the value reached, with its share at death.
+fn first_reached(work: &[u64], list: &[u8], rate: usize, c: Contract, k: usize) -> usize
+    requires { ⌜ Starting (termsIn c) rate (now work) (now list) × (k < returnsOf (now list) .count) ⌝ }
     ensures { λ r. ⌜
         (r
-        ≡ expected (termsIn c) (returnsOf (now (list .entry))) (cells (now (work .entry)) 0 (c .premium + 1)) (c .premium)
-        (c .premium))
+        ≡ startReached (termsIn c) (returnsOf (now (list .entry))) rate (cells (now (work .entry)) 0 (c .premium + 1)) k)
         × (r ≤ entryMost)
         ⌝ }
 {
-    let stride = c.premium + 1;
-    let mut weights = [0u32; 64];
-    fill_weights(&mut weights, list, count);
-    let mut starts = [0usize; 64];
-    let paid = fill_starts(&mut starts, list, count, c, c.premium, stride);
-    let s = reached_sum(work, &starts, &weights, paid, count, c.premium);
-    date::discounted(c.discount, s) as u64
+    let factor = contract::word(list, Contract::RETURN_BYTES * k);
+    let account = date::next_account(c.fee, c.top, c.premium, factor);
+    let over = date::excess(c.fee, c.top, c.premium, factor);
+    let value = date::wide(work[account * (c.premium + 1) + c.premium]);
+    let payment = date::death_payment(account, c.premium, over);
+    date::death_share(rate, 10000 * over + value, payment)
+}
+
+// The discounted sum over the first return, from balance and guarantee U.
+pub fn start_value(work: &[u64], list: &[u8], rate: usize, c: Contract) -> u64
+    requires { ⌜ Starting (termsIn c) rate (now work) (now list) ⌝ }
+    ensures { λ r. ⌜
+        (r ≡ startExpected (termsIn c) (returnsOf (now (list .entry))) rate (cells (now (work .entry)) 0 (c .premium + 1)))
+        × (r ≤ entryMost)
+        ⌝ }
+{
+    let mut sum: usize = 0;
+    for k in 0..contract::returns_in(list) {
+        let weight = contract::word(list, Contract::RETURN_BYTES * k + 2);
+        sum += weight * first_reached(work, list, rate, c, k);
+    }
+    date::discounted(c.discount, sum) as u64
 }

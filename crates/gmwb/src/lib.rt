@@ -1,9 +1,8 @@
 // The calls for a C host: numbers and slices in, numbers out. include/gmwb.h declares them.
 ghost use mathlib.Core.Path.{_≡_};
-ghost use Rattle.rules.specs.Product.{Claim};
 ghost use Rattle.rules.specs.Refusals.{numberOf, placeOf};
-ghost use Rattle.rules.specs.Operations.{productOf, behaviourOf, recordVerdict, bookingVerdict, bookingBuffer, valuingAnswer, valuingWork, valuingTable, suppliedAnswer, suppliedWork, walkVerdict, walkCashes};
-ghost use Rattle.gmwb.specs.Told.{MapTold};
+ghost use Rattle.rules.specs.Operations.{recordVerdict, bookingVerdict, bookingBuffer, walkVerdict, walkCashes};
+ghost use Rattle.gmwb.specs.Told.{ValueTold, MapTold, TableTold};
 use contract::Contract;
 
 // Checks a record. The place of each of its refusals is 0.
@@ -45,6 +44,7 @@ pub extern "C" fn gmwb_book(
 pub extern "C" fn gmwb_value(
     bytes: &[u8],
     list: &[u8],
+    rates: &[u8],
     behaviour: u64,
     work: &mut [u64],
     table: &mut [u16],
@@ -52,15 +52,12 @@ pub extern "C" fn gmwb_value(
     value: &mut u64,
     margin: &mut i64,
 ) -> u32
-    ensures { λ r. ⌜ r ≡ valuingAnswer (now (bytes .entry)) (now (list .entry)) behaviour (now (work .entry)) (now (table .entry)) .number ⌝ }
-    ensures { λ _. ⌜ now (place .exit) ≡ valuingAnswer (now (bytes .entry)) (now (list .entry)) behaviour (now (work .entry)) (now (table .entry)) .place ⌝ }
-    ensures { λ _. ⌜ now (value .exit) ≡ valuingAnswer (now (bytes .entry)) (now (list .entry)) behaviour (now (work .entry)) (now (table .entry)) .value ⌝ }
-    ensures { λ _. ⌜ now (margin .exit) ≡ valuingAnswer (now (bytes .entry)) (now (list .entry)) behaviour (now (work .entry)) (now (table .entry)) .margin ⌝ }
-    ensures { λ _. ⌜ now (work .exit) ≡ valuingWork (now (bytes .entry)) (now (list .entry)) behaviour (now (work .entry)) (now (table .entry)) ⌝ }
-    ensures { λ _. ⌜ now (table .exit) ≡ valuingTable (now (bytes .entry)) (now (list .entry)) behaviour (now (work .entry)) (now (table .entry)) ⌝ }
-    ensures { λ r. ⌜ (r ≡ 0 → Claim (productOf (now (bytes .entry)) (now (list .entry))) (behaviourOf behaviour) (now (value .exit)) (now (table .exit))) ⌝ }
+    ensures { λ r. ⌜ ValueTold (now (bytes .entry)) (now (list .entry)) (now (rates .entry)) behaviour
+        (now (work .entry)) (now (table .entry))
+        r (now (place .exit)) (now (value .exit)) (now (margin .exit))
+        (now (work .exit)) (now (table .exit)) ⌝ }
 {
-    let answer = valuing::value(bytes, list, behaviour as usize, work, table);
+    let answer = valuing::value(bytes, list, rates, behaviour as usize, work, table);
     *place = answer.place;
     *value = answer.value;
     let difference = answer.margin;
@@ -73,6 +70,7 @@ pub extern "C" fn gmwb_value(
 pub extern "C" fn gmwb_value_map(
     bytes: &[u8],
     list: &[u8],
+    rates: &[u8],
     behaviour: u64,
     work: &mut [u64],
     table: &mut [u16],
@@ -82,12 +80,12 @@ pub extern "C" fn gmwb_value_map(
     margin: &mut i64,
     count: &mut u64,
 ) -> u32
-    ensures { λ r. ⌜ MapTold (now (bytes .entry)) (now (list .entry)) behaviour
+    ensures { λ r. ⌜ MapTold (now (bytes .entry)) (now (list .entry)) (now (rates .entry)) behaviour
         (now (work .entry)) (now (table .entry)) (now (map .entry))
         r (now (place .exit)) (now (value .exit)) (now (margin .exit)) (now (count .exit))
         (now (work .exit)) (now (table .exit)) (now (map .exit)) ⌝ }
 {
-    let mapped = mapping::value_map(bytes, list, behaviour as usize, work, table, map);
+    let mapped = mapping::value_map(bytes, list, rates, behaviour as usize, work, table, map);
     *count = mapped.count;
     let figures = mapped.answer;
     *place = figures.place;
@@ -102,19 +100,18 @@ pub extern "C" fn gmwb_value_map(
 pub extern "C" fn gmwb_value_table(
     bytes: &[u8],
     list: &[u8],
+    rates: &[u8],
     work: &mut [u64],
     table: &[u16],
     place: &mut u64,
     value: &mut u64,
     margin: &mut i64,
 ) -> u32
-    ensures { λ r. ⌜ r ≡ suppliedAnswer (now (bytes .entry)) (now (list .entry)) (now (work .entry)) (now (table .entry)) .number ⌝ }
-    ensures { λ _. ⌜ now (place .exit) ≡ suppliedAnswer (now (bytes .entry)) (now (list .entry)) (now (work .entry)) (now (table .entry)) .place ⌝ }
-    ensures { λ _. ⌜ now (value .exit) ≡ suppliedAnswer (now (bytes .entry)) (now (list .entry)) (now (work .entry)) (now (table .entry)) .value ⌝ }
-    ensures { λ _. ⌜ now (margin .exit) ≡ suppliedAnswer (now (bytes .entry)) (now (list .entry)) (now (work .entry)) (now (table .entry)) .margin ⌝ }
-    ensures { λ _. ⌜ now (work .exit) ≡ suppliedWork (now (bytes .entry)) (now (list .entry)) (now (work .entry)) (now (table .entry)) ⌝ }
+    ensures { λ r. ⌜ TableTold (now (bytes .entry)) (now (list .entry)) (now (rates .entry)) (now (work .entry))
+        (now (table .entry))
+        r (now (place .exit)) (now (value .exit)) (now (margin .exit)) (now (work .exit)) ⌝ }
 {
-    let told = supplied::value(bytes, list, work, table);
+    let told = supplied::value(bytes, list, rates, work, table);
     *place = told.place;
     *value = told.value;
     let difference = told.margin;

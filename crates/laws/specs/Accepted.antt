@@ -1,16 +1,19 @@
--- What holds of terms and returns that no condition turns away. Assumes nothing.
+-- What holds of terms, returns and death rates that no condition turns away. Assumes nothing.
 use mathlib.Core.Bool.{Bool, true, false, cond, not, _&&_, _||_}
 use mathlib.Core.List.{List, [], _∷_, _++_}
 use mathlib.Core.Logic.{_↔_}
 use mathlib.Core.Path.{_≡_, refl, ap, _∙_, subst}
 use Prim.Native.Nat.{ℕ, _+_, _*_, _/_, _%_, _≤_, _<_}
+use native.Mathlib.Decide.{decLe}
 use native.Mathlib.Omega.{arith}
 use lib.Dec.{T, ltb, eqb, eqb→eq, eqb-refl, nltb→le, not-T, T-not}
-use lib.ListN.{length}
+use lib.ListN.{length, List·getD-eq-default}
 use Rattle.decision.specs.Index.{sum, first, first-is}
 use Rattle.decision.specs.Choice.{and-left, and-right}
-use Rattle.rules.specs.Contract.{Terms, Returns, termsOf, topMost, datesMost, rateMost, discountMost, returnBytes, returnsOf, returnsMost, factorMost, weightMost, weightTotal}
-use Rattle.rules.specs.Refusals.{Check, checkEach, Verdict, accepted, refused, verdict, numbers, numberOf, placeOf, onSuccess, outside, termsChecks, recordChecks, badReturn, listChecks}
+use Rattle.rules.specs.Contract.{Terms, Returns, Rates, word, termsOf, topMost, datesMost, rateMost, discountMost, returnBytes}
+use Rattle.rules.specs.Contract.{returnsOf, returnsMost, factorMost, weightMost, weightTotal, rateBytes, ratesOf, living}
+use Rattle.rules.specs.Refusals.{Check, checkEach, Verdict, accepted, refused, verdict, numbers, numberOf, placeOf, onSuccess}
+use Rattle.rules.specs.Refusals.{outside, termsChecks, recordChecks, badReturn, listChecks, ratesChecks, inputChecks}
 
 -- the column of ranges, and refusals 2 to 6 and 15, for accepted terms
 pub record Valid (c : Terms) : Type 0 where
@@ -36,6 +39,16 @@ pub record ValidReturns (rs : Returns) : Type 0 where
   pub weight-least : (k : ℕ) → k < rs .count → 1 ≤ rs .weight k
   pub weight : (k : ℕ) → k < rs .count → rs .weight k ≤ weightMost
   pub total : sum (rs .weight) (rs .count) ≡ weightTotal
+
+-- refusal 18, for accepted death rates: behind the last period their list has none
+pub record ValidRates (ds : Rates) : Type 0 where
+  pub rate : (i : ℕ) → ds i ≤ rateMost
+
+-- all that a valuation is given
+pub record ValidInput (c : Terms) (rs : Returns) (ds : Rates) : Type 0 where
+  pub terms : Valid c
+  pub returns : ValidReturns rs
+  pub rates : ValidRates ds
 
 -- every check passes
 unfoldable pub AllPass : List Check → Type 0
@@ -171,6 +184,30 @@ valid-returns bytes (size, (each, (total, done))) =
       total = eqb→eq (sum (rs .weight) (rs .count)) weightTotal (not-not (eqb (sum (rs .weight) (rs .count)) weightTotal) total);
     }
 
+-- a number behind the end of a list is 0
+word-behind : (bytes : List ℕ) (i : ℕ) → length bytes ≤ i → word bytes i ≡ 0
+unfolding word
+word-behind bytes i l =
+    let low = List·getD-eq-default bytes 0 {n = i} l in
+    let high = List·getD-eq-default bytes 0 {n = i + 1} (omega arith) in
+    omega arith
+
+pub valid-rates : (dates : ℕ) (bytes : List ℕ) → AllPass (ratesChecks dates bytes) → ValidRates (ratesOf bytes)
+unfolding ratesChecks AllPass ratesOf
+valid-rates dates bytes (size, (each, done)) = record { rate = λ i. go i (decLe dates i) }
+  where
+    go : (i : ℕ) → Dec (dates ≤ i) → word bytes (rateBytes * i) ≤ rateMost
+    go i (no h) =
+        nltb→le rateMost (word bytes (rateBytes * i))
+        (each-passes 18 0 dates (λ k. ltb rateMost (word bytes (rateBytes * k))) each i (omega arith))
+    go i (yes h) =
+        let long = eqb→eq (length bytes) (rateBytes * dates) (not-not (eqb (length bytes) (rateBytes * dates)) size) in
+        let none = word-behind bytes (rateBytes * i) (omega arith) in
+        omega arith
+
+pub living-valid : ValidRates living
+living-valid = record { rate = λ i. omega arith }
+
 -- ---- checks in two parts
 -- the later checks count where the earlier ones accept
 abbrev pub andThen : Verdict → Verdict → Verdict
@@ -205,6 +242,21 @@ both-terms bytes list e = valid-record bytes (pass-left (recordChecks bytes) _ (
 
 pub both-returns : (bytes list : List ℕ) → verdict (recordChecks bytes ++ listChecks list) ≡ accepted → ValidReturns (returnsOf list)
 both-returns bytes list e = valid-returns list (pass-right (recordChecks bytes) _ (all-pass _ e))
+
+-- .. and rates
+pub input-both : (bytes list rates : List ℕ) → verdict (inputChecks bytes list rates) ≡ accepted
+    → verdict (recordChecks bytes ++ listChecks list) ≡ accepted
+unfolding inputChecks
+input-both bytes list rates e = then-earlier _ _ e
+
+pub input-valid : (bytes list rates : List ℕ) → verdict (inputChecks bytes list rates) ≡ accepted
+    → ValidInput (termsOf bytes) (returnsOf list) (ratesOf rates)
+unfolding inputChecks
+input-valid bytes list rates e = record {
+  terms = both-terms bytes list (then-earlier _ _ e);
+  returns = both-returns bytes list (then-earlier _ _ e);
+  rates = valid-rates _ rates (pass-right (recordChecks bytes ++ listChecks list) _ (all-pass _ e));
+}
 
 -- ---- what a verdict tells
 pub success-reports : {A : Type 0} {v : Verdict} (new old : A) → v ≡ accepted → onSuccess v new old ≡ new

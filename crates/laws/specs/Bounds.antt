@@ -9,13 +9,13 @@ use Rattle.decision.specs.Index.{weighted-le}
 use Rattle.decision.specs.Process.{Table, tableValue, startTableValue, Decides}
 use Rattle.decision.specs.Optimal.{recorded-best}
 use Rattle.decision.specs.Bounds.{value-bounded, start-bounded, table-bounded, start-table-bounded}
-use Rattle.rules.specs.Contract.{Terms, Returns, topMost, datesMost, factorMost, discountMost, weightTotal}
-use Rattle.rules.specs.Date.{Behaviour, dynamic, liftedAccount, nextAccount, maturityValue, discounted}
+use Rattle.rules.specs.Contract.{Terms, Returns, Rates, topMost, datesMost, factorMost, discountMost, weightTotal}
+use Rattle.rules.specs.Date.{Behaviour, dynamic, liftedAccount, nextAccount, excessPaid, maturityValue, discounted}
 use Rattle.rules.specs.Product.{stateValue, recordedAmount, contractValue}
 use Rattle.rules.specs.FixedTerm.{State, Held, InRange, freeIn, admissibleIn, rateIn, cashIn, afterIn, reachBy, paidBy}
-use Rattle.rules.specs.FixedTerm.{expectOver, startOf, processOf, fixedTerm}
-use Rattle.laws.specs.Accepted.{Valid, ValidReturns}
-use Rattle.laws.specs.Date.{admits-within, amount-most, excess-paid-le, period-le}
+use Rattle.rules.specs.FixedTerm.{deathBy, expectOver, startOf, processOf, fixedTerm}
+use Rattle.laws.specs.Accepted.{Valid, ValidInput}
+use Rattle.laws.specs.Date.{admits-within, amount-most, excess-paid-le, period-le, share-le, death-le}
 use Rattle.laws.specs.FixedTerm.{opened, closed}
 
 -- a discounted average is at most the largest value reached
@@ -48,73 +48,89 @@ value-room c v i l =
     ap (λ (x : ℕ). c .top * x) n ∙ (let z = mul-comm (c .top) (c .dates - 1) in omega arith) in
     omega (arith, mul-assoc (c .dates - 1) 20000 (c .top), mul-comm (c .dates - 1) 20000)
 
-module _ (c : Terms) (rs : Returns) (v : Valid c) (u : ValidReturns rs) where
-  -- admissible amounts are at most top
-  pub amount-le : (b : Behaviour) (s : State) (t : ℕ) → InRange c s → T (admissibleIn c b s t) → t ≤ c .top
-  unfolding admissibleIn freeIn
-  amount-le b s t g p = amount-most (c .level) (g .account) (le-trans (g .guarantee) (v .premium)) (admits-within b _ _ t p)
+-- admissible amounts are at most top
+pub amount-le : {c : Terms} → Valid c → (b : Behaviour) (s : State) (t : ℕ) → InRange c s → T (admissibleIn c b s t) → t ≤ c .top
+unfolding admissibleIn freeIn
+amount-le {c} v b s t g p = amount-most (c .level) (g .account) (le-trans (g .guarantee) (v .premium)) (admits-within b _ _ t p)
 
-  pub ends : (s : State) → InRange c s → processOf c rs .final s ≤ 10000 * c .top
-  unfolding processOf maturityValue
-  ends s g = mul-le-mul-left 10000 (max-le (g .account) (le-trans (g .guarantee) (v .premium)))
+-- so is what account and guarantee are
+pub ends : {c : Terms} → Valid c → (s : State) → InRange c s → maturityValue (s .account) (s .guarantee) ≤ 10000 * c .top
+unfolding maturityValue
+ends v s g = mul-le-mul-left 10000 (max-le (g .account) (le-trans (g .guarantee) (v .premium)))
 
+-- amounts and accounts fit 16 bits
+pub amount-fits : {c : Terms} → Valid c → (b : Behaviour) (s : State) (t : ℕ) → InRange c s → T (admissibleIn c b s t) → t < 2 ^ 16
+amount-fits v b s t g p = let l = amount-le v b s t g p in omega (arith, v .top)
+
+pub account-fits : {c : Terms} → Valid c → (rs : Returns) (h : Held) (k : ℕ) → reachBy c rs h k .account < 2 ^ 16
+unfolding reachBy nextAccount
+account-fits {c} v rs h k = let l = min-le-left (c .top) (liftedAccount (c .fee) (h .balance) (rs .factor k)) in omega (arith, v .top)
+
+module _ (c : Terms) (rs : Returns) (ds : Rates) (v : ValidInput c rs ds) where
   -- what is withdrawn, with what is paid on the arrival after it
   arrives : (b : Behaviour) (i : ℕ) (s : State) (t k : ℕ) → InRange c s → T (admissibleIn c b s t) → k < rs .count
-      → processOf c rs .cash i s t + processOf c rs .paid (processOf c rs .after i s t) k ≤ 20000 * c .top
+      → processOf c rs ds .cash i s t + processOf c rs ds .paid (processOf c rs ds .after i s t) k ≤ 20000 * c .top
   unfolding processOf cashIn afterIn paidBy
   arrives b i s t k g p l =
-      period-le (rateIn c i) (freeIn c s) (c .fee) (c .top) (s .account) t (rs .factor k) (g .account) (amount-le b s t g p) (u .factor k l)
+      period-le (rateIn c i) (freeIn c s) (c .fee) (c .top) (s .account) t (rs .factor k) (g .account) (amount-le (v .terms) b s t g p)
+      (v .returns .factor k l)
 
   -- what the first return pays on arrival
-  starts : (k : ℕ) → k < rs .count → processOf c rs .paid (startOf c) k ≤ 20000 * c .top
+  starts : (k : ℕ) → k < rs .count → processOf c rs ds .paid (startOf c) k ≤ 20000 * c .top
   unfolding processOf paidBy startOf
-  starts k l = excess-paid-le (c .fee) (c .top) (c .premium) (rs .factor k) (v .premium) (u .factor k l)
+  starts k l = excess-paid-le (c .fee) (c .top) (c .premium) (rs .factor k) (v .terms .premium) (v .returns .factor k l)
 
-  pub averages : (i : ℕ) (h : Held) (x : ℕ → ℕ) (y : ℕ) → ((k : ℕ) → k < rs .count → x k ≤ y) → expectOver c rs i h x ≤ y
+  -- a death pays no more than 10,000 × top, with what is paid on arrival
+  dies : (h : Held) (k x : ℕ) → InRange c (reachBy c rs h k) → paidBy c rs h k + 10000 * c .top ≤ x → deathBy c rs h k ≤ x
+  unfolding deathBy paidBy excessPaid
+  dies h k x g room = le-trans (death-le _ _ _ (c .top) (g .account) (le-trans (g .guarantee) (v .terms .premium))) room
+
+  averages : (i : ℕ) (h : Held) (x : ℕ → ℕ) (y : ℕ) → ((k : ℕ) → k < rs .count → InRange c (reachBy c rs h k))
+      → ((k : ℕ) → k < rs .count → paidBy c rs h k + 10000 * c .top ≤ y) → ((k : ℕ) → k < rs .count → x k ≤ y)
+      → expectOver c rs ds i h x ≤ y
   unfolding expectOver
-  averages i h x y g =
-      discounted-average (c .discount) _ y (v .discount) (weighted-le (rs .weight) x (rs .count) (u .total) g)
+  averages i h x y range room g =
+      discounted-average (c .discount) _ y (v .terms .discount)
+      (weighted-le (rs .weight) _ (rs .count) (v .returns .total) (λ k l.
+      share-le y (v .rates .rate i) (g k l) (dies h k y (range k l) (room k l))))
 
   -- a state's value is at most a bound in N and top
-  pub state-value-le : (b : Behaviour) (i : ℕ) (s : State) → InRange c s → stateValue (fixedTerm c rs) b i s ≤ stateMost c i
+  pub state-value-le : (b : Behaviour) (i : ℕ) (s : State) → InRange c s → stateValue (fixedTerm c rs ds) b i s ≤ stateMost c i
   unfolding stateValue fixedTerm processOf
   state-value-le b =
-      value-bounded (processOf c rs) (admissibleIn c b) (opened c rs b) (InRange c) (closed c rs b) (10000 * c .top) (20000 * c .top)
-      ends (u .count-least) (arrives b) starts averages
+      value-bounded (processOf c rs ds) (admissibleIn c b) (opened c rs ds b) (InRange c) (closed c rs ds b) (10000 * c .top)
+      (20000 * c .top)
+      (ends (v .terms)) (v .returns .count-least) (arrives b) starts averages
 
   -- .. also where a table is followed
-  pub table-value-le : (d : Table State) → ((i : ℕ) (s : State) → Decides (processOf c rs) (InRange c) i s → T (admissibleIn c dynamic s (d i s)))
+  pub table-value-le : (d : Table State)
+      → ((i : ℕ) (s : State) → Decides (processOf c rs ds) (InRange c) i s → T (admissibleIn c dynamic s (d i s)))
       → (i : ℕ) (s : State) → 1 ≤ i → i ≤ c .dates → InRange c s
-      → tableValue (processOf c rs) d i s ≤ stateMost c i
+      → tableValue (processOf c rs ds) d i s ≤ stateMost c i
   unfolding processOf
   table-value-le d admits i s l m g =
-      table-bounded (processOf c rs) (admissibleIn c dynamic) (opened c rs dynamic) (InRange c) (closed c rs dynamic) (10000 * c .top)
-      (20000 * c .top) ends (u .count-least) (arrives dynamic) starts averages d admits i s l m g
+      table-bounded (processOf c rs ds) (admissibleIn c dynamic) (opened c rs ds dynamic) (InRange c) (closed c rs ds dynamic)
+      (10000 * c .top)
+      (20000 * c .top) (ends (v .terms)) (v .returns .count-least) (arrives dynamic) starts averages d admits i s l m g
 
   -- the contract's, with what the first return pays on arrival
-  pub contract-value-le : (b : Behaviour) → contractValue (fixedTerm c rs) b ≤ 20000 * c .top + stateMost c 1
+  pub contract-value-le : (b : Behaviour) → contractValue (fixedTerm c rs ds) b ≤ 20000 * c .top + stateMost c 1
   unfolding contractValue fixedTerm processOf
   contract-value-le b =
-      start-bounded (processOf c rs) (admissibleIn c b) (opened c rs b) (InRange c) (closed c rs b) (10000 * c .top) (20000 * c .top)
-      ends (u .count-least) (arrives b) starts averages
+      start-bounded (processOf c rs ds) (admissibleIn c b) (opened c rs ds b) (InRange c) (closed c rs ds b) (10000 * c .top)
+      (20000 * c .top)
+      (ends (v .terms)) (v .returns .count-least) (arrives b) starts averages
 
   pub table-start-le : (d : Table State)
-      → ((i : ℕ) (s : State) → Decides (processOf c rs) (InRange c) i s → T (admissibleIn c dynamic s (d i s)))
-      → startTableValue (processOf c rs) d ≤ 20000 * c .top + stateMost c 1
+      → ((i : ℕ) (s : State) → Decides (processOf c rs ds) (InRange c) i s → T (admissibleIn c dynamic s (d i s)))
+      → startTableValue (processOf c rs ds) d ≤ 20000 * c .top + stateMost c 1
   unfolding processOf
   table-start-le d admits =
-      start-table-bounded (processOf c rs) (admissibleIn c dynamic) (opened c rs dynamic) (InRange c) (closed c rs dynamic)
-      (10000 * c .top) (20000 * c .top) ends (u .count-least) (arrives dynamic) starts averages d admits (v .dates-least)
+      start-table-bounded (processOf c rs ds) (admissibleIn c dynamic) (opened c rs ds dynamic) (InRange c) (closed c rs ds dynamic)
+      (10000 * c .top) (20000 * c .top) (ends (v .terms)) (v .returns .count-least) (arrives dynamic) starts averages d admits
+      (v .terms .dates-least)
 
-  -- amounts and accounts fit 16 bits
-  pub amount-fits : (b : Behaviour) (s : State) (t : ℕ) → InRange c s → T (admissibleIn c b s t) → t < 2 ^ 16
-  amount-fits b s t g p = let l = amount-le b s t g p in omega (arith, v .top)
-
-  pub recorded-fits : (b : Behaviour) (i : ℕ) (s : State) → i < c .dates → InRange c s → recordedAmount (fixedTerm c rs) b i s < 2 ^ 16
+  pub recorded-fits : (b : Behaviour) (i : ℕ) (s : State) → i < c .dates → InRange c s → recordedAmount (fixedTerm c rs ds) b i s < 2 ^ 16
   unfolding recordedAmount fixedTerm processOf
   recorded-fits b i s l g =
-      amount-fits b s _ g (recorded-best (processOf c rs) (admissibleIn c b) (opened c rs b) i s l .passes)
-
-  pub account-fits : (h : Held) (k : ℕ) → reachBy c rs h k .account < 2 ^ 16
-  unfolding reachBy nextAccount
-  account-fits h k = let l = min-le-left (c .top) (liftedAccount (c .fee) (h .balance) (rs .factor k)) in omega (arith, v .top)
+      amount-fits (v .terms) b s _ g (recorded-best (processOf c rs ds) (admissibleIn c b) (opened c rs ds b) i s l .passes)

@@ -9,26 +9,26 @@ use Rattle.decision.specs.Index.{sum, sum-eq, sum-add, sum-times, tabulate, get
 use Rattle.rules.specs.Contract.{Terms, Returns, termsOf, returnsOf}
 use Rattle.rules.specs.Date.{penalty, cash, excess, excessPaid, maturityValue}
 use Rattle.rules.specs.Product.{walkState, walkAmount, walkHeld, walkPaid, walkCashOn, walkCashLast, walkCash}
-use Rattle.rules.specs.FixedTerm.{freeIn, rateIn, cashIn, paidBy, processOf, fixedTerm}
+use Rattle.rules.specs.FixedTerm.{freeIn, rateIn, cashIn, paidBy, processOf, fixedTerm, livingTerm}
 use Rattle.rules.specs.Refusals.{accepted, onSuccess}
-use Rattle.rules.specs.Operations.{productOf, walkChecks, walkVerdict, walkCashes}
+use Rattle.rules.specs.Operations.{livingOf, walkChecks, walkVerdict, walkCashes}
 use Rattle.laws.specs.Accepted.{Valid, then-earlier, both-terms}
 use Rattle.laws.specs.Step.{rate-le}
 
 -- the penalty on date j + 1, and the excess of the return that leads to date j + 1
 abbrev pub walkPenalty : Terms → Returns → List ℕ → List ℕ → ℕ → ℕ
 walkPenalty c rs table path j =
-    penalty (rateIn c (suc j)) (freeIn c (walkState (fixedTerm c rs) table path (suc j))) (walkAmount (fixedTerm c rs) table path (suc j))
+    penalty (rateIn c (suc j)) (freeIn c (walkState (livingTerm c rs) table path (suc j))) (walkAmount (livingTerm c rs) table path (suc j))
 
 abbrev pub walkExcess : Terms → Returns → List ℕ → List ℕ → ℕ → ℕ
 walkExcess c rs table path j =
-    excess (c .fee) (c .top) (walkHeld (fixedTerm c rs) table path j .balance) (rs .factor (getD path j 0))
+    excess (c .fee) (c .top) (walkHeld (livingTerm c rs) table path j .balance) (rs .factor (getD path j 0))
 
 -- withdrawals, excess and the maturity payment
 abbrev pub walkDue : Terms → Returns → List ℕ → List ℕ → ℕ
 walkDue c rs table path =
-    let last = walkState (fixedTerm c rs) table path (c .dates) in
-    10000 * sum (λ j. walkAmount (fixedTerm c rs) table path (suc j)) (c .dates - 1)
+    let last = walkState (livingTerm c rs) table path (c .dates) in
+    10000 * sum (λ j. walkAmount (livingTerm c rs) table path (suc j)) (c .dates - 1)
     + 10000 * sum (walkExcess c rs table path) (c .dates)
     + maturityValue (last .account) (last .guarantee)
 
@@ -58,28 +58,28 @@ cash-penalty rate m t h = let l : rate * (t - m) ≤ 10000 * t = mul-le-mul h (s
 module _ (c : Terms) (rs : Returns) (table path : List ℕ) (v : Valid c) where
   -- on each date: what is withdrawn less its penalty, and the excess
   cash-of : (j : ℕ)
-      → walkCashOn (fixedTerm c rs) table path j + walkPenalty c rs table path j
-      ≡ walkAmount (fixedTerm c rs) table path (suc j) * 10000 + walkExcess c rs table path j * 10000
+      → walkCashOn (livingTerm c rs) table path j + walkPenalty c rs table path j
+      ≡ walkAmount (livingTerm c rs) table path (suc j) * 10000 + walkExcess c rs table path j * 10000
   unfolding walkCashOn walkPaid fixedTerm processOf paidBy excessPaid cashIn
   cash-of j =
       let rate = le-trans (rate-le (c .penalty) (c .step) (suc j)) (v .penalty) in
-      let s = walkState (fixedTerm c rs) table path (suc j) in
-      let e = cash-penalty (rateIn c (suc j)) (freeIn c s) (walkAmount (fixedTerm c rs) table path (suc j)) rate in
+      let s = walkState (livingTerm c rs) table path (suc j) in
+      let e = cash-penalty (rateIn c (suc j)) (freeIn c s) (walkAmount (livingTerm c rs) table path (suc j)) rate in
       omega arith
 
-  cash-long : length (walkCash (fixedTerm c rs) table path) ≡ c .dates
+  cash-long : length (walkCash (livingTerm c rs) table path) ≡ c .dates
   unfolding walkCash fixedTerm processOf
   cash-long = listed-long (c .dates - 1) _ _ ∙ (let up : suc (c .dates - 1) ≡ c .dates = omega (arith, v .dates-least) in up)
 
   -- along any walk, cash paid is withdrawals less penalties plus excess plus the maturity payment
   pub walk-pays :
-      sum (λ j. getD (walkCash (fixedTerm c rs) table path) j 0) (c .dates) + sum (walkPenalty c rs table path) (c .dates - 1)
+      sum (λ j. getD (walkCash (livingTerm c rs) table path) j 0) (c .dates) + sum (walkPenalty c rs table path) (c .dates - 1)
       ≡ walkDue c rs table path
   unfolding sum walkCash walkCashLast walkPaid fixedTerm processOf paidBy excessPaid
   walk-pays =
       let n = c .dates - 1 in
       let up : suc n ≡ c .dates = omega (arith, v .dates-least) in
-      let X = fixedTerm c rs in
+      let X = livingTerm c rs in
       let all = ap (sum (λ j. getD (walkCash X table path) j 0)) (sym up) ∙ listed-sum n (walkCashOn X table path) _ in
       let amounts : ℕ → ℕ = λ j. walkAmount X table path (suc j) in
       let each =
@@ -94,12 +94,12 @@ pub walk-settles : (bytes list table path cashes : List ℕ) → walkVerdict byt
     → sum (λ j. getD (walkCashes bytes list table path cashes) j 0) (termsOf bytes .dates)
     + sum (walkPenalty (termsOf bytes) (returnsOf list) table path) (termsOf bytes .dates - 1)
     ≡ walkDue (termsOf bytes) (returnsOf list) table path
-unfolding walkVerdict walkChecks walkCashes onSuccess productOf
+unfolding walkVerdict walkChecks walkCashes onSuccess livingOf
 walk-settles bytes list table path cashes a =
     let c = termsOf bytes in
     let rs = returnsOf list in
     let v = both-terms bytes list (then-earlier _ _ a) in
-    let cash = walkCash (fixedTerm c rs) table path in
+    let cash = walkCash (livingTerm c rs) table path in
     let long = cash-long c rs table path v in
     let front = sum-eq (λ j. getD (cash ++ drop (c .dates) cashes) j 0) (λ j. getD cash j 0) (c .dates) (λ j l.
     List·getD-append cash (drop (c .dates) cashes) 0 j (omega arith)) in

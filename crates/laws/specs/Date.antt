@@ -1,15 +1,16 @@
--- Laws of one date: the admissible sets, and how the guarantee falls. Assumes nothing.
+-- Laws of one date: the admissible sets, how the guarantee falls, and shares at death. Assumes nothing.
 use mathlib.Core.Bool.{Bool, true, false, cond, _&&_, _||_}
 use mathlib.Core.Logic.{_⊎_, inl, inr}
-use mathlib.Core.Path.{_≡_, refl}
+use mathlib.Core.Path.{_≡_, refl, ap, sym, _∙_}
 use Prim.Native.Nat.{ℕ, _+_, _-_, _*_, _/_, _≤_, _<_, min, max}
-use native.Mathlib.Nat.{le-refl, le-trans, max-le, min-le-left, min-le-right, sub-le}
+use native.Mathlib.Nat.{le-refl, le-trans, max-le, min-le-left, min-le-right, sub-le, mul-le-mul-left, div-le-of-le-mul}
+use native.Mathlib.Nat.{add-comm, mul-assoc, mul-add, add-mul, mul-add-div, add-mul-div-right}
 use native.Mathlib.Omega.{arith}
-use lib.Dec.{T, leb, ltb, eqb, eqb→eq, eqb-refl, leb→le, le→leb, ltb→lt, lt→ltb}
+use lib.Dec.{T, lit<, leb, ltb, eqb, eqb→eq, eqb-refl, leb→le, le→leb, ltb→lt, lt→ltb}
 use Rattle.decision.specs.Choice.{and-left, and-right, and-intro}
-use Rattle.rules.specs.Contract.{factorMost}
+use Rattle.rules.specs.Contract.{rateMost, factorMost}
 use Rattle.rules.specs.Date.{Behaviour, static, mixed, dynamic, freeAmount, largestAmount, surrenders, admits, cash}
-use Rattle.rules.specs.Date.{guaranteeAfter, balanceAfter, nextAccount, excess, excessPaid}
+use Rattle.rules.specs.Date.{guaranteeAfter, balanceAfter, nextAccount, excess, excessPaid, deathPayment, deathShare}
 use Rattle.rules.specs.Facts.{lifted-le}
 
 -- ---- admissible amounts
@@ -123,3 +124,63 @@ period-le rate m fee top w t factor h k l =
 pub admits-surrender : (m w : ℕ) → m < w → T (admits mixed m w w)
 unfolding admits surrenders
 admits-surrender m w h = or-right (eqb w m) (ltb m w && eqb w w) (and-intro (ltb m w) (eqb w w) (lt→ltb m w h) (eqb-refl w))
+
+-- ---- shares at death
+-- more reached is never a smaller share
+pub share-mono : (rate payment : ℕ) {v w : ℕ} → v ≤ w → deathShare rate v payment ≤ deathShare rate w payment
+unfolding deathShare
+share-mono rate payment l = let m = mul-le-mul-left (10000 - rate) l in omega arith
+
+-- rate and complement are 10,000
+whole : (rate x : ℕ) → rate ≤ rateMost → (10000 - rate) * x + rate * x ≡ 10000 * x
+whole rate x h = sym (add-mul (10000 - rate) rate x) ∙ ap (λ (n : ℕ). n * x) (let e : 10000 - rate + rate ≡ 10000 = omega arith in e)
+
+-- a share is at most what neither value nor payment passes
+pub share-le : {rate value payment : ℕ} (x : ℕ) → rate ≤ rateMost → value ≤ x → payment ≤ x → deathShare rate value payment ≤ x
+unfolding deathShare
+share-le {rate} x h l m =
+    let lives = mul-le-mul-left (10000 - rate) l in
+    let dies = mul-le-mul-left rate m in
+    let all = whole rate x h in
+    div-le-of-le-mul 10000 (omega arith)
+
+-- at rate 0 it is the value, at rate 10,000 the payment
+pub share-living : (value payment : ℕ) → deathShare 0 value payment ≡ value
+unfolding deathShare
+share-living value payment = omega arith
+
+pub share-certain : (value payment : ℕ) → deathShare 10000 value payment ≡ payment
+unfolding deathShare
+share-certain value payment = omega arith
+
+-- what is paid to the holder who lives and at death alike passes through unchanged
+share-paid : (rate paid value payment : ℕ) → rate ≤ rateMost
+    → deathShare rate (paid + value) (payment + paid) ≡ paid + deathShare rate value payment
+unfolding deathShare
+share-paid rate paid value payment h =
+    let e : (10000 - rate) * (paid + value) + rate * (payment + paid) ≡ 10000 * paid + ((10000 - rate) * value + rate * payment) =
+    omega (arith, mul-add (10000 - rate) paid value, mul-add rate payment paid, whole rate paid h) in
+    ap (λ (n : ℕ). n / 10000) e ∙ mul-add-div (lit< tt) paid ((10000 - rate) * value + rate * payment)
+
+-- .. and so does an excess: the share of what is reached is the excess and the share of the state's value
+pub share-excess : (rate w a over value : ℕ) → rate ≤ rateMost
+    → deathShare rate (10000 * over + value) (deathPayment w a over) ≡ 10000 * over + deathShare rate value (deathPayment w a 0)
+unfolding deathPayment
+share-excess rate w a over value h =
+    let none : 10000 * max w a ≡ 10000 * max w a + 10000 * 0 = omega arith in
+    share-paid rate (10000 * over) value (10000 * max w a) h ∙ ap (λ (d : ℕ). 10000 * over + deathShare rate value d) none
+
+-- without an excess the payment is whole money, and only what is left to the holder who lives is rounded
+pub share-whole : (rate value w a : ℕ) → deathShare rate value (deathPayment w a 0) ≡ rate * max w a + (10000 - rate) * value / 10000
+unfolding deathShare deathPayment
+share-whole rate value w a =
+    let e : 10000 * max w a + 10000 * 0 ≡ max w a * 10000 = omega arith in
+    let whole = ap (λ (y : ℕ). rate * y) e ∙ sym (mul-assoc rate (max w a) 10000) in
+    ap (λ (y : ℕ). ((10000 - rate) * value + y) / 10000) whole
+    ∙ add-mul-div-right ((10000 - rate) * value) (rate * max w a) (lit< tt)
+    ∙ add-comm ((10000 - rate) * value / 10000) (rate * max w a)
+
+-- a death pays at most 10,000 × what neither account nor guarantee passes, with the excess
+pub death-le : (w a over top : ℕ) → w ≤ top → a ≤ top → deathPayment w a over ≤ 10000 * over + 10000 * top
+unfolding deathPayment
+death-le w a over top h l = let m = max-le h l in omega arith

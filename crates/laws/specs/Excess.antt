@@ -9,19 +9,19 @@ use lib.ListN.{getD, length, take}
 use Rattle.decision.specs.Index.{tabulate-eq}
 use Rattle.decision.specs.Arrivals.{arriving, Alike, value-same, recorded-same, start-same, table-same, start-table-same, start-met-same}
 use Rattle.decision.specs.Layers.{lookup, layer, layers}
-use Rattle.rules.specs.Contract.{Terms, Returns}
+use Rattle.rules.specs.Contract.{Terms, Returns, Rates, living}
 use Rattle.rules.specs.Date.{Behaviour, balanceAfter, liftedAccount, excess, excessPaid}
 use Rattle.rules.specs.Product.{Product, stateValue, recordedAmount, contractValue, valueLayer, amountLayers, suppliedValue}
 use Rattle.rules.specs.Product.{suppliedLayer, walkState, walkAmount, walkHeld, walkPaid, walkCashOn, walkCashLast, walkCash}
 use Rattle.rules.specs.FixedTerm.{State, Held, InRange, admissibleIn, cashIn, afterIn, paidBy, startOf, processOf, layerSize}
-use Rattle.rules.specs.FixedTerm.{layoutOf, fixedTerm}
+use Rattle.rules.specs.FixedTerm.{layoutOf, fixedTerm, livingTerm}
 use Rattle.laws.specs.Accepted.{Valid}
 use Rattle.laws.specs.FixedTerm.{monotone, reached-in-range, after-falls, placed-in-range, size-some}
 use Rattle.laws.specs.Walk.{walk-held}
 
 -- the contract whose ceiling pays nothing, as document 01 has it
-unfoldable pub unpaid : Terms → Returns → Product State Held
-unpaid c rs = record { process = arriving (λ h k. 0) (processOf c rs); admissible = admissibleIn c; layout = layoutOf c }
+unfoldable pub unpaid : Terms → Returns → Rates → Product State Held
+unpaid c rs ds = record { process = arriving (λ h k. 0) (processOf c rs ds); admissible = admissibleIn c; layout = layoutOf c }
 
 -- no return lifts any balance up to top above top
 abbrev pub NoneAbove : Terms → Returns → Type 0
@@ -46,70 +46,72 @@ module _ (c : Terms) (rs : Returns) (v : Valid c) (none : NoneAbove c rs) where
   unfolding paidBy excessPaid excess
   nothing-paid h k l g = let x = none (h .balance) k (g .balance) l in omega arith
 
-  alike : Alike (processOf c rs) (λ h k. 0) (InRange c) (Within c)
-  unfolding processOf startOf afterIn balanceAfter
-  alike = record {
-    starts = record { balance = v .premium; guarantee = le-refl _ };
-    holds = λ i s t g. record { balance = le-trans (sub-le _ _) (g .account); guarantee = after-falls c i s t (g .guarantee) };
-    stays = λ h k l g. reached-in-range c rs h k (g .guarantee);
-    same = nothing-paid;
-  }
-
-  -- values: of the contract, of every state, of the first layer left
-  pub no-excess-value : (b : Behaviour) → contractValue (fixedTerm c rs) b ≡ contractValue (unpaid c rs) b
-  unfolding contractValue fixedTerm unpaid
-  no-excess-value b = start-same (processOf c rs) (monotone c rs) (λ h k. 0) alike (admissibleIn c b)
-
-  pub no-excess-state : (b : Behaviour) (i : ℕ) (s : State) → InRange c s
-      → stateValue (fixedTerm c rs) b i s ≡ stateValue (unpaid c rs) b i s
-  unfolding stateValue fixedTerm unpaid
-  no-excess-state b i s g = value-same (processOf c rs) (monotone c rs) (λ h k. 0) alike (admissibleIn c b) i s g
-
   same-layer : (f g : State → ℕ) → ((s : State) → InRange c s → f s ≡ g s) → layer (layoutOf c) f ≡ layer (layoutOf c) g
   unfolding layer layoutOf
   same-layer f g e = tabulate-eq (layerSize c) _ _ (λ k l. e _ (placed-in-range c k l))
 
-  pub no-excess-layer : (b : Behaviour) → valueLayer (fixedTerm c rs) b ≡ valueLayer (unpaid c rs) b
-  unfolding valueLayer fixedTerm unpaid
-  no-excess-layer b = same-layer _ _ (no-excess-state b 1)
+  module _ (ds : Rates) where
+    alike : Alike (processOf c rs ds) (λ h k. 0) (InRange c) (Within c)
+    unfolding processOf startOf afterIn balanceAfter
+    alike = record {
+      starts = record { balance = v .premium; guarantee = le-refl _ };
+      holds = λ i s t g. record { balance = le-trans (sub-le _ _) (g .account); guarantee = after-falls c i s t (g .guarantee) };
+      stays = λ h k l g. reached-in-range c rs h k (g .guarantee);
+      same = nothing-paid;
+    }
 
-  -- the table
-  pub no-excess-table : (b : Behaviour) → amountLayers (fixedTerm c rs) b ≡ amountLayers (unpaid c rs) b
-  unfolding amountLayers recordedAmount layers fixedTerm unpaid layoutOf processOf
-  no-excess-table b = tabulate-eq ((c .dates - 1) * layerSize c) _ _ (λ e l.
-      recorded-same (processOf c rs) (monotone c rs) (λ h k. 0) alike (admissibleIn c b) _ _ (placed-in-range c _ (mod-lt e (size-some c))))
+    -- values: of the contract, of every state, of the first layer left
+    pub no-excess-value : (b : Behaviour) → contractValue (fixedTerm c rs ds) b ≡ contractValue (unpaid c rs ds) b
+    unfolding contractValue fixedTerm unpaid
+    no-excess-value b = start-same (processOf c rs ds) (monotone c rs ds) (λ h k. 0) alike (admissibleIn c b)
 
-  -- a supplied table
-  pub no-excess-supplied : (table : List ℕ) → suppliedValue (fixedTerm c rs) table ≡ suppliedValue (unpaid c rs) table
-  unfolding suppliedValue fixedTerm unpaid
-  no-excess-supplied table = start-table-same (processOf c rs) (monotone c rs) (λ h k. 0) alike (lookup (layoutOf c) table)
+    pub no-excess-state : (b : Behaviour) (i : ℕ) (s : State) → InRange c s
+        → stateValue (fixedTerm c rs ds) b i s ≡ stateValue (unpaid c rs ds) b i s
+    unfolding stateValue fixedTerm unpaid
+    no-excess-state b i s g = value-same (processOf c rs ds) (monotone c rs ds) (λ h k. 0) alike (admissibleIn c b) i s g
 
-  pub no-excess-supplied-layer : (table : List ℕ) → suppliedLayer (fixedTerm c rs) table ≡ suppliedLayer (unpaid c rs) table
-  unfolding suppliedLayer fixedTerm unpaid
-  no-excess-supplied-layer table =
-      same-layer _ _ (table-same (processOf c rs) (monotone c rs) (λ h k. 0) alike (lookup (layoutOf c) table) 1)
+    pub no-excess-layer : (b : Behaviour) → valueLayer (fixedTerm c rs ds) b ≡ valueLayer (unpaid c rs ds) b
+    unfolding valueLayer fixedTerm unpaid
+    no-excess-layer b = same-layer _ _ (no-excess-state b 1)
+
+    -- the table
+    pub no-excess-table : (b : Behaviour) → amountLayers (fixedTerm c rs ds) b ≡ amountLayers (unpaid c rs ds) b
+    unfolding amountLayers recordedAmount layers fixedTerm unpaid layoutOf processOf
+    no-excess-table b = tabulate-eq ((c .dates - 1) * layerSize c) _ _ (λ e l.
+        recorded-same (processOf c rs ds) (monotone c rs ds) (λ h k. 0) alike (admissibleIn c b) _ _
+        (placed-in-range c _ (mod-lt e (size-some c))))
+
+    -- a supplied table
+    pub no-excess-supplied : (table : List ℕ) → suppliedValue (fixedTerm c rs ds) table ≡ suppliedValue (unpaid c rs ds) table
+    unfolding suppliedValue fixedTerm unpaid
+    no-excess-supplied table = start-table-same (processOf c rs ds) (monotone c rs ds) (λ h k. 0) alike (lookup (layoutOf c) table)
+
+    pub no-excess-supplied-layer : (table : List ℕ) → suppliedLayer (fixedTerm c rs ds) table ≡ suppliedLayer (unpaid c rs ds) table
+    unfolding suppliedLayer fixedTerm unpaid
+    no-excess-supplied-layer table =
+        same-layer _ _ (table-same (processOf c rs ds) (monotone c rs ds) (λ h k. 0) alike (lookup (layoutOf c) table) 1)
 
   -- a walk whose numbers are those of returns
   module _ (table path : List ℕ) (long : length path ≡ c .dates) (numbers : (j : ℕ) → j < c .dates → getD path j 0 < rs .count) where
-    state-same : (i : ℕ) → walkState (fixedTerm c rs) table path i ≡ walkState (unpaid c rs) table path i
+    state-same : (i : ℕ) → walkState (livingTerm c rs) table path i ≡ walkState (unpaid c rs living) table path i
     unfolding walkState fixedTerm unpaid
-    state-same i = start-met-same (processOf c rs) (λ h k. 0) (lookup (layoutOf c) table) (take i path)
+    state-same i = start-met-same (processOf c rs living) (λ h k. 0) (lookup (layoutOf c) table) (take i path)
 
-    amount-same : (i : ℕ) → walkAmount (fixedTerm c rs) table path i ≡ walkAmount (unpaid c rs) table path i
+    amount-same : (i : ℕ) → walkAmount (livingTerm c rs) table path i ≡ walkAmount (unpaid c rs living) table path i
     unfolding walkAmount fixedTerm unpaid
     amount-same i = ap (lookup (layoutOf c) table i) (state-same i)
 
-    none-paid : (j : ℕ) → j < c .dates → walkPaid (fixedTerm c rs) table path j ≡ 0
+    none-paid : (j : ℕ) → j < c .dates → walkPaid (livingTerm c rs) table path j ≡ 0
     unfolding walkPaid fixedTerm processOf
     none-paid j l =
         let h = walk-held c rs table path (v .premium) j (omega arith) in
-        nothing-paid (walkHeld (fixedTerm c rs) table path j) _ (numbers j l) (record { balance = h .0; guarantee = h .1 })
+        nothing-paid (walkHeld (livingTerm c rs) table path j) _ (numbers j l) (record { balance = h .0; guarantee = h .1 })
 
-    pub no-excess-walk : walkCash (fixedTerm c rs) table path ≡ walkCash (unpaid c rs) table path
+    pub no-excess-walk : walkCash (livingTerm c rs) table path ≡ walkCash (unpaid c rs living) table path
     unfolding walkCash walkCashOn walkCashLast walkPaid fixedTerm unpaid processOf
     no-excess-walk =
         ap₂ _++_
         (tabulate-eq (c .dates - 1) _ _ (λ j l.
         ap₂ _+_ (none-paid j (omega arith)) (ap₂ (cashIn c (suc j)) (state-same (suc j)) (amount-same (suc j)))))
         (ap (λ (x : ℕ). x ∷ []) (ap₂ _+_ (none-paid (c .dates - 1) (omega (arith, v .dates-least)))
-        (ap (processOf c rs .final) (state-same (c .dates)))))
+        (ap (processOf c rs living .final) (state-same (c .dates)))))

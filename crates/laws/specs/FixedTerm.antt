@@ -5,26 +5,28 @@ use native.Mathlib.Omega.{arith}
 use Rattle.decision.specs.Index.{sum-le}
 use Rattle.decision.specs.Process.{Monotone, Open, Closed}
 use Rattle.decision.specs.Layers.{Placed, low-digit, high-digit, two-digits}
-use Rattle.rules.specs.Contract.{Terms, Returns}
+use Rattle.rules.specs.Contract.{Terms, Returns, Rates}
 use Rattle.rules.specs.Date.{Behaviour, largestAmount, discounted}
-use Rattle.rules.specs.FixedTerm.{State, Held, InRange, freeIn, admissibleIn, limitIn, afterIn, reachBy, expectOver, startOf, processOf, layerSize, layoutOf, fixedTerm}
+use Rattle.rules.specs.FixedTerm.{State, Held, InRange, freeIn, admissibleIn, limitIn, afterIn, reachBy, deathBy, expectOver}
+use Rattle.rules.specs.FixedTerm.{startOf, processOf, layerSize, layoutOf, fixedTerm}
 use Rattle.rules.specs.Operations.{tableSize}
 use Rattle.laws.specs.Accepted.{Valid}
-use Rattle.laws.specs.Date.{static-mixed, mixed-dynamic, admits-free, admits-within, guarantee-le, account-le}
+use Rattle.laws.specs.Date.{static-mixed, mixed-dynamic, admits-free, admits-within, guarantee-le, account-le, share-mono}
 use Rattle.laws.specs.Demand.{Sound}
 
 discounted-le : (d x y : ℕ) → x ≤ y → discounted d x ≤ discounted d y
 unfolding discounted
 discounted-le d x y l = let m = mul-le-mul-left d l in omega arith
 
-pub monotone : (c : Terms) (rs : Returns) → Monotone (processOf c rs)
+pub monotone : (c : Terms) (rs : Returns) (ds : Rates) → Monotone (processOf c rs ds)
 unfolding processOf expectOver
-monotone c rs i h v w g =
-    discounted-le (c .discount) _ _ (sum-le (λ k. rs .weight k * v k) (λ k. rs .weight k * w k) (rs .count) (λ k l. mul-le-mul-left (rs .weight k) (g k l)))
+monotone c rs ds i h v w g =
+    discounted-le (c .discount) _ _
+    (sum-le _ _ (rs .count) (λ k l. mul-le-mul-left (rs .weight k) (share-mono (ds i) (deathBy c rs h k) (g k l))))
 
-pub opened : (c : Terms) (rs : Returns) (b : Behaviour) → Open (processOf c rs) (admissibleIn c b)
+pub opened : (c : Terms) (rs : Returns) (ds : Rates) (b : Behaviour) → Open (processOf c rs ds) (admissibleIn c b)
 unfolding processOf admissibleIn limitIn largestAmount
-opened c rs b = record {
+opened c rs ds b = record {
   some = freeIn c;
   admissible = λ s. admits-free b (freeIn c s) (s .account);
   within = λ s t p. admits-within b (freeIn c s) (s .account) t p;
@@ -40,9 +42,9 @@ unfolding afterIn
 after-falls c i s t g = le-trans (guarantee-le (freeIn c s) (s .account) (s .guarantee) t) (omega arith)
 
 -- whatever is withdrawn, the next state has an entry
-pub closed : (c : Terms) (rs : Returns) (b : Behaviour) → Closed (processOf c rs) (admissibleIn c b) (InRange c)
+pub closed : (c : Terms) (rs : Returns) (ds : Rates) (b : Behaviour) → Closed (processOf c rs ds) (admissibleIn c b) (InRange c)
 unfolding processOf afterIn startOf
-closed c rs b = record {
+closed c rs ds b = record {
   starts = λ k l. reached-in-range c rs (startOf c) k (le-refl _);
   stays = λ i s t k g p l. reached-in-range c rs (afterIn c i s t) k (after-falls c i s t (g .guarantee));
 }
@@ -89,13 +91,13 @@ placed c = record {
       λ i. record { account = p i; guarantee = q i };
 }
 
-pub sound : (c : Terms) (rs : Returns) → Valid c → Sound (fixedTerm c rs)
+pub sound : (c : Terms) (rs : Returns) (ds : Rates) → Valid c → Sound (fixedTerm c rs ds)
 unfolding fixedTerm processOf admissibleIn layoutOf
-sound c rs v = record {
+sound c rs ds v = record {
   dates = v .dates-least;
-  monotone = monotone c rs;
-  opened = opened c rs;
-  closed = closed c rs;
+  monotone = monotone c rs ds;
+  opened = opened c rs ds;
+  closed = closed c rs ds;
   static-mixed = λ s t p. static-mixed (freeIn c s) (s .account) t p;
   mixed-dynamic = λ s t p. mixed-dynamic (freeIn c s) (s .account) t p;
   placed = placed c;

@@ -12,5 +12,6 @@ pub mod Cash
 pub mod Booking
 pub mod Supplied
 pub mod Excess
+pub mod Death
 pub mod Map
 pub mod Narrow

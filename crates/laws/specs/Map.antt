@@ -12,7 +12,7 @@ use Rattle.decision.specs.Bits.{bit, wordsFor, wordOf, wordsOf, bitAt, ones, wo
 use Rattle.decision.specs.Choice.{and-left, and-right}
 use Rattle.decision.specs.Optimal.{recorded-best}
 use Rattle.decision.specs.Layers.{lookup, layers, entry, entry-within, entry-state}
-use Rattle.rules.specs.Contract.{Terms, Returns, termsOf, returnsOf}
+use Rattle.rules.specs.Contract.{Terms, Returns, Rates, termsOf, returnsOf, ratesOf}
 use Rattle.rules.specs.Date.{static, surrenders, admits}
 use Rattle.rules.specs.Product.{recordedAmount, amountLayers, Claim}
 use Rattle.rules.specs.FixedTerm.{State, InRange, freeIn, admissibleIn, processOf, layerSize, layoutOf, fixedTerm}
@@ -74,69 +74,69 @@ m-no-surrender m w =
     let e = eqb→eq m w (and-right (ltb m w) (eqb m w) p) in
     omega arith)
 
-module _ (c : Terms) (rs : Returns) (rest : List ℕ) where
-  static-clear : (e : ℕ) → e < tableSize c → surrendered c (amountLayers (fixedTerm c rs) static ++ rest) e ≡ false
+module _ (c : Terms) (rs : Returns) (ds : Rates) (rest : List ℕ) where
+  static-clear : (e : ℕ) → e < tableSize c → surrendered c (amountLayers (fixedTerm c rs ds) static ++ rest) e ≡ false
   unfolding surrendered amountLayers layers recordedAmount tableSize fixedTerm processOf layoutOf admissibleIn admits
   static-clear e l =
       let size = layerSize c in
       let s = layoutOf c .stateAt (e % size) in
       let m = freeIn c s in
       let before = div-lt-iff-lt-mul (size-some c) .1 l in
-      let best = recorded-best (processOf c rs) (admissibleIn c static) (opened c rs static) (suc (e / size)) s (omega arith) in
-      let free = eqb→eq (recordedAmount (fixedTerm c rs) static (suc (e / size)) s) m (best .passes) in
+      let best = recorded-best (processOf c rs ds) (admissibleIn c static) (opened c rs ds static) (suc (e / size)) s (omega arith) in
+      let free = eqb→eq (recordedAmount (fixedTerm c rs ds) static (suc (e / size)) s) m (best .passes) in
       ap (λ (t : ℕ). surrenders m (s .account) t) (getD-tabulate _ e _ rest l ∙ free) ∙ m-no-surrender m (s .account)
 
   -- THE STATIC MAP IS EMPTY
-  pub static-map : surrenderMap c (amountLayers (fixedTerm c rs) static ++ rest) ≡ replicate (mapSize c) 0
+  pub static-map : surrenderMap c (amountLayers (fixedTerm c rs ds) static ++ rest) ≡ replicate (mapSize c) 0
   unfolding surrenderMap mapSize
   static-map = words-none _ (tableSize c) static-clear
 
-  pub static-count : surrenderCount c (amountLayers (fixedTerm c rs) static ++ rest) ≡ 0
+  pub static-count : surrenderCount c (amountLayers (fixedTerm c rs ds) static ++ rest) ≡ 0
   unfolding surrenderCount
   static-count = bits-unset _ (tableSize c) static-clear
 
 -- ---- the call
-module _ (bytes list : List ℕ) (behaviour : ℕ) (work table map : List ℕ) where
-  pub mapping-refused : {n p : ℕ} → valuingVerdict bytes list behaviour work table ≡ refused n p
-      → mappingVerdict bytes list behaviour work table map ≡ refused n p
+module _ (bytes list rates : List ℕ) (behaviour : ℕ) (work table map : List ℕ) where
+  pub mapping-refused : {n p : ℕ} → valuingVerdict bytes list rates behaviour work table ≡ refused n p
+      → mappingVerdict bytes list rates behaviour work table map ≡ refused n p
   unfolding valuingVerdict mappingVerdict mappingChecks
   mapping-refused e = then-refused _ (mapChecks (termsOf bytes) map) e
 
-  pub mapping-short : valuingVerdict bytes list behaviour work table ≡ accepted → short (mapSize (termsOf bytes)) map ≡ true
-      → mappingVerdict bytes list behaviour work table map ≡ refused 16 0
+  pub mapping-short : valuingVerdict bytes list rates behaviour work table ≡ accepted → short (mapSize (termsOf bytes)) map ≡ true
+      → mappingVerdict bytes list rates behaviour work table map ≡ refused 16 0
   unfolding valuingVerdict mappingVerdict mappingChecks mapChecks verdict
-  mapping-short e f = then-accepted (valuingChecks bytes list behaviour work table) (mapChecks (termsOf bytes) map) e ∙ rw f
+  mapping-short e f = then-accepted (valuingChecks bytes list rates behaviour work table) (mapChecks (termsOf bytes) map) e ∙ rw f
 
   -- a map that is long enough: the verdict is that of valuing
   pub mapping-same : short (mapSize (termsOf bytes)) map ≡ false
-      → mappingVerdict bytes list behaviour work table map ≡ valuingVerdict bytes list behaviour work table
+      → mappingVerdict bytes list rates behaviour work table map ≡ valuingVerdict bytes list rates behaviour work table
   unfolding valuingVerdict mappingVerdict mappingChecks mapChecks verdict
   mapping-same f =
-      let ks = valuingChecks bytes list behaviour work table in
+      let ks = valuingChecks bytes list rates behaviour work table in
       verdict-append ks (mapChecks (termsOf bytes) map) ∙ rw f (go (verdict ks))
     where
       go : (v : Verdict) → andThen v accepted ≡ v
       go accepted = refl
       go (refused n p) = refl
 
-  pub mapping-accepts : mappingAnswer bytes list behaviour work table map .number ≡ 0
-      → mappingVerdict bytes list behaviour work table map ≡ accepted
+  pub mapping-accepts : mappingAnswer bytes list rates behaviour work table map .number ≡ 0
+      → mappingVerdict bytes list rates behaviour work table map ≡ accepted
   unfolding mappingAnswer answer mappingVerdict Positive
-  mapping-accepts e = zero-accepts (mappingChecks bytes list behaviour work table map) (rw mapping-order (omega arith)) e
+  mapping-accepts e = zero-accepts (mappingChecks bytes list rates behaviour work table map) (rw mapping-order (omega arith)) e
 
   -- what is accepted with a map is accepted without
-  pub mapping-valued : mappingVerdict bytes list behaviour work table map ≡ accepted
-      → valuingVerdict bytes list behaviour work table ≡ accepted
+  pub mapping-valued : mappingVerdict bytes list rates behaviour work table map ≡ accepted
+      → valuingVerdict bytes list rates behaviour work table ≡ accepted
   unfolding valuingVerdict mappingVerdict mappingChecks
   mapping-valued e = then-earlier _ _ e
 
   -- WHAT STAYS: lent a map that is long enough, the call answers what valuing answers and leaves what it leaves
   pub record SameAsValuing : Type 0 where
-    pub answer-is : mappingAnswer bytes list behaviour work table map ≡ valuingAnswer bytes list behaviour work table
-    pub work-is : mappingWork bytes list behaviour work table map ≡ valuingWork bytes list behaviour work table
-    pub table-is : mappingTable bytes list behaviour work table map ≡ valuingTable bytes list behaviour work table
+    pub answer-is : mappingAnswer bytes list rates behaviour work table map ≡ valuingAnswer bytes list rates behaviour work table
+    pub work-is : mappingWork bytes list rates behaviour work table map ≡ valuingWork bytes list rates behaviour work table
+    pub table-is : mappingTable bytes list rates behaviour work table map ≡ valuingTable bytes list rates behaviour work table
 
-  same-by : mappingVerdict bytes list behaviour work table map ≡ valuingVerdict bytes list behaviour work table → SameAsValuing
+  same-by : mappingVerdict bytes list rates behaviour work table map ≡ valuingVerdict bytes list rates behaviour work table → SameAsValuing
   unfolding mappingAnswer mappingWork mappingTable valuingAnswer valuingWork valuingTable
   same-by e = record { answer-is = rw e; work-is = rw e; table-is = rw e }
 
@@ -144,24 +144,26 @@ module _ (bytes list : List ℕ) (behaviour : ℕ) (work table map : List ℕ) w
   map-keeps-valuing f = same-by (mapping-same f)
 
   -- the claim of the third demand, of the value that it reports and the table that it leaves
-  pub mapping-claim : mappingAnswer bytes list behaviour work table map .number ≡ 0
-      → Claim (productOf bytes list) (behaviourOf behaviour)
-      (mappingAnswer bytes list behaviour work table map .value)
-      (mappingTable bytes list behaviour work table map)
+  pub mapping-claim : mappingAnswer bytes list rates behaviour work table map .number ≡ 0
+      → Claim (productOf bytes list rates) (behaviourOf behaviour)
+      (mappingAnswer bytes list rates behaviour work table map .value)
+      (mappingTable bytes list rates behaviour work table map)
   mapping-claim zero-number =
       let yes-to = mapping-accepts zero-number in
       let same = same-by (yes-to ∙ sym (mapping-valued yes-to)) in
-      let told = valuing-claim bytes list behaviour work table (ap (λ (a : Answer). a .number) (sym (same .answer-is)) ∙ zero-number) in
+      let told =
+      valuing-claim bytes list rates behaviour work table (ap (λ (a : Answer). a .number) (sym (same .answer-is)) ∙ zero-number) in
       rw (same .answer-is, same .table-is) told
 
 -- what a static call leaves in the map, and counts
-pub static-map-empty : (bytes list work table map : List ℕ) → mappingVerdict bytes list (behaviourNumber static) work table map ≡ accepted
-    → (mappingMap bytes list (behaviourNumber static) work table map
+pub static-map-empty : (bytes list rates work table map : List ℕ)
+    → mappingVerdict bytes list rates (behaviourNumber static) work table map ≡ accepted
+    → (mappingMap bytes list rates (behaviourNumber static) work table map
     ≡ replicate (mapSize (termsOf bytes)) 0 ++ drop (mapSize (termsOf bytes)) map)
-    × (mappingCount bytes list (behaviourNumber static) work table map ≡ 0)
+    × (mappingCount bytes list rates (behaviourNumber static) work table map ≡ 0)
 unfolding mappingMap mappingCount mappingTable onSuccess productOf behaviourNumber behaviourOf
-static-map-empty bytes list work table map e =
+static-map-empty bytes list rates work table map e =
     let c = termsOf bytes in
     let rest = drop (tableSize c) table in
-    let words = ap (λ (xs : List ℕ). xs ++ drop (mapSize c) map) (static-map c (returnsOf list) rest) in
-    (rw e words, rw e (static-count c (returnsOf list) rest))
+    let words = ap (λ (xs : List ℕ). xs ++ drop (mapSize c) map) (static-map c (returnsOf list) (ratesOf rates) rest) in
+    (rw e words, rw e (static-count c (returnsOf list) (ratesOf rates) rest))

@@ -10,21 +10,22 @@ use borrow.Author.Tests.{leb-false}
 use Rattle.decision.specs.Index.{tabulate, first, all-fail}
 use Rattle.decision.specs.Process.{Table, tableValue, startTableValue, Decides}
 use Rattle.decision.specs.Layers.{lookup, layer}
-use Rattle.rules.specs.Contract.{Terms, Returns, termsOf, returnsOf}
-use Rattle.rules.specs.Date.{Behaviour, dynamic}
+use Rattle.rules.specs.Contract.{Terms, Returns, Rates, termsOf, returnsOf, ratesOf}
+use Rattle.rules.specs.Date.{Behaviour, dynamic, maturityValue}
 use Rattle.rules.specs.Product.{stateValue, contractValue, valueLayer, suppliedValue, suppliedLayer, walkState, walkAmount}
 use Rattle.rules.specs.Product.{walkPaid, walkCashOn, walkCashLast, walkCash}
 use Rattle.rules.specs.FixedTerm.{State, InRange, freeIn, admissibleIn, rateIn, cashIn, processOf, layerSize, layoutOf, fixedTerm}
-use Rattle.rules.specs.Refusals.{checkEach, accepted, recordChecks, listChecks}
-use Rattle.rules.specs.Operations.{productOf, answer, behaviourOf, tableSize, valuingVerdict, valuingAnswer, badEntry}
+use Rattle.rules.specs.FixedTerm.{livingTerm}
+use Rattle.rules.specs.Refusals.{checkEach, accepted, recordChecks, listChecks, inputChecks}
+use Rattle.rules.specs.Operations.{productOf, livingOf, answer, behaviourOf, tableSize, valuingVerdict, valuingAnswer, badEntry}
 use Rattle.rules.specs.Operations.{tableChecks, suppliedChecks, suppliedVerdict, suppliedAnswer, badDate, pathChecks, walkChecks}
 use Rattle.rules.specs.Operations.{walkVerdict}
-use Rattle.laws.specs.Accepted.{Valid, ValidReturns, AllPass, all-pass, pass-right, not-not, then-earlier, both-terms}
-use Rattle.laws.specs.Accepted.{both-returns, success-reports}
+use Rattle.laws.specs.Accepted.{Valid, ValidReturns, ValidInput, AllPass, all-pass, pass-right, not-not, then-earlier}
+use Rattle.laws.specs.Accepted.{both-terms, both-returns, input-valid, success-reports}
 use Rattle.laws.specs.Date.{cash-le}
 use Rattle.laws.specs.FixedTerm.{placed-in-range}
 use Rattle.laws.specs.Bounds.{amount-le, ends, stateMost, state-value-le, table-value-le, contract-value-le, table-start-le}
-use Rattle.laws.specs.ThirdDemand.{valuing-terms, valuing-returns, valuing-reports}
+use Rattle.laws.specs.ThirdDemand.{valuing-valid, valuing-reports}
 use Rattle.laws.specs.Supplied.{all-admitted}
 use Rattle.laws.specs.Walk.{walk-in-range, walk-admits, walk-paid-le}
 
@@ -36,39 +37,40 @@ value-narrow c v i l =
     let p = mul-le-mul n t in
     omega arith
 
-module _ (c : Terms) (rs : Returns) (v : Valid c) (u : ValidReturns rs) where
+module _ (c : Terms) (rs : Returns) (ds : Rates) (v : ValidInput c rs ds) where
   pub state-value-narrow : (b : Behaviour) (i : ℕ) (s : State) → 1 ≤ i → InRange c s
-      → stateValue (fixedTerm c rs) b i s < 2 ^ 32
-  state-value-narrow b i s h g = let l = state-value-le c rs v u b i s g in let m = value-narrow c v i h in omega arith
+      → stateValue (fixedTerm c rs ds) b i s < 2 ^ 32
+  state-value-narrow b i s h g = let l = state-value-le c rs ds v b i s g in let m = value-narrow c (v .terms) i h in omega arith
 
-  pub contract-value-narrow : (b : Behaviour) → contractValue (fixedTerm c rs) b < 2 ^ 32
-  contract-value-narrow b = let l = contract-value-le c rs v u b in let m = value-narrow c v 1 (le-refl 1) in omega arith
+  pub contract-value-narrow : (b : Behaviour) → contractValue (fixedTerm c rs ds) b < 2 ^ 32
+  contract-value-narrow b = let l = contract-value-le c rs ds v b in let m = value-narrow c (v .terms) 1 (le-refl 1) in omega arith
 
   -- the same of a table whose entries are admissible
   module _ (d : Table State)
-      (admits : (i : ℕ) (s : State) → Decides (processOf c rs) (InRange c) i s → T (admissibleIn c dynamic s (d i s)))
+      (admits : (i : ℕ) (s : State) → Decides (processOf c rs ds) (InRange c) i s → T (admissibleIn c dynamic s (d i s)))
     where
       pub table-value-narrow : (i : ℕ) (s : State) → 1 ≤ i → i ≤ c .dates → InRange c s
-          → tableValue (processOf c rs) d i s < 2 ^ 32
+          → tableValue (processOf c rs ds) d i s < 2 ^ 32
       table-value-narrow i s l m g =
-          let x = table-value-le c rs v u d admits i s l m g in
-          let y = value-narrow c v i l in
+          let x = table-value-le c rs ds v d admits i s l m g in
+          let y = value-narrow c (v .terms) i l in
           omega arith
 
-      pub table-start-narrow : startTableValue (processOf c rs) d < 2 ^ 32
-      table-start-narrow = let x = table-start-le c rs v u d admits in let y = value-narrow c v 1 (le-refl 1) in omega arith
+      pub table-start-narrow : startTableValue (processOf c rs ds) d < 2 ^ 32
+      table-start-narrow = let x = table-start-le c rs ds v d admits in let y = value-narrow c (v .terms) 1 (le-refl 1) in omega arith
 
-  -- cash, and the payment at maturity, each with what is paid on arrival
-  pub cash-narrow : (b : Behaviour) (i : ℕ) (s : State) (t paid : ℕ) → InRange c s → T (admissibleIn c b s t) → paid ≤ 20000 * c .top
-      → paid + cashIn c i s t < 2 ^ 32
-  unfolding cashIn
-  cash-narrow b i s t paid g p few =
-      let l = cash-le (rateIn c i) (freeIn c s) t in
-      let m = amount-le c rs v u b s t g p in
-      omega (arith, v .top)
+-- cash, and the payment at maturity, each with what is paid on arrival
+pub cash-narrow : {c : Terms} → Valid c → (b : Behaviour) (i : ℕ) (s : State) (t paid : ℕ) → InRange c s → T (admissibleIn c b s t)
+    → paid ≤ 20000 * c .top → paid + cashIn c i s t < 2 ^ 32
+unfolding cashIn
+cash-narrow {c} v b i s t paid g p few =
+    let l = cash-le (rateIn c i) (freeIn c s) t in
+    let m = amount-le v b s t g p in
+    omega (arith, v .top)
 
-  pub maturity-narrow : (s : State) (paid : ℕ) → InRange c s → paid ≤ 20000 * c .top → paid + processOf c rs .final s < 2 ^ 32
-  maturity-narrow s paid g few = omega (arith, ends c rs v u s g, v .top)
+pub maturity-narrow : {c : Terms} → Valid c → (s : State) (paid : ℕ) → InRange c s → paid ≤ 20000 * c .top
+    → paid + maturityValue (s .account) (s .guarantee) < 2 ^ 32
+maturity-narrow v s paid g few = omega (arith, ends v s g, v .top)
 
 -- ---- lists
 abbrev pub AllNarrow : List ℕ → Type 0
@@ -93,25 +95,26 @@ layer-narrow c f h =
 -- ---- a walk in which no date is bad
 module _ (c : Terms) (rs : Returns) (table path : List ℕ) (none : c .dates - 1 ≤ first (badDate c rs table path) (c .dates - 1)) where
   pub walk-narrow : Valid c → ValidReturns rs → length path ≡ c .dates → ((j : ℕ) → j < c .dates → getD path j 0 < rs .count)
-      → AllNarrow (walkCash (fixedTerm c rs) table path)
+      → AllNarrow (walkCash (livingTerm c rs) table path)
   unfolding walkCash walkCashOn walkCashLast fixedTerm processOf
   walk-narrow v u long numbers = tabulate-narrow (c .dates - 1) _ _ pays ends
     where
-      arrives : (j : ℕ) → j < c .dates → walkPaid (fixedTerm c rs) table path j ≤ 20000 * c .top
+      arrives : (j : ℕ) → j < c .dates → walkPaid (livingTerm c rs) table path j ≤ 20000 * c .top
       arrives j l = walk-paid-le c rs table path v j (omega arith) (u .factor _ (numbers j l))
 
-      pays : (j : ℕ) → j < c .dates - 1 → walkCashOn (fixedTerm c rs) table path j < 2 ^ 32
+      pays : (j : ℕ) → j < c .dates - 1 → walkCashOn (livingTerm c rs) table path j < 2 ^ 32
       pays j l =
-          cash-narrow c rs v u dynamic (suc j) _ _ _ (walk-in-range c rs table path j (omega arith))
+          cash-narrow v dynamic (suc j) _ _ _ (walk-in-range c rs table path j (omega arith))
           (walk-admits c rs table path none j l) (arrives j (omega arith))
 
-      last : InRange c (walkState (fixedTerm c rs) table path (c .dates))
+      last : InRange c (walkState (livingTerm c rs) table path (c .dates))
       last =
           let up : suc (c .dates - 1) ≡ c .dates = omega (arith, v .dates-least) in
-          subst (λ (n : ℕ). InRange c (walkState (fixedTerm c rs) table path n)) up (walk-in-range c rs table path (c .dates - 1) (omega arith))
+          subst (λ (n : ℕ). InRange c (walkState (livingTerm c rs) table path n)) up
+          (walk-in-range c rs table path (c .dates - 1) (omega arith))
 
-      ends : AllNarrow (walkCashLast (fixedTerm c rs) table path ∷ [])
-      ends zero = maturity-narrow c rs v u _ _ last (arrives (c .dates - 1) (omega (arith, v .dates-least)))
+      ends : AllNarrow (walkCashLast (livingTerm c rs) table path ∷ [])
+      ends zero = maturity-narrow v _ _ last (arrives (c .dates - 1) (omega (arith, v .dates-least)))
       ends (suc e) = omega arith
 
 -- ---- what the calls answer, on any input that they accept
@@ -121,52 +124,51 @@ pub record Narrow (value : ℕ) (layer : List ℕ) : Type 0 where
   pub layer-fits : (e : ℕ) → getD layer e 0 < 2 ^ 32
 
 -- valuing: the value reported and the layer left
-pub narrow-valuing : (bytes list : List ℕ) (behaviour : ℕ) (work table : List ℕ)
-    → valuingVerdict bytes list behaviour work table ≡ accepted
+pub narrow-valuing : (bytes list rates : List ℕ) (behaviour : ℕ) (work table : List ℕ)
+    → valuingVerdict bytes list rates behaviour work table ≡ accepted
     → Narrow
-    (valuingAnswer bytes list behaviour work table .value)
-    (valueLayer (productOf bytes list) (behaviourOf behaviour))
+    (valuingAnswer bytes list rates behaviour work table .value)
+    (valueLayer (productOf bytes list rates) (behaviourOf behaviour))
 unfolding productOf valueLayer fixedTerm
-narrow-valuing bytes list behaviour work table a =
+narrow-valuing bytes list rates behaviour work table a =
     let c = termsOf bytes in
     let rs = returnsOf list in
-    let v = valuing-terms bytes list behaviour work table a in
-    let u = valuing-returns bytes list behaviour work table a in
+    let ds = ratesOf rates in
+    let v = valuing-valid bytes list rates behaviour work table a in
     let b = behaviourOf behaviour in record {
-      value-fits = rw (valuing-reports bytes list behaviour work table a) (contract-value-narrow c rs v u b);
-      layer-fits = layer-narrow c (stateValue (fixedTerm c rs) b 1) (λ s g. state-value-narrow c rs v u b 1 s (le-refl 1) g);
+      value-fits = rw (valuing-reports bytes list rates behaviour work table a) (contract-value-narrow c rs ds v b);
+      layer-fits = layer-narrow c (stateValue (fixedTerm c rs ds) b 1) (λ s g. state-value-narrow c rs ds v b 1 s (le-refl 1) g);
     }
 
 -- a supplied table: the same
-pub supplied-narrow : (c : Terms) (rs : Returns) (table : List ℕ) → Valid c → ValidReturns rs
+pub supplied-narrow : (c : Terms) (rs : Returns) (ds : Rates) (table : List ℕ) → ValidInput c rs ds
     → tableSize c ≤ first (badEntry c table) (tableSize c)
-    → Narrow (suppliedValue (fixedTerm c rs) table) (suppliedLayer (fixedTerm c rs) table)
+    → Narrow (suppliedValue (fixedTerm c rs ds) table) (suppliedLayer (fixedTerm c rs ds) table)
 unfolding suppliedValue suppliedLayer fixedTerm processOf
-supplied-narrow c rs table v u none =
+supplied-narrow c rs ds table v none =
     let d = lookup (layoutOf c) table in
-    let admits = all-admitted c rs table v none in record {
-      value-fits = table-start-narrow c rs v u d admits;
+    let admits = all-admitted c rs ds table (v .terms) none in record {
+      value-fits = table-start-narrow c rs ds v d admits;
       layer-fits =
-          layer-narrow c (tableValue (processOf c rs) d 1)
-          (λ s g. table-value-narrow c rs v u d admits 1 s (le-refl 1) (v .dates-least) g);
+          layer-narrow c (tableValue (processOf c rs ds) d 1)
+          (λ s g. table-value-narrow c rs ds v d admits 1 s (le-refl 1) (v .terms .dates-least) g);
     }
 
-pub narrow-supplied : (bytes list work table : List ℕ) → suppliedVerdict bytes list work table ≡ accepted
-    → Narrow (suppliedAnswer bytes list work table .value) (suppliedLayer (productOf bytes list) table)
+pub narrow-supplied : (bytes list rates work table : List ℕ) → suppliedVerdict bytes list rates work table ≡ accepted
+    → Narrow (suppliedAnswer bytes list rates work table .value) (suppliedLayer (productOf bytes list rates) table)
 unfolding suppliedVerdict suppliedChecks suppliedAnswer answer tableChecks checkEach AllPass productOf
-narrow-supplied bytes list work table a =
-    let v = both-terms bytes list (then-earlier _ _ a) in
-    let u = both-returns bytes list (then-earlier _ _ a) in
-    let checks = pass-right (recordChecks bytes ++ listChecks list) _ (all-pass _ a) in
-    let x = supplied-narrow (termsOf bytes) (returnsOf list) table v u (nltb→le _ _ (checks .1 .0)) in record {
-      value-fits = rw (success-reports (suppliedValue (productOf bytes list) table) 0 a) (x .value-fits);
+narrow-supplied bytes list rates work table a =
+    let v = input-valid bytes list rates (then-earlier _ _ a) in
+    let checks = pass-right (inputChecks bytes list rates) _ (all-pass _ a) in
+    let x = supplied-narrow (termsOf bytes) (returnsOf list) (ratesOf rates) table v (nltb→le _ _ (checks .1 .0)) in record {
+      value-fits = rw (success-reports (suppliedValue (productOf bytes list rates) table) 0 a) (x .value-fits);
       layer-fits = x .layer-fits;
     }
 
 -- a walk: every cash, the last the payment at maturity
 pub narrow-walk : (bytes list table path cashes : List ℕ) → walkVerdict bytes list table path cashes ≡ accepted
-    → (e : ℕ) → getD (walkCash (productOf bytes list) table path) e 0 < 2 ^ 32
-unfolding walkVerdict walkChecks pathChecks checkEach AllPass productOf
+    → (e : ℕ) → getD (walkCash (livingOf bytes list) table path) e 0 < 2 ^ 32
+unfolding walkVerdict walkChecks pathChecks checkEach AllPass livingOf
 narrow-walk bytes list table path cashes a =
     let c = termsOf bytes in
     let v = both-terms bytes list (then-earlier _ _ a) in

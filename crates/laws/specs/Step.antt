@@ -4,7 +4,7 @@ use mathlib.Core.Path.{_≡_, ap, _∙_}
 use Prim.Native.Nat.{ℕ, suc, _-_, _*_, _≤_}
 use native.Mathlib.Nat.{le-refl, sub-le, sub-le-sub-left, mul-le-mul}
 use native.Mathlib.Omega.{arith}
-use Rattle.rules.specs.Contract.{Terms, Returns, bytesOf}
+use Rattle.rules.specs.Contract.{Terms, Returns, Rates, bytesOf}
 use Rattle.rules.specs.Date.{Behaviour, freeAmount, rateOn, penalty, cash, guaranteeAfter, balanceAfter}
 use Rattle.rules.specs.Product.{Product, stateValue, contractValue, valueLayer, amountLayers, suppliedValue, suppliedLayer, walkCash}
 use Rattle.rules.specs.FixedTerm.{State, Held, freeIn, rateIn, cashIn, processOf, fixedTerm}
@@ -54,41 +54,41 @@ paying pays X = record {
 }
 
 -- the contract with one penalty rate, the record's, on every date, as document 01 has it
-unfoldable pub oneRate : Terms → Returns → Product State Held
-oneRate c rs = paying (λ i s t. cash (c .penalty) (freeIn c s) t) (fixedTerm c rs)
+unfoldable pub oneRate : Terms → Returns → Rates → Product State Held
+oneRate c rs ds = paying (λ i s t. cash (c .penalty) (freeIn c s) t) (fixedTerm c rs ds)
 
 rate-is : (c : Terms) → c .step ≡ 0 → (i : ℕ) → rateIn c i ≡ c .penalty
 rate-is c none i = ap (λ (s : ℕ). rateOn (c .penalty) s i) none ∙ rate-zero (c .penalty) i
 
-module _ (c : Terms) (rs : Returns) (none : c .step ≡ 0) where
+module _ (c : Terms) (rs : Returns) (ds : Rates) (none : c .step ≡ 0) where
   -- the whole product, so all that is said of it
-  pub step-zero : fixedTerm c rs ≡ oneRate c rs
+  pub step-zero : fixedTerm c rs ds ≡ oneRate c rs ds
   unfolding fixedTerm processOf cashIn oneRate
-  step-zero j = paying (λ i s t. cash (rate-is c none i j) (freeIn c s) t) (fixedTerm c rs)
+  step-zero j = paying (λ i s t. cash (rate-is c none i j) (freeIn c s) t) (fixedTerm c rs ds)
 
   -- values: of the contract, of every state, of the first layer left
-  pub step-zero-value : (b : Behaviour) → contractValue (fixedTerm c rs) b ≡ contractValue (oneRate c rs) b
+  pub step-zero-value : (b : Behaviour) → contractValue (fixedTerm c rs ds) b ≡ contractValue (oneRate c rs ds) b
   step-zero-value b = ap (λ (X : Product State Held). contractValue X b) step-zero
 
-  pub step-zero-state : (b : Behaviour) (i : ℕ) (s : State) → stateValue (fixedTerm c rs) b i s ≡ stateValue (oneRate c rs) b i s
+  pub step-zero-state : (b : Behaviour) (i : ℕ) (s : State) → stateValue (fixedTerm c rs ds) b i s ≡ stateValue (oneRate c rs ds) b i s
   step-zero-state b i s = ap (λ (X : Product State Held). stateValue X b i s) step-zero
 
-  pub step-zero-layer : (b : Behaviour) → valueLayer (fixedTerm c rs) b ≡ valueLayer (oneRate c rs) b
+  pub step-zero-layer : (b : Behaviour) → valueLayer (fixedTerm c rs ds) b ≡ valueLayer (oneRate c rs ds) b
   step-zero-layer b = ap (λ (X : Product State Held). valueLayer X b) step-zero
 
   -- the table
-  pub step-zero-table : (b : Behaviour) → amountLayers (fixedTerm c rs) b ≡ amountLayers (oneRate c rs) b
+  pub step-zero-table : (b : Behaviour) → amountLayers (fixedTerm c rs ds) b ≡ amountLayers (oneRate c rs ds) b
   step-zero-table b = ap (λ (X : Product State Held). amountLayers X b) step-zero
 
   -- a supplied table
-  pub step-zero-supplied : (table : List ℕ) → suppliedValue (fixedTerm c rs) table ≡ suppliedValue (oneRate c rs) table
+  pub step-zero-supplied : (table : List ℕ) → suppliedValue (fixedTerm c rs ds) table ≡ suppliedValue (oneRate c rs ds) table
   step-zero-supplied table = ap (λ (X : Product State Held). suppliedValue X table) step-zero
 
-  pub step-zero-supplied-layer : (table : List ℕ) → suppliedLayer (fixedTerm c rs) table ≡ suppliedLayer (oneRate c rs) table
+  pub step-zero-supplied-layer : (table : List ℕ) → suppliedLayer (fixedTerm c rs ds) table ≡ suppliedLayer (oneRate c rs ds) table
   step-zero-supplied-layer table = ap (λ (X : Product State Held). suppliedLayer X table) step-zero
 
   -- a walk
-  pub step-zero-walk : (table path : List ℕ) → walkCash (fixedTerm c rs) table path ≡ walkCash (oneRate c rs) table path
+  pub step-zero-walk : (table path : List ℕ) → walkCash (fixedTerm c rs ds) table path ≡ walkCash (oneRate c rs ds) table path
   step-zero-walk table path = ap (λ (X : Product State Held). walkCash X table path) step-zero
 
 -- a booking

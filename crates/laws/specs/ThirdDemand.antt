@@ -6,12 +6,12 @@ use native.Mathlib.Omega.{arith}
 use lib.ListN.{drop}
 use Rattle.decision.specs.Process.{Attained}
 use Rattle.decision.specs.Layers.{lookup}
-use Rattle.rules.specs.Contract.{termsOf, returnsOf}
+use Rattle.rules.specs.Contract.{termsOf, returnsOf, ratesOf}
 use Rattle.rules.specs.Date.{Behaviour, static, mixed, dynamic}
 use Rattle.rules.specs.Product.{contractValue, amountLayers, ThirdDemand, Claim}
 use Rattle.rules.specs.Refusals.{accepted, onSuccess}
 use Rattle.rules.specs.Operations.{productOf, answer, behaviourNumber, behaviourOf, tableSize, valuingChecks, valuingVerdict, valuingAnswer, valuingTable}
-use Rattle.laws.specs.Accepted.{Valid, ValidReturns, Positive, zero-accepts, then-earlier, both-terms, both-returns}
+use Rattle.laws.specs.Accepted.{ValidInput, Positive, zero-accepts, then-earlier, input-valid}
 use Rattle.laws.specs.Demand.{table-attains, demand}
 use Rattle.laws.specs.FixedTerm.{sound}
 use Rattle.rules.specs.Facts.{valuing-order}
@@ -23,62 +23,66 @@ behaviour-number static = refl
 behaviour-number mixed = refl
 behaviour-number dynamic = refl
 
-module _ (bytes list : List ℕ) (behaviour : ℕ) (work table : List ℕ) where
+module _ (bytes list rates : List ℕ) (behaviour : ℕ) (work table : List ℕ) where
   -- a valuing call that answers number 0 has accepted its input
-  pub valuing-accepts : valuingAnswer bytes list behaviour work table .number ≡ 0 → valuingVerdict bytes list behaviour work table ≡ accepted
+  pub valuing-accepts : valuingAnswer bytes list rates behaviour work table .number ≡ 0
+      → valuingVerdict bytes list rates behaviour work table ≡ accepted
   unfolding valuingAnswer answer valuingVerdict Positive
-  valuing-accepts e = zero-accepts (valuingChecks bytes list behaviour work table) (rw valuing-order (omega arith)) e
+  valuing-accepts e = zero-accepts (valuingChecks bytes list rates behaviour work table) (rw valuing-order (omega arith)) e
 
-  -- .. and the terms and returns are in range
-  pub valuing-terms : valuingVerdict bytes list behaviour work table ≡ accepted → Valid (termsOf bytes)
+  -- .. and terms, returns and rates are in range
+  pub valuing-valid : valuingVerdict bytes list rates behaviour work table ≡ accepted
+      → ValidInput (termsOf bytes) (returnsOf list) (ratesOf rates)
   unfolding valuingVerdict valuingChecks
-  valuing-terms a = both-terms bytes list (then-earlier _ _ a)
-
-  pub valuing-returns : valuingVerdict bytes list behaviour work table ≡ accepted → ValidReturns (returnsOf list)
-  unfolding valuingVerdict valuingChecks
-  valuing-returns a = both-returns bytes list (then-earlier _ _ a)
+  valuing-valid a = input-valid bytes list rates (then-earlier _ _ a)
 
   -- what it then reports and leaves
-  pub valuing-reports : valuingVerdict bytes list behaviour work table ≡ accepted
-      → valuingAnswer bytes list behaviour work table .value ≡ contractValue (productOf bytes list) (behaviourOf behaviour)
+  pub valuing-reports : valuingVerdict bytes list rates behaviour work table ≡ accepted
+      → valuingAnswer bytes list rates behaviour work table .value ≡ contractValue (productOf bytes list rates) (behaviourOf behaviour)
   unfolding valuingAnswer answer onSuccess
   valuing-reports a = rw a
 
-  pub valuing-leaves : valuingVerdict bytes list behaviour work table ≡ accepted
-      → valuingTable bytes list behaviour work table ≡ amountLayers (productOf bytes list) (behaviourOf behaviour) ++ drop (tableSize (termsOf bytes)) table
+  pub valuing-leaves : valuingVerdict bytes list rates behaviour work table ≡ accepted
+      → valuingTable bytes list rates behaviour work table
+      ≡ amountLayers (productOf bytes list rates) (behaviourOf behaviour) ++ drop (tableSize (termsOf bytes)) table
   unfolding valuingTable onSuccess
   valuing-leaves a = rw a
 
   -- the claim of the one call
-  pub valuing-claim : valuingAnswer bytes list behaviour work table .number ≡ 0
-      → Claim (productOf bytes list) (behaviourOf behaviour) (valuingAnswer bytes list behaviour work table .value) (valuingTable bytes list behaviour work table)
+  pub valuing-claim : valuingAnswer bytes list rates behaviour work table .number ≡ 0
+      → Claim (productOf bytes list rates) (behaviourOf behaviour) (valuingAnswer bytes list rates behaviour work table .value)
+      (valuingTable bytes list rates behaviour work table)
   unfolding productOf
   valuing-claim zero-number =
       let yes-to = valuing-accepts zero-number in
-      let X = productOf bytes list in
+      let X = productOf bytes list rates in
       let b = behaviourOf behaviour in record {
         value = valuing-reports yes-to;
         attained =
             subst (λ (t : List ℕ). Attained (X .process) (X .admissible b) (X .layout .InRange) (lookup (X .layout) t)) (sym (valuing-leaves yes-to))
-            (table-attains X (sound (termsOf bytes) (returnsOf list) (valuing-terms yes-to)) b (drop (tableSize (termsOf bytes)) table));
+            (table-attains X (sound (termsOf bytes) (returnsOf list) (ratesOf rates) (valuing-valid yes-to .terms)) b
+            (drop (tableSize (termsOf bytes)) table));
       }
 
--- THE THIRD DEMAND. Where the valuing calls of the three behaviours answer number 0, whatever slices each was lent: the
--- value each reports is its behaviour's, and of the tables that they leave the whole claim holds.
-pub third-demand : (bytes list : List ℕ) (work table : Behaviour → List ℕ)
-    → ((b : Behaviour) → valuingAnswer bytes list (behaviourNumber b) (work b) (table b) .number ≡ 0)
-    → ((b : Behaviour) → valuingAnswer bytes list (behaviourNumber b) (work b) (table b) .value ≡ contractValue (productOf bytes list) b)
-    × ThirdDemand (productOf bytes list) (λ b. valuingTable bytes list (behaviourNumber b) (work b) (table b))
+-- THE THIRD DEMAND, whatever terms, returns and death rates are accepted. Where the valuing calls of the three behaviours answer
+-- number 0, whatever slices each was lent: the value each reports is its behaviour's, and of the tables that they leave the whole
+-- claim holds.
+pub third-demand : (bytes list rates : List ℕ) (work table : Behaviour → List ℕ)
+    → ((b : Behaviour) → valuingAnswer bytes list rates (behaviourNumber b) (work b) (table b) .number ≡ 0)
+    → ((b : Behaviour) → valuingAnswer bytes list rates (behaviourNumber b) (work b) (table b) .value ≡ contractValue
+    (productOf bytes list rates) b)
+    × ThirdDemand (productOf bytes list rates) (λ b. valuingTable bytes list rates (behaviourNumber b) (work b) (table b))
 unfolding productOf
-third-demand bytes list work table zero-number =
-    let X = productOf bytes list in
-    let yes-to : (b : Behaviour) → valuingVerdict bytes list (behaviourNumber b) (work b) (table b) ≡ accepted = λ b.
-    valuing-accepts bytes list (behaviourNumber b) (work b) (table b) (zero-number b) in
-    let valid = valuing-terms bytes list (behaviourNumber static) (work static) (table static) (yes-to static) in
-    let leaves : (b : Behaviour) → amountLayers X b ++ drop (tableSize (termsOf bytes)) (table b) ≡ valuingTable bytes list (behaviourNumber b) (work b) (table b) = λ b.
+third-demand bytes list rates work table zero-number =
+    let X = productOf bytes list rates in
+    let yes-to : (b : Behaviour) → valuingVerdict bytes list rates (behaviourNumber b) (work b) (table b) ≡ accepted = λ b.
+    valuing-accepts bytes list rates (behaviourNumber b) (work b) (table b) (zero-number b) in
+    let valid = valuing-valid bytes list rates (behaviourNumber static) (work static) (table static) (yes-to static) .terms in
+    let leaves : (b : Behaviour) → amountLayers X b ++ drop (tableSize (termsOf bytes)) (table b) ≡ valuingTable bytes list rates
+    (behaviourNumber b) (work b) (table b) = λ b.
     ap (λ (x : Behaviour). amountLayers X x ++ drop (tableSize (termsOf bytes)) (table b)) (sym (behaviour-number b))
-    ∙ sym (valuing-leaves bytes list (behaviourNumber b) (work b) (table b) (yes-to b)) in (
-      λ b. valuing-reports bytes list (behaviourNumber b) (work b) (table b) (yes-to b) ∙ ap (contractValue X) (behaviour-number b),
+    ∙ sym (valuing-leaves bytes list rates (behaviourNumber b) (work b) (table b) (yes-to b)) in (
+      λ b. valuing-reports bytes list rates (behaviourNumber b) (work b) (table b) (yes-to b) ∙ ap (contractValue X) (behaviour-number b),
       subst (λ (f : Behaviour → List ℕ). ThirdDemand X f) (fun-ext leaves)
-          (demand X (sound (termsOf bytes) (returnsOf list) valid) (λ b. drop (tableSize (termsOf bytes)) (table b))),
+          (demand X (sound (termsOf bytes) (returnsOf list) (ratesOf rates) valid) (λ b. drop (tableSize (termsOf bytes)) (table b))),
     )

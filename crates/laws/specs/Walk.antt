@@ -15,9 +15,9 @@ use Rattle.decision.specs.Optimal.{Steps, startMet-steps}
 use Rattle.rules.specs.Contract.{Terms, Returns, termsOf, returnsOf, factorMost}
 use Rattle.rules.specs.Date.{dynamic, freeAmount, balanceAfter}
 use Rattle.rules.specs.Product.{Product, walkState, walkAmount, walkHeld, walkPaid}
-use Rattle.rules.specs.FixedTerm.{State, InRange, freeIn, admissibleIn, afterIn, reachBy, paidBy, startOf, processOf, fixedTerm}
+use Rattle.rules.specs.FixedTerm.{State, InRange, freeIn, admissibleIn, afterIn, reachBy, paidBy, startOf, processOf, fixedTerm, livingTerm}
 use Rattle.rules.specs.Refusals.{checkEach, accepted, refused, verdict, short, recordChecks, listChecks}
-use Rattle.rules.specs.Operations.{productOf, tableSize, badDate, pathChecks, walkChecks, walkVerdict}
+use Rattle.rules.specs.Operations.{livingOf, tableSize, badDate, pathChecks, walkChecks, walkVerdict}
 use Rattle.laws.specs.Accepted.{Valid, AllPass, all-pass, pass-right, nor-left, nor-right, not-not}
 use Rattle.laws.specs.Date.{guarantee-free, excess-paid-le}
 use Rattle.laws.specs.FixedTerm.{reached-in-range, after-falls}
@@ -46,39 +46,39 @@ module _ {S H : Type 0} (X : Product S H) (table path : List ℕ) where
 
 module _ (c : Terms) (rs : Returns) (table path : List ℕ) where
   -- the states met are in range, whatever the table holds
-  pub walk-in-range : (n : ℕ) → n < length path → InRange c (walkState (fixedTerm c rs) table path (suc n))
+  pub walk-in-range : (n : ℕ) → n < length path → InRange c (walkState (livingTerm c rs) table path (suc n))
   unfolding fixedTerm processOf startOf
   walk-in-range zero l =
-      subst (InRange c) (sym (walk-first (fixedTerm c rs) table path l)) (reached-in-range c rs (startOf c) _ (le-refl (c .premium)))
+      subst (InRange c) (sym (walk-first (livingTerm c rs) table path l)) (reached-in-range c rs (startOf c) _ (le-refl (c .premium)))
   walk-in-range (suc n) l =
-      let s = walkState (fixedTerm c rs) table path (suc n) in
-      let t = walkAmount (fixedTerm c rs) table path (suc n) in
-      subst (InRange c) (sym (walk-next (fixedTerm c rs) table path (suc n) (omega arith) l))
+      let s = walkState (livingTerm c rs) table path (suc n) in
+      let t = walkAmount (livingTerm c rs) table path (suc n) in
+      subst (InRange c) (sym (walk-next (livingTerm c rs) table path (suc n) (omega arith) l))
       (reached-in-range c rs (afterIn c (suc n) s t) _ (after-falls c (suc n) s t (walk-in-range n (omega arith) .guarantee)))
 
   -- what is held after them is at most top and the premium
   pub walk-held : c .premium ≤ c .top → (j : ℕ) → j < suc (length path)
-      → (walkHeld (fixedTerm c rs) table path j .balance ≤ c .top) × (walkHeld (fixedTerm c rs) table path j .guarantee ≤ c .premium)
+      → (walkHeld (livingTerm c rs) table path j .balance ≤ c .top) × (walkHeld (livingTerm c rs) table path j .guarantee ≤ c .premium)
   unfolding walkHeld fixedTerm processOf startOf afterIn balanceAfter
   walk-held below zero l = (below, le-refl _)
   walk-held below (suc j) l =
-      let s = walkState (fixedTerm c rs) table path (suc j) in
+      let s = walkState (livingTerm c rs) table path (suc j) in
       let g = walk-in-range j (omega arith) in
-      (le-trans (sub-le _ _) (g .account), after-falls c (suc j) s (walkAmount (fixedTerm c rs) table path (suc j)) (g .guarantee))
+      (le-trans (sub-le _ _) (g .account), after-falls c (suc j) s (walkAmount (livingTerm c rs) table path (suc j)) (g .guarantee))
 
   -- .. so a return pays on arrival at most 20,000 × top
   pub walk-paid-le : Valid c → (j : ℕ) → j < suc (length path) → rs .factor (getD path j 0) ≤ factorMost
-      → walkPaid (fixedTerm c rs) table path j ≤ 20000 * c .top
+      → walkPaid (livingTerm c rs) table path j ≤ 20000 * c .top
   unfolding walkPaid fixedTerm processOf paidBy
   walk-paid-le v j l f = excess-paid-le (c .fee) (c .top) _ _ (walk-held (v .premium) j l .0) f
 
   -- where no date is bad, the amounts met are admissible
   pub walk-admits : c .dates - 1 ≤ first (badDate c rs table path) (c .dates - 1) → (j : ℕ) → j < c .dates - 1
-      → T (admissibleIn c dynamic (walkState (fixedTerm c rs) table path (suc j)) (walkAmount (fixedTerm c rs) table path (suc j)))
+      → T (admissibleIn c dynamic (walkState (livingTerm c rs) table path (suc j)) (walkAmount (livingTerm c rs) table path (suc j)))
   unfolding badDate
   walk-admits none j l =
-      let s = walkState (fixedTerm c rs) table path (suc j) in
-      let t = walkAmount (fixedTerm c rs) table path (suc j) in
+      let s = walkState (livingTerm c rs) table path (suc j) in
+      let t = walkAmount (livingTerm c rs) table path (suc j) in
       not-not (admissibleIn c dynamic s t) (rw (all-fail (badDate c rs table path) (c .dates - 1) none j l) tt)
 
 -- ---- the checks beyond the record and the list, one by one: the count before the numbers, the numbers before the amounts
@@ -121,27 +121,29 @@ module _ (c : Terms) (rs : Returns) (table path cashes : List ℕ) where
 -- the amounts of dates 1 to n. (iv) "An excess is no withdrawal where amounts withdrawn are summed": the sum is that of the
 -- table's amounts, whatever was paid on arrival.
 pub walk-conserves : (c : Terms) (rs : Returns) (table path : List ℕ) (n : ℕ) → n < length path
-    → ((j : ℕ) → j < n → walkAmount (fixedTerm c rs) table path (suc j) ≤ freeIn c (walkState (fixedTerm c rs) table path (suc j)))
-    → sum (λ j. walkAmount (fixedTerm c rs) table path (suc j)) n + walkState (fixedTerm c rs) table path (suc n) .guarantee
+    → ((j : ℕ) → j < n → walkAmount (livingTerm c rs) table path (suc j) ≤ freeIn c (walkState (livingTerm c rs) table path (suc j)))
+    → sum (λ j. walkAmount (livingTerm c rs) table path (suc j)) n + walkState (livingTerm c rs) table path (suc n) .guarantee
     ≡ c .premium
 unfolding sum fixedTerm processOf reachBy startOf afterIn freeIn freeAmount
 walk-conserves c rs table path zero l free =
-    ap (λ (s : State). 0 + s .guarantee) (walk-first (fixedTerm c rs) table path l) ∙ omega arith
+    ap (λ (s : State). 0 + s .guarantee) (walk-first (livingTerm c rs) table path l) ∙ omega arith
 walk-conserves c rs table path (suc n) l free =
-    let s = walkState (fixedTerm c rs) table path (suc n) in
-    let t = walkAmount (fixedTerm c rs) table path (suc n) in
+    let s = walkState (livingTerm c rs) table path (suc n) in
+    let t = walkAmount (livingTerm c rs) table path (suc n) in
     let before = walk-conserves c rs table path n (omega arith) (λ j m. free j (omega arith)) in
     let small = free n (omega arith) in
-    let next = ap (λ (x : State). x .guarantee) (walk-next (fixedTerm c rs) table path (suc n) (omega arith) l) in
+    let next = ap (λ (x : State). x .guarantee) (walk-next (livingTerm c rs) table path (suc n) (omega arith) l) in
     let falls = guarantee-free (freeIn c s) (s .account) (s .guarantee) t small in
     let most = min-le-right (c .level) (s .guarantee) in
     omega arith
 
 -- .. of a walk that is accepted, on every date up to maturity
 pub walk-keeps : (bytes list table path cashes : List ℕ) → walkVerdict bytes list table path cashes ≡ accepted → (n : ℕ) → n < termsOf bytes .dates
-    → ((j : ℕ) → j < n → walkAmount (productOf bytes list) table path (suc j) ≤ freeIn (termsOf bytes) (walkState (productOf bytes list) table path (suc j)))
-    → sum (λ j. walkAmount (productOf bytes list) table path (suc j)) n + walkState (productOf bytes list) table path (suc n) .guarantee ≡ termsOf bytes .premium
-unfolding walkVerdict walkChecks pathChecks productOf AllPass
+    → ((j : ℕ) → j < n → walkAmount (livingOf bytes list) table path (suc j) ≤ freeIn (termsOf bytes)
+    (walkState (livingOf bytes list) table path (suc j)))
+    → sum (λ j. walkAmount (livingOf bytes list) table path (suc j)) n + walkState (livingOf bytes list) table path (suc n) .guarantee
+    ≡ termsOf bytes .premium
+unfolding walkVerdict walkChecks pathChecks livingOf AllPass
 walk-keeps bytes list table path cashes e n l free =
     let checks = pass-right (recordChecks bytes ++ listChecks list) _ (all-pass _ e) in
     let long = eqb→eq (length path) (termsOf bytes .dates) (not-not (eqb (length path) (termsOf bytes .dates)) (checks .1 .0)) in

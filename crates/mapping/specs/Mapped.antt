@@ -12,12 +12,12 @@ use Rattle.mapping.specs.declared.Mapped as declared
 abbrev pub mapRefusal : ℕ → ℕ → declared.Mapped
 mapRefusal n p = record { answer = refusal n p; count = 0 }
 
-pub record Mapping (bytes list : List ℕ) (behaviour : ℕ) (work table map : List ℕ)
+pub record Mapping (bytes list rates : List ℕ) (behaviour : ℕ) (work table map : List ℕ)
     (r : declared.Mapped) (work' table' map' : List ℕ) : Type 0 where
-  pub answer-is : r .answer ≡ answerOf (mappingAnswer bytes list behaviour work table map)
-  pub count-is : r .count ≡ mappingCount bytes list behaviour work table map
-  pub work-is : work' ≡ mappingWork bytes list behaviour work table map
-  pub table-is : table' ≡ mappingTable bytes list behaviour work table map
-  pub map-is : map' ≡ mappingMap bytes list behaviour work table map
+  pub answer-is : r .answer ≡ answerOf (mappingAnswer bytes list rates behaviour work table map)
+  pub count-is : r .count ≡ mappingCount bytes list rates behaviour work table map
+  pub work-is : work' ≡ mappingWork bytes list rates behaviour work table map
+  pub table-is : table' ≡ mappingTable bytes list rates behaviour work table map
+  pub map-is : map' ≡ mappingMap bytes list rates behaviour work table map
   -- the third demand, on number 0, of the value that is reported and the table that is left
-  pub claim : r .answer .number ≡ 0 → Claim (productOf bytes list) (behaviourOf behaviour) (r .answer .value) table'
+  pub claim : r .answer .number ≡ 0 → Claim (productOf bytes list rates) (behaviourOf behaviour) (r .answer .value) table'

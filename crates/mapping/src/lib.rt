@@ -22,17 +22,18 @@ fn refused(outcome: Outcome) -> Mapped
 pub fn value_map(
     bytes: &[u8],
     list: &[u8],
+    rates: &[u8],
     behaviour: usize,
     work: &mut [u64],
     table: &mut [u16],
     map: &mut [u64],
 ) -> Mapped
-    ensures { λ r. ⌜ Mapping (now (bytes .entry)) (now (list .entry)) behaviour
+    ensures { λ r. ⌜ Mapping (now (bytes .entry)) (now (list .entry)) (now (rates .entry)) behaviour
         (now (work .entry)) (now (table .entry)) (now (map .entry)) r
         (now (work .exit)) (now (table .exit)) (now (map .exit)) ⌝ }
 {
-    let agreement = valuing::check(bytes, list, behaviour, &work[..], &table[..]);
-    let Agreement::Accepted(c, returns) = agreement else {
+    let agreement = valuing::check(bytes, list, rates, behaviour, &work[..], &table[..]);
+    let Agreement::Accepted(c, _) = agreement else {
         return refused(agreement.outcome());
     };
     if map.len() < surrender::map_size(c) {
@@ -41,7 +42,7 @@ pub fn value_map(
             place: 0,
         });
     }
-    let answer = valuing::valued(c, list, returns.count, behaviour, work, table);
+    let answer = valuing::valued(c, list, rates, behaviour, work, table);
     let count = surrender::fill(c, &table[..], map);
     Mapped { answer, count }
 }

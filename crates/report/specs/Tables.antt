@@ -11,8 +11,8 @@ use Rattle.rules.specs.Date.{Behaviour, nextAccount}
 use Rattle.rules.specs.Product.{valueLayer, amountLayers}
 use Rattle.rules.specs.FixedTerm.{layerSize}
 use Rattle.rules.specs.Refusals.{accepted, verdict, onSuccess, recordChecks, listChecks}
-use Rattle.rules.specs.Operations.{productOf, workAfter, tableSize}
-use Rattle.rules.specs.Printed.{decimal, line, programVerdict}
+use Rattle.rules.specs.Operations.{workAfter, tableSize}
+use Rattle.rules.specs.Printed.{decimal, line, programOf, programVerdict}
 use Rattle.laws.specs.Accepted.{Valid}
 use Rattle.expect.specs.Expected.{Listing}
 
@@ -47,10 +47,10 @@ pub record Filled (bytes list statics mixeds dynamics : List ℕ) : Type 0 where
 -- ---- what the arrays hold at the end: what the last call on each of them leaves
 unfoldable pub tableLeft : List ℕ → List ℕ → Behaviour → List ℕ → List ℕ
 tableLeft bytes list b table =
-    onSuccess (programVerdict bytes list) (amountLayers (productOf bytes list) b ++ drop (tableSize (termsOf bytes)) table) table
+    onSuccess (programVerdict bytes list) (amountLayers (programOf bytes list) b ++ drop (tableSize (termsOf bytes)) table) table
 
 unfoldable pub workLeft : List ℕ → List ℕ → Behaviour → List ℕ → List ℕ
-workLeft bytes list b work = workAfter (programVerdict bytes list) (layerSize (termsOf bytes)) (valueLayer (productOf bytes list) b) work
+workLeft bytes list b work = workAfter (programVerdict bytes list) (layerSize (termsOf bytes)) (valueLayer (programOf bytes list) b) work
 
 -- ---- what one line asks
 pub factor-le : {list : List ℕ} {count k : ℕ} → Listing list count → k < count → word list (4 * k) ≤ factorMost

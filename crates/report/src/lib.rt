@@ -4,15 +4,17 @@ ghost use mathlib.Core.Path.{_≡_};
 ghost use mathlib.Core.List.{[], _∷_, _++_};
 ghost use Prim.Native.Nat.{_+_, _*_, _≤_, _<_};
 ghost use lib.ListN.{length, take, drop, getD};
-ghost use Rattle.rules.specs.Contract.{termsOf, returnsOf};
+ghost use Rattle.rules.specs.Contract.{termsOf, returnsOf, rateBytes};
 ghost use Rattle.rules.specs.Date.{static, mixed, dynamic};
-ghost use Rattle.rules.specs.Operations.{productOf};
-ghost use Rattle.rules.specs.Printed.{digits, decimal, line, nameOf, refusedWord, linesOf, lineCount, printed};
+ghost use Rattle.rules.specs.Refusals.{onSuccess};
+ghost use Rattle.rules.specs.Operations.{recordVerdict};
+ghost use Rattle.rules.specs.Printed.{digits, decimal, line, nameOf, refusedWord, linesOf, lineCount, programOf, printed};
 ghost use Rattle.contract.specs.Reading.{termsIn};
 ghost use Rattle.report.specs.Text.{Put, Counts};
 ghost use Rattle.report.specs.Tables.{tableLine, Tabled, Filled, tableLeft, workLeft};
 use contract::Agreement;
 use contract::Contract;
+use contract::Reading;
 
 fn byte(out: &mut [u8], at: usize, b: u8) -> usize
     requires { ⌜ at < length (now out) ⌝ }
@@ -183,7 +185,14 @@ fn all_lines(
 ) -> usize
     requires { ⌜ Filled (now bytes) (now list) (now statics) (now mixeds) (now dynamics) ⌝ }
     requires { ⌜ at + 8064 ≤ length (now out) ⌝ }
-    ensures { λ r. ⌜ Put 8064 (now (out .entry)) at (linesOf (tableLine (termsOf (now (bytes .entry))) (returnsOf (now (list .entry))) (now (statics .entry)) (now (mixeds .entry)) (now (dynamics .entry))) (lineCount (productOf (now (bytes .entry)) (now (list .entry))))) r (now (out .exit)) ⌝ }
+    ensures { λ r. ⌜
+        Put 8064 (now (out .entry)) at
+        (linesOf
+        (tableLine (termsOf (now (bytes .entry))) (returnsOf (now (list .entry)))
+        (now (statics .entry)) (now (mixeds .entry)) (now (dynamics .entry)))
+        (lineCount (programOf (now (bytes .entry)) (now (list .entry)))))
+        r (now (out .exit))
+        ⌝ }
 {
     let agreement = contract::read(bytes, list);
     let Agreement::Accepted(c, returns) = agreement else {
@@ -193,6 +202,19 @@ fn all_lines(
         return at;
     }
     return_lines(c, list, returns.count, statics, mixeds, dynamics, out, at)
+}
+
+// The bytes of N death rates; none for a record that is refused.
+fn rates_length(bytes: &[u8]) -> usize
+    ensures { λ r. ⌜
+        (r ≡ onSuccess (recordVerdict (now (bytes .entry))) (rateBytes * termsOf (now (bytes .entry)) .dates) 0) × (r ≤ 80)
+        ⌝ }
+{
+    let reading = Contract::read(bytes);
+    let Reading::Accepted(c) = reading else {
+        return 0;
+    };
+    Contract::RATE_BYTES * c.dates
 }
 
 // Puts what is printed at the start of the buffer, and answers its length.
@@ -213,12 +235,14 @@ pub fn print(
     ensures { λ _. ⌜ now (mixeds .exit) ≡ tableLeft (now (bytes .entry)) (now (list .entry)) mixed (now (mixeds .entry)) ⌝ }
     ensures { λ _. ⌜ now (dynamics .exit) ≡ tableLeft (now (bytes .entry)) (now (list .entry)) dynamic (now (dynamics .entry)) ⌝ }
 {
-    let a = valuing::value(bytes, list, 0, work, statics);
+    let zeros = [0u8; 80];
+    let n = rates_length(bytes);
+    let a = valuing::value(bytes, list, &zeros[0..n], 0, work, statics);
     if a.number != 0 {
         return refusal(out, a.number, a.place);
     }
-    let b = valuing::value(bytes, list, 1, work, mixeds);
-    let d = valuing::value(bytes, list, 2, work, dynamics);
+    let b = valuing::value(bytes, list, &zeros[0..n], 1, work, mixeds);
+    let d = valuing::value(bytes, list, &zeros[0..n], 2, work, dynamics);
     let at = value_lines(out, a.value, b.value, d.value);
     all_lines(bytes, list, statics, mixeds, dynamics, out, at)
 }

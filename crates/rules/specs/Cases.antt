@@ -11,24 +11,24 @@ use Rattle.decision.specs.Bits.{bit, fromBits, wordsFor, wordOf, wordsOf, setBi
 use Rattle.decision.specs.Layers.{lookup, layers, entry}
 use Rattle.decision.specs.Choice.{largest, smallestBest}
 use Rattle.decision.specs.Process.{reached, worth, valueOver, value, recorded, startValue, met, startMet}
-use Rattle.rules.specs.Contract.{word, long, bytesOf, Terms, termsOf, returnsOf}
+use Rattle.rules.specs.Contract.{word, long, bytesOf, Terms, termsOf, returnsOf, ratesOf, living}
 use Rattle.rules.specs.Date.{Behaviour, static, mixed, dynamic, freeAmount, largestAmount, surrenders, admits, rateOn}
 use Rattle.rules.specs.Date.{penalty, cash, guaranteeAfter, balanceAfter, liftedAccount, nextAccount, excess, excessPaid}
-use Rattle.rules.specs.Date.{maturityValue, discounted, margin}
+use Rattle.rules.specs.Date.{maturityValue, deathPayment, deathShare, discounted, margin}
 use Rattle.rules.specs.Product.{stateValue, recordedAmount, contractValue, amountLayers, walkState, walkAmount, walkHeld}
 use Rattle.rules.specs.Product.{walkPaid, walkCashOn, walkCashLast, walkCash}
-use Rattle.rules.specs.FixedTerm.{State, freeIn, admissibleIn, limitIn, cashIn, afterIn, reachBy, paidBy, expectOver}
-use Rattle.rules.specs.FixedTerm.{startOf, processOf, layerSize, layoutOf, fixedTerm}
+use Rattle.rules.specs.FixedTerm.{State, freeIn, admissibleIn, limitIn, cashIn, afterIn, reachBy, paidBy, deathBy}
+use Rattle.rules.specs.FixedTerm.{expectOver, startOf, processOf, layerSize, layoutOf, fixedTerm}
 use Rattle.rules.specs.Refusals.{checkEach, Verdict, accepted, refused, verdict, numberOf, placeOf, onSuccess, outside}
-use Rattle.rules.specs.Refusals.{short, termsChecks, recordChecks, badReturn, listChecks}
-use Rattle.rules.specs.Operations.{productOf, Answer, answer, behaviourNumber, behaviourOf, tableSize, lentChecks}
+use Rattle.rules.specs.Refusals.{short, termsChecks, recordChecks, badReturn, listChecks, ratesChecks, inputChecks}
+use Rattle.rules.specs.Operations.{productOf, livingOf, Answer, answer, behaviourNumber, behaviourOf, tableSize, lentChecks}
 use Rattle.rules.specs.Operations.{recordVerdict, valuingChecks, valuingVerdict, valuingAnswer, amountChecks, bookingChecks}
 use Rattle.rules.specs.Operations.{bookingVerdict, bookingBytes, bookingBuffer, badDate, pathChecks, walkChecks}
 use Rattle.rules.specs.Operations.{walkVerdict, walkCashes}
 use Rattle.rules.specs.Map.{surrendered, surrenderMap, surrenderCount, mapSize, mapChecks, mappingChecks, mappingVerdict}
 use Rattle.rules.specs.Map.{mappingTable, mappingMap, mappingCount}
 use Rattle.rules.specs.Printed.{digits, decimal, numbered, line, nameOf, linesOf, valueLine, returnLine, lineCount}
-use Rattle.rules.specs.Printed.{valuesText, textOf, programVerdict, printed}
+use Rattle.rules.specs.Printed.{valuesText, textOf, zeroRates, programVerdict, printed}
 
 -- ---- contracts P and Q
 -- a record's bytes
@@ -56,6 +56,10 @@ P-one = record { premium = 10; level = 5; top = 20; dates = 1; fee = 0; penalty 
 P-three : Terms
 P-three = record { premium = 10; level = 5; top = 20; dates = 3; fee = 0; penalty = 1000; discount = 1000000; step = 0; spare = 0 }
 
+-- P with N 4
+P-four : Terms
+P-four = record { premium = 10; level = 5; top = 20; dates = 4; fee = 0; penalty = 1000; discount = 1000000; step = 0; spare = 0 }
+
 -- "P with discount 950,000"
 P-discounted : Terms
 P-discounted = record { premium = 10; level = 5; top = 20; dates = 2; fee = 0; penalty = 1000; discount = 950000; step = 0; spare = 0 }
@@ -79,10 +83,17 @@ P-tight n = record { premium = 10; level = 5; top = 12; dates = n; fee = 0; pena
 unfoldable pub returnsP : List ℕ
 returnsP = bytesOf 2 5000 ++ bytesOf 2 5000 ++ bytesOf 2 15000 ++ bytesOf 2 5000
 
+-- (v) the bytes of death rates
+unfoldable pub packedRates : List ℕ → List ℕ
+packedRates [] = []
+packedRates (x ∷ xs) = bytesOf 2 x ++ packedRates xs
+
 -- ---- what is asked and told
 pub data Question : Type 0 where
-  -- the contract's value and margin
+  -- the contract's value and margin, with zero rates
   contractOf : Terms → Behaviour → Question
+  -- .. with death rates
+  ratedOf : Terms → List ℕ → Behaviour → Question
   -- the value and the recorded amount at (w, a) on date 1
   stateOf : Terms → Behaviour → ℕ → ℕ → Question
   -- whether the account may be surrendered at (w, a)
@@ -119,25 +130,32 @@ booked buffer = cash-penalty-balance-guarantee (long buffer 0) (long buffer 4) (
 valued : Verdict → Answer → Told
 valued v a = unless-refused v (value-margin (a .value) (a .margin))
 
-pub tell : Question → Told
-tell (contractOf c b) =
+valuedWith : Terms → List ℕ → Behaviour → Told
+valuedWith c rates b =
     let work : List ℕ = replicate (2 * layerSize c) 0 in
     let table : List ℕ = replicate (tableSize c) 0 in
     valued
-    (valuingVerdict (packed c) returnsP (behaviourNumber b) work table)
-    (valuingAnswer (packed c) returnsP (behaviourNumber b) work table)
+    (valuingVerdict (packed c) returnsP rates (behaviourNumber b) work table)
+    (valuingAnswer (packed c) returnsP rates (behaviourNumber b) work table)
+
+pub tell : Question → Told
+tell (contractOf c b) = valuedWith c (zeroRates (packed c)) b
+tell (ratedOf c rates b) = valuedWith c (packedRates rates) b
 tell (mapOf c b words word) =
+    let rates : List ℕ = zeroRates (packed c) in
     let work : List ℕ = replicate (2 * layerSize c) 0 in
     let table : List ℕ = replicate (tableSize c) 0 in
     let map : List ℕ = replicate words word in
     unless-refused
-    (mappingVerdict (packed c) returnsP (behaviourNumber b) work table map)
-    (words-count (mappingMap (packed c) returnsP (behaviourNumber b) work table map) (mappingCount (packed c) returnsP (behaviourNumber b) work table map))
+    (mappingVerdict (packed c) returnsP rates (behaviourNumber b) work table map)
+    (words-count
+    (mappingMap (packed c) returnsP rates (behaviourNumber b) work table map)
+    (mappingCount (packed c) returnsP rates (behaviourNumber b) work table map))
 tell (stateOf c b w a) =
-    let X = fixedTerm c (returnsOf returnsP) in
+    let X = fixedTerm c (returnsOf returnsP) living in
     value-amount (stateValue X b 1 (at w a)) (recordedAmount X b 1 (at w a))
 tell (walkOf c b path) =
-    let table : List ℕ = amountLayers (productOf (packed c) returnsP) b in
+    let table : List ℕ = amountLayers (livingOf (packed c) returnsP) b in
     let before : List ℕ = replicate (c .dates + 1) 7 in
     unless-refused (walkVerdict (packed c) returnsP table path before) (cashes (walkCashes (packed c) returnsP table path before))
 tell (surrenderAt c w a) = allowed (surrenders (freeIn c (at w a)) w w)
@@ -178,12 +196,13 @@ marked =
 
 pub marked-cases : map (λ r. tell (r .asked)) marked ≡ map (λ r. r .told) marked
 unfolding sum first firstFrom largest smallestBest reached worth valueOver value recorded startValue word long bytesOf termsOf returnsOf
-    freeAmount largestAmount surrenders admits rateOn penalty cash guaranteeAfter balanceAfter liftedAccount nextAccount excess
-    excessPaid maturityValue discounted margin stateValue recordedAmount contractValue freeIn admissibleIn limitIn cashIn afterIn
-    reachBy paidBy expectOver startOf processOf layerSize layoutOf fixedTerm checkEach verdict numberOf placeOf onSuccess outside short
-    termsChecks recordChecks badReturn listChecks productOf answer behaviourNumber behaviourOf tableSize lentChecks valuingChecks
-    valuingVerdict valuingAnswer amountChecks bookingChecks bookingVerdict bookingBytes bookingBuffer packed P P-one P-discounted Q
-    returnsP at unless-refused booked valued tell row marked
+    ratesOf freeAmount largestAmount surrenders admits rateOn penalty cash guaranteeAfter balanceAfter liftedAccount nextAccount excess
+    excessPaid maturityValue discounted margin stateValue recordedAmount contractValue freeIn admissibleIn limitIn cashIn afterIn reachBy
+    paidBy deathPayment deathShare deathBy expectOver startOf processOf layerSize layoutOf fixedTerm checkEach verdict numberOf placeOf
+    onSuccess outside short termsChecks recordChecks badReturn listChecks ratesChecks inputChecks productOf answer behaviourNumber
+    behaviourOf tableSize lentChecks valuingChecks valuingVerdict valuingAnswer amountChecks bookingChecks bookingVerdict bookingBytes
+    bookingBuffer packed P P-one P-discounted Q returnsP at unless-refused booked valued valuedWith recordVerdict zeroRates tell row
+    marked
 marked-cases = refl
 
 -- ---- document 02 (i): contract P with N 4 at steps 0, 100 and 1,000; bookings by date; the ends of the two fields
@@ -211,12 +230,12 @@ step-rows =
 
 pub step-cases : map (λ r. tell (r .asked)) step-rows ≡ map (λ r. r .told) step-rows
 unfolding sum first firstFrom largest smallestBest reached worth valueOver value recorded startValue word long bytesOf termsOf returnsOf
-    freeAmount largestAmount surrenders admits rateOn penalty cash guaranteeAfter balanceAfter liftedAccount nextAccount excess
-    excessPaid maturityValue discounted margin stateValue recordedAmount contractValue freeIn admissibleIn limitIn cashIn afterIn
-    reachBy paidBy expectOver startOf processOf layerSize layoutOf fixedTerm checkEach verdict numberOf placeOf onSuccess outside short
-    termsChecks recordChecks badReturn listChecks productOf answer behaviourNumber behaviourOf tableSize lentChecks recordVerdict
-    valuingChecks valuingVerdict valuingAnswer amountChecks bookingChecks bookingVerdict bookingBytes bookingBuffer packed P-spare
-    P-step returnsP at unless-refused booked valued tell row step-rows
+    ratesOf freeAmount largestAmount surrenders admits rateOn penalty cash guaranteeAfter balanceAfter liftedAccount nextAccount excess
+    excessPaid maturityValue discounted margin stateValue recordedAmount contractValue freeIn admissibleIn limitIn cashIn afterIn reachBy
+    paidBy deathPayment deathShare deathBy expectOver startOf processOf layerSize layoutOf fixedTerm checkEach verdict numberOf placeOf
+    onSuccess outside short termsChecks recordChecks badReturn listChecks ratesChecks inputChecks productOf answer behaviourNumber
+    behaviourOf tableSize lentChecks recordVerdict valuingChecks valuingVerdict valuingAnswer amountChecks bookingChecks bookingVerdict
+    bookingBytes bookingBuffer packed P-spare P-step returnsP at unless-refused booked valued valuedWith zeroRates tell row step-rows
 step-cases = refl
 
 -- ---- document 02 (ii): the maps of contract P, in words that held ones before; a word behind them; a word too few; two
@@ -238,12 +257,13 @@ map-rows =
 
 pub map-cases : map (λ r. tell (r .asked)) map-rows ≡ map (λ r. r .told) map-rows
 unfolding sum tabulate first firstFrom largest smallestBest reached worth valueOver value recorded startValue word long bytesOf termsOf
-    returnsOf freeAmount largestAmount surrenders admits rateOn penalty cash guaranteeAfter balanceAfter liftedAccount nextAccount
+    returnsOf ratesOf freeAmount largestAmount surrenders admits rateOn penalty cash guaranteeAfter balanceAfter liftedAccount nextAccount
     excess excessPaid maturityValue discounted recordedAmount amountLayers layers freeIn admissibleIn limitIn cashIn afterIn reachBy
-    paidBy expectOver startOf processOf layerSize layoutOf fixedTerm checkEach verdict onSuccess outside short termsChecks recordChecks
-    badReturn listChecks productOf behaviourNumber behaviourOf tableSize lentChecks valuingChecks bit fromBits wordsFor wordOf wordsOf
-    setBits surrendered surrenderMap surrenderCount mapSize mapChecks mappingChecks mappingVerdict mappingTable mappingMap mappingCount
-    packed P P-one P-three returnsP unless-refused tell row map-rows
+    paidBy deathPayment deathShare deathBy expectOver startOf processOf layerSize layoutOf fixedTerm checkEach verdict onSuccess outside
+    short termsChecks recordChecks badReturn listChecks ratesChecks inputChecks productOf behaviourNumber behaviourOf tableSize lentChecks
+    valuingChecks bit fromBits wordsFor wordOf wordsOf setBits surrendered surrenderMap surrenderCount mapSize mapChecks mappingChecks
+    mappingVerdict mappingTable mappingMap mappingCount packed P P-one P-three returnsP unless-refused recordVerdict zeroRates tell row
+    map-rows
 map-cases = refl
 
 -- ---- document 02 (iv): contract P with N 3, and its walks along the dynamic table; with top 12, where the first return pays
@@ -266,13 +286,51 @@ excess-rows =
 
 pub excess-cases : map (λ r. tell (r .asked)) excess-rows ≡ map (λ r. r .told) excess-rows
 unfolding sum tabulate first firstFrom largest smallestBest reached worth valueOver value recorded startValue met startMet word long
-    bytesOf termsOf returnsOf freeAmount largestAmount surrenders admits rateOn penalty cash guaranteeAfter balanceAfter liftedAccount
-    nextAccount excess excessPaid maturityValue discounted margin recordedAmount contractValue amountLayers walkState walkAmount
-    walkHeld walkPaid walkCashOn walkCashLast walkCash lookup layers entry freeIn admissibleIn limitIn cashIn afterIn reachBy paidBy expectOver startOf
-    processOf layerSize layoutOf fixedTerm checkEach verdict onSuccess outside short termsChecks recordChecks badReturn listChecks
-    productOf answer behaviourNumber behaviourOf tableSize lentChecks valuingChecks valuingVerdict valuingAnswer badDate pathChecks
-    walkChecks walkVerdict walkCashes packed P-three P-tight returnsP unless-refused valued tell row excess-rows
+    bytesOf termsOf returnsOf ratesOf freeAmount largestAmount surrenders admits rateOn penalty cash guaranteeAfter balanceAfter
+    liftedAccount nextAccount excess excessPaid maturityValue discounted margin recordedAmount contractValue amountLayers walkState
+    walkAmount walkHeld walkPaid walkCashOn walkCashLast walkCash lookup layers entry freeIn admissibleIn limitIn cashIn afterIn reachBy
+    paidBy deathPayment deathShare deathBy expectOver startOf processOf layerSize layoutOf fixedTerm checkEach verdict onSuccess outside
+    short termsChecks recordChecks badReturn listChecks ratesChecks inputChecks productOf livingOf answer behaviourNumber behaviourOf
+    tableSize lentChecks valuingChecks valuingVerdict valuingAnswer badDate pathChecks walkChecks walkVerdict walkCashes packed P-three
+    P-tight returnsP unless-refused valued valuedWith recordVerdict zeroRates tell row excess-rows
 excess-cases = refl
+
+-- ---- document 02 (v): contract P with death rates, also of three and four periods, of a discount, and of top 12, where a death
+-- pays an excess; rates too few, too many and too high
+pub death-rows : List Row
+death-rows =
+    row 1 (ratedOf P (100 ∷ 100 ∷ []) static) (value-margin 125000 (pos 25000))
+    ∷ row 1 (ratedOf P (100 ∷ 100 ∷ []) mixed) (value-margin 125000 (pos 25000))
+    ∷ row 1 (ratedOf P (100 ∷ 100 ∷ []) dynamic) (value-margin 129950 (pos 29950))
+    ∷ row 2 (ratedOf P (2500 ∷ 5000 ∷ []) dynamic) (value-margin 128750 (pos 28750))
+    ∷ row 3 (ratedOf P (10000 ∷ 0 ∷ []) dynamic) (value-margin 125000 (pos 25000))
+    ∷ row 3 (ratedOf P (10000 ∷ 10000 ∷ []) static) (value-margin 125000 (pos 25000))
+    ∷ row 4 (ratedOf P (0 ∷ 10000 ∷ []) dynamic) (value-margin 130000 (pos 30000))
+    ∷ row 5 (ratedOf P-three (100 ∷ 200 ∷ 300 ∷ []) static) (value-margin 125000 (pos 25000))
+    ∷ row 5 (ratedOf P-three (100 ∷ 200 ∷ 300 ∷ []) mixed) (value-margin 125000 (pos 25000))
+    ∷ row 5 (ratedOf P-three (100 ∷ 200 ∷ 300 ∷ []) dynamic) (value-margin 131162 (pos 31162))
+    ∷ row 6 (ratedOf P-four (500 ∷ 500 ∷ 500 ∷ 500 ∷ []) static) (value-margin 123927 (pos 23927))
+    ∷ row 6 (ratedOf P-four (500 ∷ 500 ∷ 500 ∷ 500 ∷ []) mixed) (value-margin 123927 (pos 23927))
+    ∷ row 6 (ratedOf P-four (500 ∷ 500 ∷ 500 ∷ 500 ∷ []) dynamic) (value-margin 137844 (pos 37844))
+    ∷ row 7 (ratedOf P-discounted (3333 ∷ 3333 ∷ []) static) (value-margin 116374 (pos 16374))
+    ∷ row 7 (ratedOf P-discounted (3333 ∷ 3333 ∷ []) mixed) (value-margin 116374 (pos 16374))
+    ∷ row 7 (ratedOf P-discounted (3333 ∷ 3333 ∷ []) dynamic) (value-margin 118749 (pos 18749))
+    ∷ row 8 (ratedOf (P-tight 2) (2500 ∷ 5000 ∷ []) dynamic) (value-margin 132500 (pos 32500))
+    ∷ row 9 (ratedOf P (0 ∷ []) static) (number-place 17 0)
+    ∷ row 9 (ratedOf P (0 ∷ 0 ∷ 0 ∷ []) static) (number-place 17 0)
+    ∷ row 10 (ratedOf P (10000 ∷ 10001 ∷ []) static) (number-place 18 1)
+    ∷ row 10 (ratedOf P (10001 ∷ 10001 ∷ []) static) (number-place 18 0)
+    ∷ []
+
+pub death-cases : map (λ r. tell (r .asked)) death-rows ≡ map (λ r. r .told) death-rows
+unfolding sum first firstFrom largest smallestBest reached worth valueOver value startValue word long bytesOf termsOf returnsOf ratesOf
+    freeAmount largestAmount surrenders admits rateOn penalty cash guaranteeAfter balanceAfter liftedAccount nextAccount excess excessPaid
+    maturityValue deathPayment deathShare discounted margin contractValue freeIn admissibleIn limitIn cashIn afterIn reachBy paidBy
+    deathBy expectOver startOf processOf layerSize layoutOf fixedTerm checkEach verdict numberOf placeOf onSuccess outside short
+    termsChecks recordChecks badReturn listChecks ratesChecks inputChecks productOf answer behaviourNumber behaviourOf tableSize
+    lentChecks valuingChecks valuingVerdict valuingAnswer packed packedRates P P-three P-four P-discounted P-tight returnsP unless-refused
+    valued valuedWith recordVerdict zeroRates tell row death-rows
+death-cases = refl
 
 -- "The program .. prints exactly": the five lines for P, as ASCII codes
 pub printed-P : printed (packed P) returnsP
@@ -282,11 +340,12 @@ pub printed-P : printed (packed P) returnsP
     48 ∷ 32 ∷ 53 ∷ 32 ∷ 49 ∷ 48 ∷ 32 ∷ 53 ∷ 32 ∷ 53 ∷ 32 ∷ 48 ∷ 10 ∷
     49 ∷ 32 ∷ 49 ∷ 53 ∷ 32 ∷ 49 ∷ 48 ∷ 32 ∷ 53 ∷ 32 ∷ 53 ∷ 32 ∷ 48 ∷ 10 ∷ []
 unfolding sum first firstFrom largest smallestBest reached worth valueOver value recorded startValue word long bytesOf termsOf returnsOf
-    freeAmount largestAmount surrenders admits rateOn penalty cash guaranteeAfter balanceAfter liftedAccount nextAccount excess
-    excessPaid maturityValue discounted stateValue recordedAmount contractValue freeIn admissibleIn limitIn cashIn afterIn reachBy
-    paidBy expectOver startOf processOf layerSize layoutOf fixedTerm checkEach verdict outside short termsChecks recordChecks badReturn
-    listChecks productOf behaviourNumber tableSize lentChecks valuingChecks valuingVerdict digits decimal numbered line nameOf linesOf
-    valueLine returnLine lineCount valuesText textOf programVerdict printed packed P returnsP
+    ratesOf freeAmount largestAmount surrenders admits rateOn penalty cash guaranteeAfter balanceAfter liftedAccount nextAccount excess
+    excessPaid maturityValue discounted stateValue recordedAmount contractValue freeIn admissibleIn limitIn cashIn afterIn reachBy paidBy
+    deathPayment deathShare deathBy expectOver startOf processOf layerSize layoutOf fixedTerm checkEach verdict outside short termsChecks
+    recordChecks badReturn listChecks ratesChecks inputChecks productOf behaviourNumber tableSize lentChecks valuingChecks valuingVerdict
+    digits decimal numbered line nameOf linesOf valueLine returnLine lineCount valuesText textOf recordVerdict onSuccess zeroRates
+    programVerdict printed packed P returnsP
 printed-P = refl
 
 -- "the program lends 4,096 working numbers, refusing by 11 what needs more": two layers of 64 × 32 entries, and of 683 × 3
@@ -305,6 +364,7 @@ P-wide premium top = record {
 
 pub program-room : (programVerdict (packed (P-wide 31 63)) returnsP ≡ accepted)
     × (programVerdict (packed (P-wide 2 682)) returnsP ≡ refused 11 0)
-unfolding sum first firstFrom word long bytesOf termsOf returnsOf layerSize checkEach verdict outside short termsChecks recordChecks
-    badReturn listChecks behaviourNumber tableSize lentChecks valuingChecks valuingVerdict programVerdict packed returnsP
+unfolding sum first firstFrom word long bytesOf termsOf returnsOf ratesOf layerSize checkEach verdict outside short termsChecks
+    recordChecks badReturn listChecks ratesChecks inputChecks behaviourNumber tableSize lentChecks valuingChecks valuingVerdict
+    recordVerdict onSuccess zeroRates programVerdict packed returnsP
 program-room = (refl, refl)

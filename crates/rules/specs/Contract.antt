@@ -1,5 +1,5 @@
--- Document 01, 'Units and records': the contract record and the return list, their layout and their ranges. Sentences marked
--- (i) are of document 02, by its request. Assumes nothing.
+-- Document 01, 'Units and records': the contract record, the return list and the death rates, their layout and their ranges.
+-- Sentences marked (i), (v) are of document 02, by its requests. Assumes nothing.
 use mathlib.Core.List.{List, [], _∷_}
 use Prim.Native.Nat.{ℕ, zero, suc, _+_, _*_, _/_, _%_}
 use lib.ListN.{getD, length}
@@ -54,7 +54,7 @@ topMost = 4000
 abbrev pub datesMost : ℕ
 datesMost = 40
 
--- of the fee, the penalty rate and the penalty step, in ten-thousandths
+-- of the fee, the penalty rate, the penalty step and a death rate, in ten-thousandths
 abbrev pub rateMost : ℕ
 rateMost = 10000
 
@@ -92,3 +92,18 @@ returnsMost = 64
 
 abbrev pub weightTotal : ℕ
 weightTotal = 10000
+
+-- ---- the death rates
+-- (v) "A list of N death rates (2 bytes, ten-thousandths), one per period": by the date on which the period begins, from 0
+abbrev pub Rates : Type 0
+Rates = ℕ → ℕ
+
+abbrev pub rateBytes : ℕ
+rateBytes = 2
+
+unfoldable pub ratesOf : List ℕ → Rates
+ratesOf bytes i = word bytes (rateBytes * i)
+
+-- (v) "a walk is a living holder's and takes no rates"
+abbrev pub living : Rates
+living i = 0

@@ -1,8 +1,8 @@
 -- Document 01, 'One date' and 'Values', on plain numbers: w is the account, a the guarantee, t the amount, m the smaller of
--- level and guarantee, i the date. A difference stops at 0. Sentences marked (i), (iv) are of document 02, by its requests.
+-- level and guarantee, i the date. A difference stops at 0. Sentences marked (i), (iv), (v) are of document 02, by its requests.
 -- Assumes nothing.
 use mathlib.Core.Bool.{Bool, cond, _&&_, _||_}
-use Prim.Native.Nat.{ℕ, _-_, _*_, _/_, min, max}
+use Prim.Native.Nat.{ℕ, _+_, _-_, _*_, _/_, min, max}
 use lib.Dec.{leb, ltb, eqb}
 use lib.IntN.{ℤ, subℕ}
 
@@ -67,6 +67,15 @@ excessPaid fee top balance factor = 10000 * excess fee top balance factor
 -- "At maturity the value is 10,000 × the larger of W and A."
 unfoldable pub maturityValue : ℕ → ℕ → ℕ
 maturityValue w a = 10000 * max w a
+
+-- (v) "Death in a period pays 10,000 × the larger of W and A as reached on its closing date, before any decision, plus 10,000 ×
+-- any excess over top."
+unfoldable pub deathPayment : ℕ → ℕ → ℕ → ℕ
+deathPayment w a over = 10000 * max w a + 10000 * over
+
+-- (v) "Each reached value becomes ((10,000 − rate) × value + rate × death payment) / 10,000, rounded down"
+unfoldable pub deathShare : ℕ → ℕ → ℕ → ℕ
+deathShare rate value payment = ((10000 - rate) * value + rate * payment) / 10000
 
 -- "discount × (sum of weight × value reached) / 10,000,000,000, rounded down once"
 unfoldable pub discounted : ℕ → ℕ → ℕ

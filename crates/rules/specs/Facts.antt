@@ -13,8 +13,8 @@ use lib.Dec.{lit<, ltb}
 use borrow.Author.Tests.{lt-ltb, le-ltb}
 use lib.IntN.{pos, negℤ}
 use Rattle.rules.specs.Contract.{factorMost}
-use Rattle.rules.specs.Date.{liftedAccount, nextAccount, excess, discounted, margin}
-use Rattle.rules.specs.Refusals.{checkEach, numbers, termsChecks, recordChecks, listChecks}
+use Rattle.rules.specs.Date.{liftedAccount, nextAccount, excess, deathShare, discounted, margin}
+use Rattle.rules.specs.Refusals.{checkEach, numbers, termsChecks, recordChecks, listChecks, ratesChecks, inputChecks}
 use Rattle.rules.specs.Printed.{digits, decimal}
 use Rattle.rules.specs.Operations.{lentChecks, valuingChecks, tableChecks, suppliedChecks, amountChecks, bookingChecks}
 use Rattle.rules.specs.Operations.{pathChecks, walkChecks}
@@ -25,21 +25,23 @@ pub record-order : (bytes : List ℕ) → numbers (recordChecks bytes) ≡ 1 ∷
 unfolding numbers termsChecks recordChecks
 record-order bytes = refl
 
-pub valuing-order : (bytes list : List ℕ) (behaviour : ℕ) (work table : List ℕ)
-    → numbers (valuingChecks bytes list behaviour work table) ≡ 1 ∷ 2 ∷ 3 ∷ 4 ∷ 5 ∷ 6 ∷ 15 ∷ 7 ∷ 8 ∷ 9 ∷ 10 ∷ 11 ∷ []
-unfolding numbers termsChecks recordChecks listChecks lentChecks valuingChecks checkEach
-valuing-order bytes list behaviour work table = refl
+pub valuing-order : (bytes list rates : List ℕ) (behaviour : ℕ) (work table : List ℕ)
+    → numbers (valuingChecks bytes list rates behaviour work table)
+    ≡ 1 ∷ 2 ∷ 3 ∷ 4 ∷ 5 ∷ 6 ∷ 15 ∷ 7 ∷ 8 ∷ 9 ∷ 17 ∷ 18 ∷ 10 ∷ 11 ∷ []
+unfolding numbers termsChecks recordChecks listChecks ratesChecks inputChecks lentChecks valuingChecks checkEach
+valuing-order bytes list rates behaviour work table = refl
 
-pub mapping-order : (bytes list : List ℕ) (behaviour : ℕ) (work table map : List ℕ)
-    → numbers (mappingChecks bytes list behaviour work table map)
-    ≡ 1 ∷ 2 ∷ 3 ∷ 4 ∷ 5 ∷ 6 ∷ 15 ∷ 7 ∷ 8 ∷ 9 ∷ 10 ∷ 11 ∷ 16 ∷ []
-unfolding numbers termsChecks recordChecks listChecks lentChecks valuingChecks checkEach mapChecks mappingChecks
-mapping-order bytes list behaviour work table map = refl
+pub mapping-order : (bytes list rates : List ℕ) (behaviour : ℕ) (work table map : List ℕ)
+    → numbers (mappingChecks bytes list rates behaviour work table map)
+    ≡ 1 ∷ 2 ∷ 3 ∷ 4 ∷ 5 ∷ 6 ∷ 15 ∷ 7 ∷ 8 ∷ 9 ∷ 17 ∷ 18 ∷ 10 ∷ 11 ∷ 16 ∷ []
+unfolding numbers termsChecks recordChecks listChecks ratesChecks inputChecks lentChecks valuingChecks checkEach mapChecks mappingChecks
+mapping-order bytes list rates behaviour work table map = refl
 
-pub supplied-order : (bytes list work table : List ℕ)
-    → numbers (suppliedChecks bytes list work table) ≡ 1 ∷ 2 ∷ 3 ∷ 4 ∷ 5 ∷ 6 ∷ 15 ∷ 7 ∷ 8 ∷ 9 ∷ 11 ∷ 14 ∷ []
-unfolding numbers termsChecks recordChecks listChecks tableChecks suppliedChecks checkEach
-supplied-order bytes list work table = refl
+pub supplied-order : (bytes list rates work table : List ℕ)
+    → numbers (suppliedChecks bytes list rates work table)
+    ≡ 1 ∷ 2 ∷ 3 ∷ 4 ∷ 5 ∷ 6 ∷ 15 ∷ 7 ∷ 8 ∷ 9 ∷ 17 ∷ 18 ∷ 11 ∷ 14 ∷ []
+unfolding numbers termsChecks recordChecks listChecks ratesChecks inputChecks tableChecks suppliedChecks checkEach
+supplied-order bytes list rates work table = refl
 
 pub booking-order : (bytes : List ℕ) (date w a t : ℕ) (buffer : List ℕ)
     → numbers (bookingChecks bytes date w a t buffer) ≡ 1 ∷ 2 ∷ 3 ∷ 4 ∷ 5 ∷ 6 ∷ 15 ∷ 11 ∷ 12 ∷ 14 ∷ []
@@ -73,6 +75,12 @@ pub nothing-dropped : (fee top balance factor : ℕ)
     × (0 < excess fee top balance factor → nextAccount fee top balance factor ≡ top)
 unfolding nextAccount excess
 nothing-dropped fee top balance factor = (omega arith, λ l. omega arith)
+
+-- (v) "rounded down": a share is the largest that the exact sum allows
+pub share-rounds : (rate value payment x : ℕ)
+    → (x ≤ deathShare rate value payment) ↔ (x * 10000 ≤ (10000 - rate) * value + rate * payment)
+unfolding deathShare
+share-rounds rate value payment x = le-div-iff-mul-le (lit< tt)
 
 -- "rounded down once": the discounted sum is the largest that the exact product allows
 pub discount-rounds : (discount sum x : ℕ) → (x ≤ discounted discount sum) ↔ (x * 10000000000 ≤ discount * sum)

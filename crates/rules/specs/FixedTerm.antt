@@ -4,9 +4,9 @@ use Prim.Native.Nat.{ℕ, _+_, _*_, _/_, _%_, _≤_}
 use Rattle.decision.specs.Index.{sum}
 use Rattle.decision.specs.Process.{Process}
 use Rattle.decision.specs.Layers.{Layout}
-use Rattle.rules.specs.Contract.{Terms, Returns}
+use Rattle.rules.specs.Contract.{Terms, Returns, Rates, living}
 use Rattle.rules.specs.Date.{Behaviour, freeAmount, largestAmount, admits, rateOn, cash, guaranteeAfter, balanceAfter}
-use Rattle.rules.specs.Date.{nextAccount, excessPaid, maturityValue, discounted}
+use Rattle.rules.specs.Date.{nextAccount, excess, excessPaid, maturityValue, deathPayment, deathShare, discounted}
 use Rattle.rules.specs.Product.{Product}
 
 -- "State: account W from 0 to top, guarantee A from 0 to U."
@@ -57,16 +57,24 @@ reachBy c rs h k = record {
 unfoldable pub paidBy : Terms → Returns → Held → ℕ → ℕ
 paidBy c rs h k = excessPaid (c .fee) (c .top) (h .balance) (rs .factor k)
 
--- "discount × (sum of weight × value reached) / 10,000,000,000"
-unfoldable pub expectOver : Terms → Returns → ℕ → Held → (ℕ → ℕ) → ℕ
-expectOver c rs i h reached = discounted (c .discount) (sum (λ k. rs .weight k * reached k) (rs .count))
+-- (v) the payment where the holder dies in the period of return k
+unfoldable pub deathBy : Terms → Returns → Held → ℕ → ℕ
+deathBy c rs h k =
+    let s = reachBy c rs h k in
+    deathPayment (s .account) (s .guarantee) (excess (c .fee) (c .top) (h .balance) (rs .factor k))
+
+-- "discount × (sum of weight × value reached) / 10,000,000,000", where (v) "Each reached value becomes" its share with the death
+-- payment, by the rate of the period that begins on date i, "before weights are applied"
+unfoldable pub expectOver : Terms → Returns → Rates → ℕ → Held → (ℕ → ℕ) → ℕ
+expectOver c rs ds i h reached =
+    discounted (c .discount) (sum (λ k. rs .weight k * deathShare (ds i) (reached k) (deathBy c rs h k)) (rs .count))
 
 -- "Start: balance U and guarantee U, then the first return."
 unfoldable pub startOf : Terms → Held
 startOf c = record { balance = c .premium; guarantee = c .premium }
 
-unfoldable pub processOf : Terms → Returns → Process State Held
-processOf c rs = record {
+unfoldable pub processOf : Terms → Returns → Rates → Process State Held
+processOf c rs ds = record {
   dates = c .dates;
   start = startOf c;
   returns = rs .count;
@@ -75,7 +83,7 @@ processOf c rs = record {
   after = afterIn c;
   reach = reachBy c rs;
   paid = paidBy c rs;
-  expect = expectOver c rs;
+  expect = expectOver c rs ds;
   final = λ s. maturityValue (s .account) (s .guarantee);
 }
 
@@ -91,5 +99,9 @@ layoutOf c = record {
   stateAt = λ e. record { account = e / (c .premium + 1); guarantee = e % (c .premium + 1) };
 }
 
-unfoldable pub fixedTerm : Terms → Returns → Product State Held
-fixedTerm c rs = record { process = processOf c rs; admissible = admissibleIn c; layout = layoutOf c }
+unfoldable pub fixedTerm : Terms → Returns → Rates → Product State Held
+fixedTerm c rs ds = record { process = processOf c rs ds; admissible = admissibleIn c; layout = layoutOf c }
+
+-- the contract of a holder who lives, as a walk follows it
+abbrev pub livingTerm : Terms → Returns → Product State Held
+livingTerm c rs = fixedTerm c rs living

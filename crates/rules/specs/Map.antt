@@ -34,35 +34,36 @@ mapSize c = wordsFor (tableSize c)
 unfoldable pub mapChecks : Terms → List ℕ → List Check
 mapChecks c map = check 16 0 (short (mapSize c) map) ∷ []
 
-unfoldable pub mappingChecks : List ℕ → List ℕ → ℕ → List ℕ → List ℕ → List ℕ → List Check
-mappingChecks bytes list behaviour work table map = valuingChecks bytes list behaviour work table ++ mapChecks (termsOf bytes) map
+unfoldable pub mappingChecks : List ℕ → List ℕ → List ℕ → ℕ → List ℕ → List ℕ → List ℕ → List Check
+mappingChecks bytes list rates behaviour work table map =
+    valuingChecks bytes list rates behaviour work table ++ mapChecks (termsOf bytes) map
 
-unfoldable pub mappingVerdict : List ℕ → List ℕ → ℕ → List ℕ → List ℕ → List ℕ → Verdict
-mappingVerdict bytes list behaviour work table map = verdict (mappingChecks bytes list behaviour work table map)
+unfoldable pub mappingVerdict : List ℕ → List ℕ → List ℕ → ℕ → List ℕ → List ℕ → List ℕ → Verdict
+mappingVerdict bytes list rates behaviour work table map = verdict (mappingChecks bytes list rates behaviour work table map)
 
 -- "A valuing call that is also lent 64-bit words": it reports and leaves what valuing does
-unfoldable pub mappingAnswer : List ℕ → List ℕ → ℕ → List ℕ → List ℕ → List ℕ → Answer
-mappingAnswer bytes list behaviour work table map =
-    valuedAnswer (mappingVerdict bytes list behaviour work table map) bytes list behaviour
+unfoldable pub mappingAnswer : List ℕ → List ℕ → List ℕ → ℕ → List ℕ → List ℕ → List ℕ → Answer
+mappingAnswer bytes list rates behaviour work table map =
+    valuedAnswer (mappingVerdict bytes list rates behaviour work table map) bytes list rates behaviour
 
-unfoldable pub mappingWork : List ℕ → List ℕ → ℕ → List ℕ → List ℕ → List ℕ → List ℕ
-mappingWork bytes list behaviour work table map =
-    valuedWork (mappingVerdict bytes list behaviour work table map) bytes list behaviour work
+unfoldable pub mappingWork : List ℕ → List ℕ → List ℕ → ℕ → List ℕ → List ℕ → List ℕ → List ℕ
+mappingWork bytes list rates behaviour work table map =
+    valuedWork (mappingVerdict bytes list rates behaviour work table map) bytes list rates behaviour work
 
-unfoldable pub mappingTable : List ℕ → List ℕ → ℕ → List ℕ → List ℕ → List ℕ → List ℕ
-mappingTable bytes list behaviour work table map =
-    valuedTable (mappingVerdict bytes list behaviour work table map) bytes list behaviour table
+unfoldable pub mappingTable : List ℕ → List ℕ → List ℕ → ℕ → List ℕ → List ℕ → List ℕ → List ℕ
+mappingTable bytes list rates behaviour work table map =
+    valuedTable (mappingVerdict bytes list rates behaviour work table map) bytes list rates behaviour table
 
 -- .. and the map of the table that it leaves: "later words are untouched"; a refusal "changes no lent slice"
-unfoldable pub mappingMap : List ℕ → List ℕ → ℕ → List ℕ → List ℕ → List ℕ → List ℕ
-mappingMap bytes list behaviour work table map =
-    onSuccess (mappingVerdict bytes list behaviour work table map)
-    (surrenderMap (termsOf bytes) (mappingTable bytes list behaviour work table map) ++ drop (mapSize (termsOf bytes)) map)
+unfoldable pub mappingMap : List ℕ → List ℕ → List ℕ → ℕ → List ℕ → List ℕ → List ℕ → List ℕ
+mappingMap bytes list rates behaviour work table map =
+    onSuccess (mappingVerdict bytes list rates behaviour work table map)
+    (surrenderMap (termsOf bytes) (mappingTable bytes list rates behaviour work table map) ++ drop (mapSize (termsOf bytes)) map)
     map
 
 -- "The number of set bits is returned."; of a refusal: "Other figures it would report are 0"
-unfoldable pub mappingCount : List ℕ → List ℕ → ℕ → List ℕ → List ℕ → List ℕ → ℕ
-mappingCount bytes list behaviour work table map =
-    onSuccess (mappingVerdict bytes list behaviour work table map)
-    (surrenderCount (termsOf bytes) (mappingTable bytes list behaviour work table map))
+unfoldable pub mappingCount : List ℕ → List ℕ → List ℕ → ℕ → List ℕ → List ℕ → List ℕ → ℕ
+mappingCount bytes list rates behaviour work table map =
+    onSuccess (mappingVerdict bytes list rates behaviour work table map)
+    (surrenderCount (termsOf bytes) (mappingTable bytes list rates behaviour work table map))
     0

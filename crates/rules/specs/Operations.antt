@@ -1,20 +1,25 @@
 -- Document 01, 'Lent slices' and 'What an office is told': the whole answer of each operation, and what it leaves in each
--- slice, on every input. `bytes` is the contract record, `list` the return list. Assumes nothing.
+-- slice, on every input. `bytes` is the contract record, `list` the return list, `rates` the death rates. Assumes nothing.
 use mathlib.Core.Bool.{Bool, not, _||_}
 use mathlib.Core.List.{List, [], _∷_, _++_}
 use Prim.Native.Nat.{ℕ, zero, suc, _-_, _*_, _%_}
 use lib.Dec.{leb, ltb, eqb}
 use lib.IntN.{ℤ, pos}
 use lib.ListN.{getD, length, drop, replicate}
-use Rattle.rules.specs.Contract.{Terms, Returns, bytesOf, termsOf, returnsOf}
+use Rattle.rules.specs.Contract.{Terms, Returns, bytesOf, termsOf, returnsOf, ratesOf}
 use Rattle.rules.specs.Date.{Behaviour, static, mixed, dynamic, freeAmount, admits, penalty, cash, guaranteeAfter, balanceAfter, margin}
 use Rattle.rules.specs.Product.{Product, contractValue, valueLayer, amountLayers, suppliedValue, suppliedLayer, walkState, walkAmount, walkCash}
-use Rattle.rules.specs.FixedTerm.{State, Held, admissibleIn, rateIn, layerSize, layoutOf, fixedTerm}
-use Rattle.rules.specs.Refusals.{Check, check, checkEach, Verdict, verdict, numberOf, placeOf, onSuccess, outside, short, recordChecks, listChecks}
+use Rattle.rules.specs.FixedTerm.{State, Held, admissibleIn, rateIn, layerSize, layoutOf, fixedTerm, livingTerm}
+use Rattle.rules.specs.Refusals.{Check, check, checkEach, Verdict, verdict, numberOf, placeOf, onSuccess, outside, short}
+use Rattle.rules.specs.Refusals.{recordChecks, listChecks, inputChecks}
 
--- the contract that a record and a list stand for
-unfoldable pub productOf : List ℕ → List ℕ → Product State Held
-productOf bytes list = fixedTerm (termsOf bytes) (returnsOf list)
+-- the contract that a record, a list and rates stand for
+unfoldable pub productOf : List ℕ → List ℕ → List ℕ → Product State Held
+productOf bytes list rates = fixedTerm (termsOf bytes) (returnsOf list) (ratesOf rates)
+
+-- .. and that of a living holder
+unfoldable pub livingOf : List ℕ → List ℕ → Product State Held
+livingOf bytes list = livingTerm (termsOf bytes) (returnsOf list)
 
 -- "margin (64-bit, signed)"; "Working slices and value fields become 64-bit"
 pub record Answer : Type 0 where
@@ -63,34 +68,37 @@ unfoldable pub lentChecks : Terms → ℕ → List ℕ → List ℕ → List Che
 lentChecks c behaviour work table =
     check 10 0 (ltb 2 behaviour) ∷ check 11 0 (short (2 * layerSize c) work || short (tableSize c) table) ∷ []
 
-unfoldable pub valuingChecks : List ℕ → List ℕ → ℕ → List ℕ → List ℕ → List Check
-valuingChecks bytes list behaviour work table =
-    recordChecks bytes ++ listChecks list ++ lentChecks (termsOf bytes) behaviour work table
+unfoldable pub valuingChecks : List ℕ → List ℕ → List ℕ → ℕ → List ℕ → List ℕ → List Check
+valuingChecks bytes list rates behaviour work table =
+    inputChecks bytes list rates ++ lentChecks (termsOf bytes) behaviour work table
 
-unfoldable pub valuingVerdict : List ℕ → List ℕ → ℕ → List ℕ → List ℕ → Verdict
-valuingVerdict bytes list behaviour work table = verdict (valuingChecks bytes list behaviour work table)
+unfoldable pub valuingVerdict : List ℕ → List ℕ → List ℕ → ℕ → List ℕ → List ℕ → Verdict
+valuingVerdict bytes list rates behaviour work table = verdict (valuingChecks bytes list rates behaviour work table)
 
 -- what valuing reports and leaves, by its verdict
-abbrev pub valuedAnswer : Verdict → List ℕ → List ℕ → ℕ → Answer
-valuedAnswer v bytes list behaviour =
-    answer v (contractValue (productOf bytes list) (behaviourOf behaviour)) (termsOf bytes .premium)
+abbrev pub valuedAnswer : Verdict → List ℕ → List ℕ → List ℕ → ℕ → Answer
+valuedAnswer v bytes list rates behaviour =
+    answer v (contractValue (productOf bytes list rates) (behaviourOf behaviour)) (termsOf bytes .premium)
 
-abbrev pub valuedWork : Verdict → List ℕ → List ℕ → ℕ → List ℕ → List ℕ
-valuedWork v bytes list behaviour work =
-    workAfter v (layerSize (termsOf bytes)) (valueLayer (productOf bytes list) (behaviourOf behaviour)) work
+abbrev pub valuedWork : Verdict → List ℕ → List ℕ → List ℕ → ℕ → List ℕ → List ℕ
+valuedWork v bytes list rates behaviour work =
+    workAfter v (layerSize (termsOf bytes)) (valueLayer (productOf bytes list rates) (behaviourOf behaviour)) work
 
-abbrev pub valuedTable : Verdict → List ℕ → List ℕ → ℕ → List ℕ → List ℕ
-valuedTable v bytes list behaviour table =
-    onSuccess v (amountLayers (productOf bytes list) (behaviourOf behaviour) ++ drop (tableSize (termsOf bytes)) table) table
+abbrev pub valuedTable : Verdict → List ℕ → List ℕ → List ℕ → ℕ → List ℕ → List ℕ
+valuedTable v bytes list rates behaviour table =
+    onSuccess v (amountLayers (productOf bytes list rates) (behaviourOf behaviour) ++ drop (tableSize (termsOf bytes)) table) table
 
-unfoldable pub valuingAnswer : List ℕ → List ℕ → ℕ → List ℕ → List ℕ → Answer
-valuingAnswer bytes list behaviour work table = valuedAnswer (valuingVerdict bytes list behaviour work table) bytes list behaviour
+unfoldable pub valuingAnswer : List ℕ → List ℕ → List ℕ → ℕ → List ℕ → List ℕ → Answer
+valuingAnswer bytes list rates behaviour work table =
+    valuedAnswer (valuingVerdict bytes list rates behaviour work table) bytes list rates behaviour
 
-unfoldable pub valuingWork : List ℕ → List ℕ → ℕ → List ℕ → List ℕ → List ℕ
-valuingWork bytes list behaviour work table = valuedWork (valuingVerdict bytes list behaviour work table) bytes list behaviour work
+unfoldable pub valuingWork : List ℕ → List ℕ → List ℕ → ℕ → List ℕ → List ℕ → List ℕ
+valuingWork bytes list rates behaviour work table =
+    valuedWork (valuingVerdict bytes list rates behaviour work table) bytes list rates behaviour work
 
-unfoldable pub valuingTable : List ℕ → List ℕ → ℕ → List ℕ → List ℕ → List ℕ
-valuingTable bytes list behaviour work table = valuedTable (valuingVerdict bytes list behaviour work table) bytes list behaviour table
+unfoldable pub valuingTable : List ℕ → List ℕ → List ℕ → ℕ → List ℕ → List ℕ → List ℕ
+valuingTable bytes list rates behaviour work table =
+    valuedTable (valuingVerdict bytes list rates behaviour work table) bytes list rates behaviour table
 
 -- ---- valuing a supplied table
 -- "checked in every entry, reachable or not, against the dynamic set": amount t at entry e of a layer, and entry e of a table
@@ -105,19 +113,20 @@ unfoldable pub tableChecks : Terms → List ℕ → List ℕ → List Check
 tableChecks c work table =
     check 11 0 (short (2 * layerSize c) work || short (tableSize c) table) ∷ checkEach 14 0 (badEntry c table) (tableSize c) ∷ []
 
-unfoldable pub suppliedChecks : List ℕ → List ℕ → List ℕ → List ℕ → List Check
-suppliedChecks bytes list work table = recordChecks bytes ++ listChecks list ++ tableChecks (termsOf bytes) work table
+unfoldable pub suppliedChecks : List ℕ → List ℕ → List ℕ → List ℕ → List ℕ → List Check
+suppliedChecks bytes list rates work table = inputChecks bytes list rates ++ tableChecks (termsOf bytes) work table
 
-unfoldable pub suppliedVerdict : List ℕ → List ℕ → List ℕ → List ℕ → Verdict
-suppliedVerdict bytes list work table = verdict (suppliedChecks bytes list work table)
+unfoldable pub suppliedVerdict : List ℕ → List ℕ → List ℕ → List ℕ → List ℕ → Verdict
+suppliedVerdict bytes list rates work table = verdict (suppliedChecks bytes list rates work table)
 
-unfoldable pub suppliedAnswer : List ℕ → List ℕ → List ℕ → List ℕ → Answer
-suppliedAnswer bytes list work table =
-    answer (suppliedVerdict bytes list work table) (suppliedValue (productOf bytes list) table) (termsOf bytes .premium)
+unfoldable pub suppliedAnswer : List ℕ → List ℕ → List ℕ → List ℕ → List ℕ → Answer
+suppliedAnswer bytes list rates work table =
+    answer (suppliedVerdict bytes list rates work table) (suppliedValue (productOf bytes list rates) table) (termsOf bytes .premium)
 
-unfoldable pub suppliedWork : List ℕ → List ℕ → List ℕ → List ℕ → List ℕ
-suppliedWork bytes list work table =
-    workAfter (suppliedVerdict bytes list work table) (layerSize (termsOf bytes)) (suppliedLayer (productOf bytes list) table) work
+unfoldable pub suppliedWork : List ℕ → List ℕ → List ℕ → List ℕ → List ℕ → List ℕ
+suppliedWork bytes list rates work table =
+    workAfter (suppliedVerdict bytes list rates work table) (layerSize (termsOf bytes))
+    (suppliedLayer (productOf bytes list rates) table) work
 
 -- ---- booking one withdrawal
 -- 12: "date not 1 to N−1, W above top or A above U"
@@ -152,7 +161,7 @@ bookingBuffer bytes date w a t buffer =
 -- "It checks only the table entries it meets.": the amount met on date suc j
 unfoldable pub badDate : Terms → Returns → List ℕ → List ℕ → ℕ → Bool
 badDate c rs table path j =
-    let X = fixedTerm c rs in
+    let X = livingTerm c rs in
     not (admissibleIn c dynamic (walkState X table path (suc j)) (walkAmount X table path (suc j)))
 
 -- 13: "count not N (looked at first), or no such return"
@@ -175,4 +184,5 @@ walkVerdict bytes list table path cashes = verdict (walkChecks bytes list table 
 -- "fills N cash amounts .. in order ..; cash entries beyond N are untouched"; "become 64-bit; cash in a walk too"
 unfoldable pub walkCashes : List ℕ → List ℕ → List ℕ → List ℕ → List ℕ → List ℕ
 walkCashes bytes list table path cashes =
-    onSuccess (walkVerdict bytes list table path cashes) (walkCash (productOf bytes list) table path ++ drop (termsOf bytes .dates) cashes) cashes
+    onSuccess (walkVerdict bytes list table path cashes)
+    (walkCash (livingOf bytes list) table path ++ drop (termsOf bytes .dates) cashes) cashes

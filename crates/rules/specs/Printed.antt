@@ -1,15 +1,16 @@
 -- Document 01, 'Contracts worked by hand': what the program prints for the bytes of terms.bin and returns.bin, as ASCII codes.
--- Assumes nothing.
+-- A sentence marked (v) is of document 02, by its request. Assumes nothing.
 use mathlib.Core.Bool.{cond}
 use mathlib.Core.List.{List, [], _∷_, _++_}
-use Prim.Native.Nat.{ℕ, zero, suc, _+_, _/_, _%_}
+use Prim.Native.Nat.{ℕ, zero, suc, _+_, _*_, _/_, _%_}
 use lib.Dec.{ltb}
 use lib.ListN.{replicate}
+use Rattle.rules.specs.Contract.{rateBytes, termsOf}
 use Rattle.rules.specs.Date.{Behaviour, static, mixed, dynamic}
 use Rattle.rules.specs.Product.{Product, recordedAmount, contractValue}
 use Rattle.rules.specs.FixedTerm.{State, Held}
-use Rattle.rules.specs.Refusals.{Verdict, accepted, refused}
-use Rattle.rules.specs.Operations.{productOf, behaviourNumber, valuingVerdict}
+use Rattle.rules.specs.Refusals.{Verdict, accepted, refused, onSuccess}
+use Rattle.rules.specs.Operations.{productOf, recordVerdict, behaviourNumber, valuingVerdict}
 
 -- "All figures here are decimal": the digits of a number, with no zeros in front, if there are no more than `places`
 unfoldable pub digits : ℕ → ℕ → List ℕ
@@ -67,11 +68,20 @@ module _ (X : Product State Held) where
   textOf accepted = valuesText
   textOf (refused n p) = line refusedWord (n ∷ p ∷ [])
 
+-- (v) "Zero rates, as the program uses": N of them, once the record is accepted
+unfoldable pub zeroRates : List ℕ → List ℕ
+zeroRates bytes = replicate (onSuccess (recordVerdict bytes) (rateBytes * termsOf bytes .dates) 0) 0
+
+-- the contract that it values
+abbrev pub programOf : List ℕ → List ℕ → Product State Held
+programOf bytes list = productOf bytes list (zeroRates bytes)
+
 -- "the program lends 4,096 working numbers, refusing by 11 what needs more", ".. and a table of 16,384." The three behaviours
 -- have the same checks.
 unfoldable pub programVerdict : List ℕ → List ℕ → Verdict
-programVerdict bytes list = valuingVerdict bytes list (behaviourNumber static) (replicate 4096 0) (replicate 16384 0)
+programVerdict bytes list =
+    valuingVerdict bytes list (zeroRates bytes) (behaviourNumber static) (replicate 4096 0) (replicate 16384 0)
 
 -- all that is printed
 unfoldable pub printed : List ℕ → List ℕ → List ℕ
-printed bytes list = textOf (productOf bytes list) (programVerdict bytes list)
+printed bytes list = textOf (programOf bytes list) (programVerdict bytes list)

@@ -1,12 +1,13 @@
--- Document 01, 'What an office is told': checks, their order, and what a refusal gives. Sentences marked (i) are of document
--- 02, by its request. Assumes nothing.
+-- Document 01, 'What an office is told': checks, their order, and what a refusal gives. Sentences marked (i), (v) are of
+-- document 02, by its requests. Assumes nothing.
 use mathlib.Core.Bool.{Bool, true, false, cond, not, _||_}
-use mathlib.Core.List.{List, [], _∷_, map}
+use mathlib.Core.List.{List, [], _∷_, _++_, map}
 use Prim.Native.Nat.{ℕ, _+_, _*_, _%_}
 use lib.Dec.{ltb, eqb}
 use lib.ListN.{length}
 use Rattle.decision.specs.Index.{sum, first}
-use Rattle.rules.specs.Contract.{Terms, Returns, recordBytes, termsOf, topMost, datesMost, rateMost, discountMost, returnBytes, returnsOf, returnsMost, factorMost, weightMost, weightTotal}
+use Rattle.rules.specs.Contract.{Terms, Returns, recordBytes, termsOf, topMost, datesMost, rateMost, discountMost}
+use Rattle.rules.specs.Contract.{returnBytes, returnsOf, returnsMost, factorMost, weightMost, weightTotal, rateBytes, ratesOf}
 
 -- a row of the table of refusals: its number, its place, and whether its condition holds
 pub record Check : Type 0 where
@@ -90,3 +91,15 @@ listChecks bytes =
     ∷ checkEach 8 0 (badReturn rs) (rs .count)
     ∷ check 9 0 (not (eqb (sum (rs .weight) (rs .count)) weightTotal))
     ∷ []
+
+-- 17: (v) "list not of 2 × N bytes"
+-- 18: (v) "first rate above 10,000, place its index"
+unfoldable pub ratesChecks : ℕ → List ℕ → List Check
+ratesChecks dates bytes =
+    check 17 0 (not (eqb (length bytes) (rateBytes * dates)))
+    ∷ checkEach 18 0 (λ i. ltb rateMost (ratesOf bytes i)) dates
+    ∷ []
+
+-- record, returns and rates: (v) "both after 9"
+unfoldable pub inputChecks : List ℕ → List ℕ → List ℕ → List Check
+inputChecks bytes list rates = recordChecks bytes ++ listChecks list ++ ratesChecks (termsOf bytes .dates) rates

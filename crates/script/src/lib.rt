@@ -705,6 +705,7 @@ fn valued(answer: Answer, work: &[u64], table: &[u16], out: &mut [u8]) -> usize
 fn value(
     record: &[u8],
     list: &[u8],
+    rates: &[u8],
     behaviour: u64,
     work: &mut [u64],
     table: &mut [u16],
@@ -712,13 +713,14 @@ fn value(
 ) -> usize
     ensures { λ r. ⌜ r ≤ length (now (out .entry)) ⌝ }
 {
-    let answer = valuing::value(record, list, behaviour as usize, work, table);
+    let answer = valuing::value(record, list, rates, behaviour as usize, work, table);
     valued(answer, work, table, out)
 }
 
 fn value_map(
     record: &[u8],
     list: &[u8],
+    rates: &[u8],
     behaviour: u64,
     work: &mut [u64],
     table: &mut [u16],
@@ -727,7 +729,7 @@ fn value_map(
 ) -> usize
     ensures { λ r. ⌜ r ≤ length (now (out .entry)) ⌝ }
 {
-    let told = mapping::value_map(record, list, behaviour as usize, work, table, map);
+    let told = mapping::value_map(record, list, rates, behaviour as usize, work, table, map);
     let a = amounts(out, told.answer);
     let b = spaced(out, a, told.count);
     let c = digests(out, b, work, table);
@@ -765,7 +767,7 @@ fn work_and_table(
     }
 }
 
-// BEHAVIOUR WORK TABLE of a valuation.
+// RATES BEHAVIOUR WORK TABLE of a valuation.
 fn value_line(
     record: &[u8],
     list: &[u8],
@@ -778,16 +780,20 @@ fn value_line(
     requires { ⌜ held ≤ length (now table) ⌝ }
     ensures { λ r. ⌜ (r .text ≤ length (now (out .entry))) × (r .table ≤ length (now (table .entry))) ⌝ }
 {
-    let behaviour = decimal(part(line, SPACE, 3));
-    let s = work_and_table(line, 4, 5, held, work, table);
+    let mut rates = [0u8; 128];
+    let r = bytes(part(line, SPACE, 3), &mut rates);
+    let behaviour = decimal(part(line, SPACE, 4));
+    let s = work_and_table(line, 5, 6, held, work, table);
+    let i = r.n;
     let k = s.work;
     let n = s.table;
-    if !(behaviour.known && s.known) {
+    if !(r.known && behaviour.known && s.known) {
         return no_table(out);
     }
     let text = value(
         record,
         list,
+        &rates[0..i],
         behaviour.n,
         &mut work[0..k],
         &mut table[0..n],
@@ -797,6 +803,43 @@ fn value_line(
 }
 
 // BEHAVIOUR WORK TABLE MAP of a valuation with its map.
+fn rated_map(
+    record: &[u8],
+    list: &[u8],
+    rates: &[u8],
+    line: &[u8],
+    held: usize,
+    work: &mut [u64],
+    table: &mut [u16],
+    out: &mut [u8],
+) -> Done
+    requires { ⌜ held ≤ length (now table) ⌝ }
+    ensures { λ r. ⌜ (r .text ≤ length (now (out .entry))) × (r .table ≤ length (now (table .entry))) ⌝ }
+{
+    let behaviour = decimal(part(line, SPACE, 4));
+    let s = work_and_table(line, 5, 6, held, work, table);
+    let mut map: [u64; 2048] = [0; 2048];
+    let m = slice64(part(line, SPACE, 7), &mut map);
+    let k = s.work;
+    let n = s.table;
+    let j = m.n;
+    if !(behaviour.known && s.known && m.known) {
+        return no_table(out);
+    }
+    let text = value_map(
+        record,
+        list,
+        rates,
+        behaviour.n,
+        &mut work[0..k],
+        &mut table[0..n],
+        &mut map[0..j],
+        out,
+    );
+    Done { text, table: n }
+}
+
+// RATES, and what stands behind them.
 fn map_line(
     record: &[u8],
     list: &[u8],
@@ -809,36 +852,30 @@ fn map_line(
     requires { ⌜ held ≤ length (now table) ⌝ }
     ensures { λ r. ⌜ (r .text ≤ length (now (out .entry))) × (r .table ≤ length (now (table .entry))) ⌝ }
 {
-    let behaviour = decimal(part(line, SPACE, 3));
-    let s = work_and_table(line, 4, 5, held, work, table);
-    let mut map: [u64; 2048] = [0; 2048];
-    let m = slice64(part(line, SPACE, 6), &mut map);
-    let k = s.work;
-    let n = s.table;
-    let j = m.n;
-    if !(behaviour.known && s.known && m.known) {
+    let mut rates = [0u8; 128];
+    let r = bytes(part(line, SPACE, 3), &mut rates);
+    let i = r.n;
+    if !r.known {
         return no_table(out);
     }
-    let text = value_map(
-        record,
-        list,
-        behaviour.n,
-        &mut work[0..k],
-        &mut table[0..n],
-        &mut map[0..j],
-        out,
-    );
-    Done { text, table: n }
+    rated_map(record, list, &rates[0..i], line, held, work, table, out)
 }
 
-fn value_of(record: &[u8], list: &[u8], work: &mut [u64], table: &[u16], out: &mut [u8]) -> usize
+fn value_of(
+    record: &[u8],
+    list: &[u8],
+    rates: &[u8],
+    work: &mut [u64],
+    table: &[u16],
+    out: &mut [u8],
+) -> usize
     ensures { λ r. ⌜ r ≤ length (now (out .entry)) ⌝ }
 {
-    let answer = supplied::value(record, list, work, table);
+    let answer = supplied::value(record, list, rates, work, table);
     valued(answer, work, table, out)
 }
 
-// WORK TABLE of a supplied table.
+// RATES WORK TABLE of a supplied table.
 fn table_line(
     record: &[u8],
     list: &[u8],
@@ -851,13 +888,23 @@ fn table_line(
     requires { ⌜ held ≤ length (now table) ⌝ }
     ensures { λ r. ⌜ (r .text ≤ length (now (out .entry))) × (r .table ≤ length (now (table .entry))) ⌝ }
 {
-    let s = work_and_table(line, 3, 4, held, work, table);
+    let mut rates = [0u8; 128];
+    let r = bytes(part(line, SPACE, 3), &mut rates);
+    let s = work_and_table(line, 4, 5, held, work, table);
+    let i = r.n;
     let k = s.work;
     let n = s.table;
-    if !s.known {
+    if !(r.known && s.known) {
         return no_table(out);
     }
-    let text = value_of(record, list, &mut work[0..k], &table[0..n], out);
+    let text = value_of(
+        record,
+        list,
+        &rates[0..i],
+        &mut work[0..k],
+        &table[0..n],
+        out,
+    );
     Done { text, table: n }
 }
 
@@ -995,16 +1042,16 @@ pub fn answer(line: &[u8], held: usize, work: &mut [u64], table: &mut [u16], out
     if fields == 6 && same(name, b"book") {
         return kept(record_line(line, false, out), held);
     }
-    if fields == 5 && same(name, b"value") {
+    if fields == 6 && same(name, b"value") {
         return list_line(line, 0, held, work, table, out);
     }
-    if fields == 4 && same(name, b"value_table") {
+    if fields == 5 && same(name, b"value_table") {
         return list_line(line, 1, held, work, table, out);
     }
     if fields == 5 && same(name, b"walk") {
         return list_line(line, 2, held, work, table, out);
     }
-    if fields == 6 && same(name, b"value_map") {
+    if fields == 7 && same(name, b"value_map") {
         return list_line(line, 3, held, work, table, out);
     }
     no_table(out)

@@ -10,35 +10,37 @@ use lib.Dec.{T}
 use lib.ListN.{length, getD, drop, replicate}
 use borrow.Rule.Slice.PartMut.{midOf}
 use Rattle.decision.specs.Index.{first}
-use Rattle.decision.specs.Process.{reached, worth, startTableValue}
+use Rattle.decision.specs.Process.{reached, worth, tableValue, startTableValue}
 use Rattle.decision.specs.Optimal.{table-step, table-last}
 use Rattle.decision.specs.Layers.{low-digit, lookup, layer}
 use Rattle.slices.specs.Parts.{part-at}
 use Rattle.slices.specs.Stored.{stored, length-stored, stored-out}
 use Rattle.slices.specs.Rows.{cells, flat, rows-le, rows-step, row-next, layer-stored}
-use Rattle.rules.specs.Contract.{Terms, topMost, termsOf, Returns, returnsOf}
-use Rattle.rules.specs.Date.{dynamic, freeAmount, admits, maturityValue, margin}
+use Rattle.rules.specs.Contract.{Terms, topMost, rateMost, termsOf, Returns, returnsOf, Rates, ratesOf}
+use Rattle.rules.specs.Date.{dynamic, freeAmount, admits, maturityValue, deathPayment, deathShare, margin}
 use Rattle.rules.specs.Product.{suppliedValue, suppliedLayer}
-use Rattle.rules.specs.Refusals.{Verdict, accepted, refused, verdict, numberOf, placeOf, onSuccess, recordChecks, listChecks}
-use Rattle.rules.specs.FixedTerm.{freeIn, admissibleIn, rateIn, cashIn, afterIn, reachBy, paidBy, expectOver, startOf, processOf}
+use Rattle.rules.specs.Refusals.{Verdict, accepted, refused, verdict, numberOf, placeOf, onSuccess, inputChecks}
+use Rattle.rules.specs.FixedTerm.{freeIn, admissibleIn, rateIn, cashIn, afterIn, reachBy, expectOver, startOf, processOf}
 use Rattle.rules.specs.FixedTerm.{layerSize, layoutOf, fixedTerm}
 use Rattle.rules.specs.Operations.{productOf, answer, workAfter, tableSize, badAt, badEntry, tableChecks, suppliedChecks}
 use Rattle.rules.specs.Operations.{suppliedVerdict, suppliedAnswer, suppliedWork}
 use Rattle.laws.specs.Supplied.{all-admitted}
 use Rattle.laws.specs.Date.{dynamic-is}
-use Rattle.laws.specs.Accepted.{Valid, ValidReturns, then-accepted, then-refused}
+use Rattle.laws.specs.Accepted.{Valid, ValidInput, then-accepted, then-refused}
 use Rattle.laws.specs.Bounds.{table-value-le, stateMost, entryMost}
-use Rattle.expect.specs.Expected.{expected, reachedSum, Listing, expected-same}
+use Rattle.contract.specs.Accepted.{Given}
+use Rattle.expect.specs.Expected.{expected, expected-same, startReached, startExpected, start-expected-same}
+use Rattle.death.specs.Shared.{shared}
 use Rattle.keys.specs.declared.Date.{Date}
 use Rattle.keys.specs.Sums.{sums, Sums, sum-in, row-in, sums-less, sums-kept, sums-same}
 use Rattle.worth.specs.Worth.{worthOver, worth-same}
-use Rattle.dates.specs.Back.{at}
+use Rattle.dates.specs.Back.{at, expectedOn, shared-expects}
 use Rattle.dates.specs.Dated.{dateOf, Summed}
 use Rattle.dates.specs.Layer.{DateLayer, layer-long, layer-entry}
 use Rattle.valuing.specs.declared.Answer as declared
 use Rattle.valuing.specs.Answered.{answerOf, refusal, Settled}
 use Rattle.valuing.specs.First.{First, first-layer, first-mature}
-use Rattle.supplied.specs.Followed.{followed, followedOn, Following, Dating, Back, tableOn, Starting, Answered}
+use Rattle.supplied.specs.Followed.{followed, followedOn, Following, Dating, Back, tableOn, Starting, Answered, Supplying}
 
 -- ---- one state
 module _ {work : List ℕ} {d : Date} (w : ℕ) {a : ℕ} (s : Sums work d (w + 1)) (l : a < d .stride) where
@@ -99,11 +101,11 @@ module _ {work layer : List ℕ} {d : Date} {n : ℕ} (f : Following work layer 
         ap (λ (e : ℕ → ℕ → ℕ). followed e (cells layer 0 (d .stride)) (d .rate) (d .level) w a) same)
 
 -- ---- one date
-module _ {c : Terms} {count i : ℕ} {work layer list work₁ : List ℕ} {date : Date} (d : Dating c count i work layer list)
-    (is : date ≡ dateOf c i) (told : Summed c (returnsOf list) work work₁ date)
+module _ {c : Terms} {i : ℕ} {work layer list rates work₁ : List ℕ} {date : Date} (d : Dating c i work layer list rates)
+    (is : date ≡ dateOf c i) (told : Summed c (returnsOf list) (ratesOf rates i) work work₁ date)
   where
-    s : Summed c (returnsOf list) work work₁ (dateOf c i)
-    s = subst (Summed c (returnsOf list) work work₁) is told
+    s : Summed c (returnsOf list) (ratesOf rates i) work work₁ (dateOf c i)
+    s = subst (Summed c (returnsOf list) (ratesOf rates i) work work₁) is told
 
     pub following : Following work₁ layer date (c .top + 1)
     unfolding layerSize
@@ -114,7 +116,7 @@ module _ {c : Terms} {count i : ℕ} {work layer list work₁ : List ℕ} {date 
     })
 
     pub back : {work₂ : List ℕ} → work₂ ≡ stored work₁ 0 (flat (date .stride) (followedOn date work₁ layer)) ((c .top + 1) * date .stride)
-        → Back c (returnsOf list) i work layer work₂
+        → Back c (returnsOf list) (ratesOf rates) i work layer work₂
     unfolding layerSize
     back e =
         let values = e ∙ ap (λ (x : Date). stored work₁ 0 (flat (x .stride) (followedOn x work₁ layer)) ((c .top + 1) * x .stride)) is in record {
@@ -139,34 +141,39 @@ module _ (c : Terms) (table : List ℕ) (j : ℕ) (h : j < c .dates - 1) where
       ap₂ (badAt c) (low-digit j e (layerSize c) l) (sym (part-at (j * layerSize c) ((j + 1) * layerSize c) e table (omega arith)))
 
 -- ---- from one date to the date before it
-tableOn-back : (c : Terms) (rs : Returns) (table : List ℕ) (i w a : ℕ) → i < c .dates
-    → worthOver (expected c rs (tableOn c rs table (suc i))) (rateIn c i) (freeAmount (c .level) a) w a
+tableOn-back : (c : Terms) (rs : Returns) (ds : Rates) (table : List ℕ) (i w a : ℕ) → ds i ≤ rateMost → i < c .dates
+    → worthOver (expected c rs (shared (ds i) (tableOn c rs ds table (suc i)))) (rateIn c i) (freeAmount (c .level) a) w a
     (lookup (layoutOf c) table i (at w a))
-    ≡ tableOn c rs table i w a
-unfolding processOf cashIn afterIn reachBy paidBy expectOver freeIn reached worth worthOver expected reachedSum
-tableOn-back c rs table i w a l = sym (table-step (processOf c rs) (lookup (layoutOf c) table) i (at w a) l)
+    ≡ tableOn c rs ds table i w a
+unfolding processOf cashIn afterIn freeIn worth worthOver
+tableOn-back c rs ds table i w a small l =
+    worth-same _ (expectedOn c rs ds i (tableValue (processOf c rs ds) (lookup (layoutOf c) table) (suc i))) (rateIn c i)
+    (freeAmount (c .level) a) w a _ (λ x y p q. sym (shared-expects c rs ds i _ x y small))
+    ∙ sym (table-step (processOf c rs ds) (lookup (layoutOf c) table) i (at w a) l)
 
-last-is : (c : Terms) (rs : Returns) (table : List ℕ) (w a : ℕ) → tableOn c rs table (c .dates) w a ≡ maturityValue w a
+last-is : (c : Terms) (rs : Returns) (ds : Rates) (table : List ℕ) (w a : ℕ) → tableOn c rs ds table (c .dates) w a ≡ maturityValue w a
 unfolding processOf
-last-is c rs table w a = table-last (processOf c rs) (lookup (layoutOf c) table) (at w a)
+last-is c rs ds table w a = table-last (processOf c rs ds) (lookup (layoutOf c) table) (at w a)
 
-admitted-at : (c : Terms) (rs : Returns) (table : List ℕ) → Valid c → tableSize c ≤ first (badEntry c table) (tableSize c)
-    → (i w a : ℕ) → 0 < i → i < c .dates → w ≤ c .top → a ≤ c .premium → T (admits dynamic (freeAmount (c .level) a) w (lookup (layoutOf c) table i (at w a)))
+admitted-at : (c : Terms) (rs : Returns) (ds : Rates) (table : List ℕ) → Valid c → tableSize c ≤ first (badEntry c table) (tableSize c)
+    → (i w a : ℕ) → 0 < i → i < c .dates → w ≤ c .top → a ≤ c .premium
+    → T (admits dynamic (freeAmount (c .level) a) w (lookup (layoutOf c) table i (at w a)))
 unfolding admissibleIn freeIn processOf
-admitted-at c rs table valid none i w a some before h l =
-    all-admitted c rs table valid none i (at w a) (record { from = some; before = before; range = record { account = h; guarantee = l } })
+admitted-at c rs ds table valid none i w a some before h l =
+    all-admitted c rs ds table valid none i (at w a)
+    (record { from = some; before = before; range = record { account = h; guarantee = l } })
 
 -- no value of a table whose entries are admitted is above what a contract's values can be
-pub table-on-most : {c : Terms} (rs : Returns) (table : List ℕ) → Valid c → ValidReturns rs
+pub table-on-most : {c : Terms} (rs : Returns) (ds : Rates) (table : List ℕ) → ValidInput c rs ds
     → tableSize c ≤ first (badEntry c table) (tableSize c)
-    → (i w a : ℕ) → 1 ≤ i → i ≤ c .dates → w ≤ c .top → a ≤ c .premium → tableOn c rs table i w a ≤ stateMost c i
-table-on-most {c} rs table v u none i w a some before h l =
-    let good = all-admitted c rs table v none in
-    table-value-le c rs v u (lookup (layoutOf c) table) good i (at w a) some before (record { account = h; guarantee = l })
+    → (i w a : ℕ) → 1 ≤ i → i ≤ c .dates → w ≤ c .top → a ≤ c .premium → tableOn c rs ds table i w a ≤ stateMost c i
+table-on-most {c} rs ds table v none i w a some before h l =
+    let good = all-admitted c rs ds table (v .terms) none in
+    table-value-le c rs ds v (lookup (layoutOf c) table) good i (at w a) some before (record { account = h; guarantee = l })
 
-module _ {c : Terms} {count : ℕ} {work₀ table list work : List ℕ} (s : Starting c count work₀ table list)
+module _ {c : Terms} {work₀ table list rates work : List ℕ} (s : Starting c work₀ table list rates)
     {i from to : ℕ} (p : DateLayer c i from to) (some : 0 < i) (before : i < c .dates)
-    (v : First (tableOn c (returnsOf list) table (suc i)) c work₀ work)
+    (v : First (tableOn c (returnsOf list) (ratesOf rates) table (suc i)) c work₀ work)
   where
     -- the entries of the date's layer
     amount-is : (w a : ℕ) → w ≤ c .top → a ≤ c .premium
@@ -175,115 +182,123 @@ module _ {c : Terms} {count : ℕ} {work₀ table list work : List ℕ} (s : Sta
         ap (λ (x : ℕ). getD (midOf from (to - from) table) x 0) (zero-add (w * (c .premium + 1) + a))
         ∙ layer-entry p table (s .entries) h l
 
-    pub dating : Dating c count i work (midOf from (to - from) table) list
+    pub dating : Dating c i work (midOf from (to - from) table) list rates
     dating = record {
       date = record {
         before = before;
-        listing = s .listing;
+        given = s .given;
         first = record {
-          layers = record { valid = s .layers .valid; room = omega (arith, s .layers .room, v .long) };
+          layers = record { valid = s .given .valid .terms; room = omega (arith, s .room, v .long) };
           small = λ w a h l.
               le-trans (le-of-eq (v .values w a h l))
-              (subst (λ (n : ℕ). tableOn c (returnsOf list) table (suc i) w a ≤ stateMost c n) (sym (add-one i))
-              (table-on-most (returnsOf list) table (s .layers .valid) (s .listing .valid) (s .none-bad) (suc i) w a (omega arith) (omega arith)
+              (subst (λ (n : ℕ). tableOn c (returnsOf list) (ratesOf rates) table (suc i) w a ≤ stateMost c n) (sym (add-one i))
+              (table-on-most (returnsOf list) (ratesOf rates) table (s .given .valid) (s .none-bad) (suc i) w a (omega arith) (omega arith)
               h l));
         };
       };
       layer-is = layer-long p table (s .entries);
       admitted = λ w a h l.
           subst (λ (t : ℕ). T (admits dynamic (freeAmount (c .level) a) w t)) (sym (amount-is w a h l))
-          (admitted-at c (returnsOf list) table (s .layers .valid) (s .none-bad) i w a some before h l);
+          (admitted-at c (returnsOf list) (ratesOf rates) table (s .given .valid .terms) (s .none-bad) i w a some before h l);
     }
 
     -- the sums are those of the next date's values
     next-sums : (x y : ℕ) → y ≤ c .premium
-        → expected c (returnsOf list) (cells work 0 (c .premium + 1)) x y
-        ≡ expected c (returnsOf list) (tableOn c (returnsOf list) table (suc i)) x y
-    next-sums x y k = expected-same c (returnsOf list) _ _ x y (λ w h. v .values w y h k)
+        → expected c (returnsOf list) (shared (ratesOf rates i) (cells work 0 (c .premium + 1))) x y
+        ≡ expected c (returnsOf list) (shared (ratesOf rates i) (tableOn c (returnsOf list) (ratesOf rates) table (suc i))) x y
+    next-sums x y k =
+        expected-same c (returnsOf list) _ _ x y (λ w h.
+        ap (λ (z : ℕ). deathShare (ratesOf rates i) z (deathPayment w y 0)) (v .values w y h k))
 
-    pub first-before : (work₁ : List ℕ) → Back c (returnsOf list) i work (midOf from (to - from) table) work₁
-        → First (tableOn c (returnsOf list) table (suc (i - 1))) c work₀ work₁
+    pub first-before : (work₁ : List ℕ) → Back c (returnsOf list) (ratesOf rates) i work (midOf from (to - from) table) work₁
+        → First (tableOn c (returnsOf list) (ratesOf rates) table (suc (i - 1))) c work₀ work₁
     first-before work₁ d = record {
       long = d .long ∙ v .long;
       values = λ w a h l.
-          let sums = expected c (returnsOf list) (cells work 0 (c .premium + 1)) in
+          let sums = expected c (returnsOf list) (shared (ratesOf rates i) (cells work 0 (c .premium + 1))) in
           let m = freeAmount (c .level) a in
           let up : i ≡ suc (i - 1) = omega arith in
           d .values w a h l
           ∙ ap (worthOver sums (rateIn c i) m w a) (amount-is w a h l)
           ∙ worth-same _ _ (rateIn c i) m w a (lookup (layoutOf c) table i (at w a)) (λ x y p q. next-sums x y (le-trans q l))
-          ∙ tableOn-back c (returnsOf list) table i w a before
-          ∙ ap (λ (n : ℕ). tableOn c (returnsOf list) table n w a) up;
+          ∙ tableOn-back c (returnsOf list) (ratesOf rates) table i w a (s .given .valid .rates .rate i) before
+          ∙ ap (λ (n : ℕ). tableOn c (returnsOf list) (ratesOf rates) table n w a) up;
       rest = λ x h. d .rest x h ∙ v .rest x h;
     }
 
-pub first-none : {c : Terms} {count : ℕ} {work table list : List ℕ} → Starting c count work table list
-    → First (tableOn c (returnsOf list) table (suc (c .dates - 1))) c work work
-first-none {c} {count} {work} {table} {list} s =
-    let last : c .dates ≡ suc (c .dates - 1) = omega (arith, s .layers .valid .dates-least) in
+pub first-none : {c : Terms} {work table list rates : List ℕ} → Starting c work table list rates
+    → First (tableOn c (returnsOf list) (ratesOf rates) table (suc (c .dates - 1))) c work work
+first-none {c} {work} {table} {list} {rates} s =
+    let last : c .dates ≡ suc (c .dates - 1) = omega (arith, s .given .valid .terms .dates-least) in
     record {
       long = refl;
-      values = λ w a h l. s .mature w a h l ∙ sym (last-is c (returnsOf list) table w a) ∙ ap (λ (n : ℕ). tableOn c (returnsOf list) table n w a) last;
+      values = λ w a h l.
+          s .mature w a h l
+          ∙ sym (last-is c (returnsOf list) (ratesOf rates) table w a)
+          ∙ ap (λ (n : ℕ). tableOn c (returnsOf list) (ratesOf rates) table n w a) last;
       rest = λ x h. refl;
     }
 
-pub starting : {c : Terms} {count : ℕ} {list work' table : List ℕ} (work : List ℕ) → Valid c → Listing list count
+pub starting : {c : Terms} {list rates work' table : List ℕ} (work : List ℕ) → Given c list rates
     → layerSize c + layerSize c ≤ length work → tableSize c ≤ length table → tableSize c ≤ first (badEntry c table) (tableSize c)
-    → work' ≡ stored work 0 (flat (c .premium + 1) maturityValue) (layerSize c) → Starting c count work' table list
-starting {c} {work' = work'} work valid listing room room-table none e = record {
-  listing = listing;
-  layers = record { valid = valid; room = let l = ap length e ∙ length-stored work 0 (flat (c .premium + 1) maturityValue) (layerSize c) in omega arith };
+    → work' ≡ stored work 0 (flat (c .premium + 1) maturityValue) (layerSize c) → Starting c work' table list rates
+starting {c} {work' = work'} work given room room-table none e = record {
+  given = given;
+  room = let l = ap length e ∙ length-stored work 0 (flat (c .premium + 1) maturityValue) (layerSize c) in omega arith;
   entries = room-table;
   none-bad = none;
   mature = first-mature c work (omega arith) e;
 }
 
-module _ (rs : Returns) (table : List ℕ) {c : Terms} {work work' : List ℕ} (d : First (tableOn c rs table 1) c work work') where
-  supplied-value : expected c rs (cells work' 0 (c .premium + 1)) (c .premium) (c .premium) ≡ suppliedValue (fixedTerm c rs) table
-  unfolding suppliedValue startTableValue reached fixedTerm processOf expectOver startOf reachBy paidBy expected reachedSum
-  supplied-value = expected-same c rs (cells work' 0 (c .premium + 1)) (tableOn c rs table 1) (c .premium) (c .premium) (λ w l. d .values w (c .premium) l (omega arith))
+module _ (rs : Returns) (ds : Rates) (table : List ℕ) {c : Terms} {work work' : List ℕ}
+    (d : First (tableOn c rs ds table 1) c work work') where
+  supplied-value : startExpected c rs (ds 0) (cells work' 0 (c .premium + 1)) ≡ suppliedValue (fixedTerm c rs ds) table
+  unfolding suppliedValue startTableValue reached fixedTerm processOf expectOver startOf reachBy startExpected startReached
+  supplied-value =
+      start-expected-same c rs (ds 0) (cells work' 0 (c .premium + 1)) (tableOn c rs ds table 1) (λ w l.
+      d .values w (c .premium) l (omega arith))
 
   supplied-layer : layerSize c + layerSize c ≤ length work
-      → stored work' (layerSize c) (λ (i : ℕ). 0) (layerSize c) ≡ suppliedLayer (fixedTerm c rs) table ++ replicate (layerSize c) 0 ++ drop (2 * layerSize c) work
+      → stored work' (layerSize c) (λ (i : ℕ). 0) (layerSize c)
+      ≡ suppliedLayer (fixedTerm c rs ds) table ++ replicate (layerSize c) 0 ++ drop (2 * layerSize c) work
   unfolding suppliedLayer layer fixedTerm layoutOf
   supplied-layer room = first-layer d room
 
 -- ---- what terms that were read answer
-module _ {c : Terms} {rs : Returns} {v : Verdict} {work table : List ℕ} where
-  pub answered-refused : (n p : ℕ) (r : declared.Answer) → v ≡ refused n p → r ≡ refusal n p → Answered c rs v work table r work
+module _ {c : Terms} {rs : Returns} {ds : Rates} {v : Verdict} {work table : List ℕ} where
+  pub answered-refused : (n p : ℕ) (r : declared.Answer) → v ≡ refused n p → r ≡ refusal n p → Answered c rs ds v work table r work
   unfolding answer workAfter onSuccess numberOf placeOf
   answered-refused n p r e f = record { answer-is = rw e f; work-is = rw e }
 
   pub answered-accepted : {work' : List ℕ} (r : declared.Answer) (work'' : List ℕ) → v ≡ accepted → layerSize c + layerSize c ≤ length work
-      → First (tableOn c rs table 1) c work work' → Settled c rs work' r work'' → Answered c rs v work table r work''
+      → First (tableOn c rs ds table 1) c work work' → Settled c rs (ds 0) work' r work'' → Answered c rs ds v work table r work''
   unfolding answer workAfter onSuccess numberOf placeOf
   answered-accepted r work'' e room d s =
-      let value : r .value ≡ suppliedValue (fixedTerm c rs) table = s .value-is ∙ supplied-value rs table d in record {
+      let value : r .value ≡ suppliedValue (fixedTerm c rs ds) table = s .value-is ∙ supplied-value rs ds table d in record {
         answer-is = rw e (λ i. record {
           number = s .number-is i;
           place = s .place-is i;
           value = value i;
           margin = (s .margin-is ∙ ap (λ (x : ℕ). margin x (c .premium)) value) i;
         });
-        work-is = rw e (s .work-is ∙ supplied-layer rs table d room);
+        work-is = rw e (s .work-is ∙ supplied-layer rs ds table d room);
       }
 
 -- ---- what a call answers, on any input
-module _ (bytes list work table : List ℕ) (r : declared.Answer) where
-  pub record Whole (work' : List ℕ) : Type 0 where
-    pub answer-is : r ≡ answerOf (suppliedAnswer bytes list work table)
-    pub work-is : work' ≡ suppliedWork bytes list work table
-
-  pub whole : (work' : List ℕ) → verdict (recordChecks bytes ++ listChecks list) ≡ accepted → (c : Terms) → c ≡ termsOf bytes
-      → Answered c (returnsOf list) (verdict (tableChecks c work table)) work table r work' → Whole work'
+module _ (bytes list rates work table : List ℕ) (r : declared.Answer) where
+  pub whole : (work' : List ℕ) → verdict (inputChecks bytes list rates) ≡ accepted → (c : Terms) → c ≡ termsOf bytes
+      → Answered c (returnsOf list) (ratesOf rates) (verdict (tableChecks c work table)) work table r work'
+      → Supplying bytes list rates work table r work'
   unfolding suppliedVerdict suppliedChecks suppliedAnswer suppliedWork productOf
   whole work' e c same a =
-      let all = then-accepted (recordChecks bytes ++ listChecks list) (tableChecks (termsOf bytes) work table) e in
-      let b = subst (λ (x : Terms). Answered x (returnsOf list) (verdict (tableChecks x work table)) work table r work') same a in
+      let all = then-accepted (inputChecks bytes list rates) (tableChecks (termsOf bytes) work table) e in
+      let b =
+      subst (λ (x : Terms). Answered x (returnsOf list) (ratesOf rates) (verdict (tableChecks x work table)) work table r work') same a in
       record { answer-is = rw all (b .answer-is); work-is = rw all (b .work-is) }
 
-  pub whole-refused : (n p : ℕ) → verdict (recordChecks bytes ++ listChecks list) ≡ refused n p → r ≡ refusal n p → Whole work
+  pub whole-refused : (n p : ℕ) → verdict (inputChecks bytes list rates) ≡ refused n p → r ≡ refusal n p
+      → Supplying bytes list rates work table r work
   unfolding suppliedVerdict suppliedChecks suppliedAnswer suppliedWork answer workAfter onSuccess numberOf placeOf
   whole-refused n p e f =
-      let all = then-refused (recordChecks bytes ++ listChecks list) (tableChecks (termsOf bytes) work table) e in
+      let all = then-refused (inputChecks bytes list rates) (tableChecks (termsOf bytes) work table) e in
       record { answer-is = rw all f; work-is = rw all }

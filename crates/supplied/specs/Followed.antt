@@ -8,13 +8,15 @@ use Rattle.decision.specs.Index.{first}
 use Rattle.decision.specs.Process.{tableValue}
 use Rattle.decision.specs.Layers.{lookup}
 use Rattle.slices.specs.Rows.{cells}
-use Rattle.rules.specs.Contract.{Terms, Returns}
+use Rattle.rules.specs.Contract.{Terms, Returns, Rates}
 use Rattle.rules.specs.Date.{dynamic, freeAmount, admits, maturityValue}
 use Rattle.rules.specs.Product.{suppliedValue, suppliedLayer}
 use Rattle.rules.specs.FixedTerm.{rateIn, layerSize, layoutOf, processOf, fixedTerm}
 use Rattle.rules.specs.Refusals.{Verdict}
-use Rattle.rules.specs.Operations.{answer, workAfter, tableSize, badEntry}
-use Rattle.expect.specs.Expected.{expected, Listing, Layers}
+use Rattle.rules.specs.Operations.{answer, workAfter, tableSize, badEntry, suppliedAnswer, suppliedWork}
+use Rattle.contract.specs.Accepted.{Given}
+use Rattle.expect.specs.Expected.{expected}
+use Rattle.death.specs.Shared.{shared}
 use Rattle.keys.specs.declared.Date.{Date}
 use Rattle.keys.specs.Sums.{sums, Sums}
 use Rattle.worth.specs.Worth.{worthOver}
@@ -39,30 +41,38 @@ pub record Following (work layer : List ℕ) (d : Date) (n : ℕ) : Type 0 where
       → T (admits dynamic (freeAmount (d .level) a) w (cells layer 0 (d .stride) w a))
 
 -- one date back, by its layer of the table
-pub record Dating (c : Terms) (count i : ℕ) (work layer list : List ℕ) : Type 0 where
-  pub date : OneDate c count i work list
+pub record Dating (c : Terms) (i : ℕ) (work layer list rates : List ℕ) : Type 0 where
+  pub date : OneDate c i work list rates
   pub layer-is : length layer ≡ layerSize c
   pub admitted : (w a : ℕ) → w ≤ c .top → a ≤ c .premium → T (admits dynamic (freeAmount (c .level) a) w (cells layer 0 (c .premium + 1) w a))
 
-pub record Back (c : Terms) (rs : Returns) (i : ℕ) (work layer work' : List ℕ) : Type 0 where
+pub record Back (c : Terms) (rs : Returns) (ds : Rates) (i : ℕ) (work layer work' : List ℕ) : Type 0 where
   pub long : length work' ≡ length work
   pub values : (w a : ℕ) → w ≤ c .top → a ≤ c .premium
       → cells work' 0 (c .premium + 1) w a
-      ≡ followed (expected c rs (cells work 0 (c .premium + 1))) (cells layer 0 (c .premium + 1)) (rateIn c i) (c .level) w a
+      ≡ followed (expected c rs (shared (ds i) (cells work 0 (c .premium + 1)))) (cells layer 0 (c .premium + 1)) (rateIn c i)
+      (c .level) w a
   pub rest : (x : ℕ) → layerSize c + layerSize c ≤ x → getD work' x 0 ≡ getD work x 0
 
 -- every date
-abbrev pub tableOn : Terms → Returns → List ℕ → ℕ → ℕ → ℕ → ℕ
-tableOn c rs table i w a = tableValue (processOf c rs) (lookup (layoutOf c) table) i (at w a)
+abbrev pub tableOn : Terms → Returns → Rates → List ℕ → ℕ → ℕ → ℕ → ℕ
+tableOn c rs ds table i w a = tableValue (processOf c rs ds) (lookup (layoutOf c) table) i (at w a)
 
-pub record Starting (c : Terms) (count : ℕ) (work table list : List ℕ) : Type 0 where
-  pub listing : Listing list count
-  pub layers : Layers c work
+pub record Starting (c : Terms) (work table list rates : List ℕ) : Type 0 where
+  pub given : Given c list rates
+  pub room : layerSize c + layerSize c ≤ length work
   pub entries : tableSize c ≤ length table
   pub none-bad : tableSize c ≤ first (badEntry c table) (tableSize c)
   pub mature : (w a : ℕ) → w ≤ c .top → a ≤ c .premium → cells work 0 (c .premium + 1) w a ≡ maturityValue w a
 
 -- the answer of a verdict, and the working slice
-pub record Answered (c : Terms) (rs : Returns) (v : Verdict) (work table : List ℕ) (r : declared.Answer) (work' : List ℕ) : Type 0 where
-  pub answer-is : r ≡ answerOf (answer v (suppliedValue (fixedTerm c rs) table) (c .premium))
-  pub work-is : work' ≡ workAfter v (layerSize c) (suppliedLayer (fixedTerm c rs) table) work
+pub record Answered (c : Terms) (rs : Returns) (ds : Rates) (v : Verdict) (work table : List ℕ) (r : declared.Answer)
+    (work' : List ℕ) : Type 0
+  where
+    pub answer-is : r ≡ answerOf (answer v (suppliedValue (fixedTerm c rs ds) table) (c .premium))
+    pub work-is : work' ≡ workAfter v (layerSize c) (suppliedLayer (fixedTerm c rs ds) table) work
+
+-- WHAT VALUING A SUPPLIED TABLE ANSWERS AND LEAVES, on any input
+pub record Supplying (bytes list rates work table : List ℕ) (r : declared.Answer) (work' : List ℕ) : Type 0 where
+  pub answer-is : r ≡ answerOf (suppliedAnswer bytes list rates work table)
+  pub work-is : work' ≡ suppliedWork bytes list rates work table

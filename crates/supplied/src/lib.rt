@@ -5,17 +5,17 @@ ghost use lib.ListN.{length, getD};
 ghost use Rattle.decision.specs.Index.{first};
 ghost use Rattle.slices.specs.Stored.{stored};
 ghost use Rattle.slices.specs.Rows.{flat};
-ghost use Rattle.rules.specs.Contract.{returnsOf};
+ghost use Rattle.rules.specs.Contract.{returnsOf, ratesOf};
 ghost use Rattle.rules.specs.Date.{freeAmount};
 ghost use Rattle.rules.specs.Refusals.{verdict};
-ghost use Rattle.rules.specs.Operations.{tableSize, badAt, badEntry, tableChecks, suppliedAnswer, suppliedWork};
+ghost use Rattle.rules.specs.Operations.{tableSize, badAt, badEntry, tableChecks};
 ghost use Rattle.laws.specs.Accepted.{Valid};
 ghost use Rattle.contract.specs.Reading.{termsIn};
 ghost use Rattle.keys.specs.Sums.{sums, Sums};
 ghost use Rattle.worth.specs.Worth.{worthOver};
-ghost use Rattle.valuing.specs.Answered.{answerOf, Ready};
+ghost use Rattle.contract.specs.Accepted.{Given};
 ghost use Rattle.valuing.specs.First.{First};
-ghost use Rattle.supplied.specs.Followed.{followedOn, Following, Dating, Back, tableOn, Starting, Answered};
+ghost use Rattle.supplied.specs.Followed.{followedOn, Following, Dating, Back, tableOn, Starting, Answered, Supplying};
 use contract::Agreement;
 use contract::Contract;
 use contract::Outcome;
@@ -113,35 +113,44 @@ fn follow_layer(work: &mut [u64], layer: &[u16], d: Date, n: usize)
 }
 
 // The values of date i.
-fn follow_date(work: &mut [u64], layer: &[u16], list: &[u8], count: usize, c: Contract, i: usize)
-    requires { ⌜ Dating (termsIn c) count i (now work) (now layer) (now list) ⌝ }
+fn follow_date(work: &mut [u64], layer: &[u16], list: &[u8], rates: &[u8], c: Contract, i: usize)
+    requires { ⌜ Dating (termsIn c) i (now work) (now layer) (now list) (now rates) ⌝ }
     ensures { λ _. ⌜
-        Back (termsIn c) (returnsOf (now (list .entry))) i (now (work .entry)) (now (layer .entry)) (now (work .exit))
+        Back (termsIn c) (returnsOf (now (list .entry))) (ratesOf (now (rates .entry))) i (now (work .entry))
+        (now (layer .entry)) (now (work .exit))
         ⌝ }
 {
-    let d = dates::sum_date(work, list, count, c, i);
+    let d = dates::sum_date(work, list, rates, c, i);
     follow_layer(work, layer, d, c.top + 1);
 }
 
 // Every decision date, from the last to the first, each by its own layer of the table.
-fn follow_dates(work: &mut [u64], table: &[u16], list: &[u8], count: usize, c: Contract)
-    requires { ⌜ Starting (termsIn c) count (now work) (now table) (now list) ⌝ }
-    ensures { λ _. ⌜ First (tableOn (termsIn c) (returnsOf (now (list .entry))) (now (table .entry)) 1) (termsIn c) (now (work .entry)) (now (work .exit)) ⌝ }
+fn follow_dates(work: &mut [u64], table: &[u16], list: &[u8], rates: &[u8], c: Contract)
+    requires { ⌜ Starting (termsIn c) (now work) (now table) (now list) (now rates) ⌝ }
+    ensures { λ _. ⌜
+        First
+        (tableOn (termsIn c) (returnsOf (now (list .entry))) (ratesOf (now (rates .entry))) (now (table .entry)) 1)
+        (termsIn c) (now (work .entry)) (now (work .exit))
+        ⌝ }
 {
     let mut i = c.dates - 1;
     while 0 < i {
         let part = dates::layer_of(c, i);
         let from = part.from;
         let to = part.to;
-        follow_date(work, &table[from..to], list, count, c, i);
+        follow_date(work, &table[from..to], list, rates, c, i);
         i -= 1;
     }
 }
 
-// Values a table under terms and returns that were read.
-fn valued(c: Contract, list: &[u8], count: usize, work: &mut [u64], table: &[u16]) -> Answer
-    requires { ⌜ Ready (termsIn c) count (now list) ⌝ }
-    ensures { λ r. ⌜ Answered (termsIn c) (returnsOf (now (list .entry))) (verdict (tableChecks (termsIn c) (now (work .entry)) (now (table .entry)))) (now (work .entry)) (now (table .entry)) r (now (work .exit)) ⌝ }
+// Values a table under terms, returns and rates that were read.
+fn valued(c: Contract, list: &[u8], rates: &[u8], work: &mut [u64], table: &[u16]) -> Answer
+    requires { ⌜ Given (termsIn c) (now list) (now rates) ⌝ }
+    ensures { λ r. ⌜
+        Answered (termsIn c) (returnsOf (now (list .entry))) (ratesOf (now (rates .entry)))
+        (verdict (tableChecks (termsIn c) (now (work .entry)) (now (table .entry))))
+        (now (work .entry)) (now (table .entry)) r (now (work .exit))
+        ⌝ }
 {
     if valuing::too_short(c, &work[..], table) {
         return valuing::refused(Outcome {
@@ -157,18 +166,20 @@ fn valued(c: Contract, list: &[u8], count: usize, work: &mut [u64], table: &[u16
         });
     }
     dates::fill_maturity(work, c.premium + 1, c.top + 1);
-    follow_dates(work, table, list, count, c);
-    valuing::settle(work, list, count, c)
+    follow_dates(work, table, list, rates, c);
+    valuing::settle(work, list, rates, c)
 }
 
 // Values a supplied table: answers number, place, value and margin.
-pub fn value(bytes: &[u8], list: &[u8], work: &mut [u64], table: &[u16]) -> Answer
-    ensures { λ r. ⌜ r ≡ answerOf (suppliedAnswer (now (bytes .entry)) (now (list .entry)) (now (work .entry)) (now (table .entry))) ⌝ }
-    ensures { λ _. ⌜ now (work .exit) ≡ suppliedWork (now (bytes .entry)) (now (list .entry)) (now (work .entry)) (now (table .entry)) ⌝ }
+pub fn value(bytes: &[u8], list: &[u8], rates: &[u8], work: &mut [u64], table: &[u16]) -> Answer
+    ensures { λ r. ⌜
+        Supplying (now (bytes .entry)) (now (list .entry)) (now (rates .entry)) (now (work .entry)) (now (table .entry)) r
+        (now (work .exit))
+        ⌝ }
 {
-    let agreement = contract::read(bytes, list);
-    let Agreement::Accepted(c, returns) = agreement else {
+    let agreement = contract::read_all(bytes, list, rates);
+    let Agreement::Accepted(c, _) = agreement else {
         return valuing::refused(agreement.outcome());
     };
-    valued(c, list, returns.count, work, table)
+    valued(c, list, rates, work, table)
 }

@@ -15,14 +15,14 @@ use Rattle.decision.specs.Process.{reached, startValue, Attained}
 use Rattle.decision.specs.Layers.{lookup, layer, layers}
 use Rattle.slices.specs.Stored.{stored, length-stored, is-stored, stored-front}
 use Rattle.slices.specs.Rows.{cells, flat}
-use Rattle.rules.specs.Contract.{Terms, Returns}
+use Rattle.rules.specs.Contract.{Terms, Returns, Rates}
 use Rattle.rules.specs.Date.{Behaviour, maturityValue, margin}
-use Rattle.rules.specs.Product.{contractValue, valueLayer, amountLayers, stateValue, recordedAmount, Claim}
-use Rattle.rules.specs.FixedTerm.{fixedTerm, processOf, expectOver, startOf, reachBy, paidBy, layoutOf, layerSize}
-use Rattle.rules.specs.Refusals.{refused, verdict, numberOf, placeOf, onSuccess, short, recordChecks, listChecks}
+use Rattle.rules.specs.Product.{contractValue, valueLayer, amountLayers, stateValue, recordedAmount}
+use Rattle.rules.specs.FixedTerm.{fixedTerm, processOf, expectOver, startOf, reachBy, layoutOf, layerSize}
+use Rattle.rules.specs.Refusals.{refused, verdict, numberOf, placeOf, onSuccess, short, inputChecks}
 use Rattle.rules.specs.Operations.{productOf, answer, workAfter, behaviourOf, tableSize, lentChecks, valuingChecks}
-use Rattle.rules.specs.Operations.{valuingVerdict, valuingAnswer, valuingTable}
-use Rattle.laws.specs.Accepted.{Valid, then-accepted, then-refused}
+use Rattle.rules.specs.Operations.{valuingVerdict, valuingAnswer, valuingWork, valuingTable}
+use Rattle.laws.specs.Accepted.{Valid, then-accepted, then-refused, input-valid}
 use Rattle.laws.specs.FixedTerm.{size-some}
 use Rattle.laws.specs.ThirdDemand.{valuing-claim}
 use Rattle.laws.specs.Valuing.{behaviour-refused, lent-refused, lent-accepted}
@@ -30,12 +30,12 @@ use Rattle.contract.specs.declared.Agreement.the-variants as agreement
 use Rattle.contract.specs.declared.Contract.{Contract}
 use Rattle.contract.specs.declared.Outcome.{Outcome}
 use Rattle.contract.specs.declared.Returns as listed
-use Rattle.contract.specs.Accepted.{Both, both-not-read}
-use Rattle.contract.specs.Reading.{termsIn, contractOf, outcomeAt, bothRead}
-use Rattle.expect.specs.Expected.{expected, reachedSum, expected-same}
+use Rattle.contract.specs.Accepted.{Agreed, input-not-read}
+use Rattle.contract.specs.Reading.{termsIn, contractOf, outcomeAt, inputRead}
+use Rattle.expect.specs.Expected.{startReached, startExpected, start-expected-same}
 use Rattle.dates.specs.Back.{at, valuesOn, Valued, Starting}
 use Rattle.valuing.specs.declared.Answer as declared
-use Rattle.valuing.specs.Answered.{valuingAgreed, Alone, Settled, Answered, Reported}
+use Rattle.valuing.specs.Answered.{valuingAgreed, Alone, Settled, Answered, Reported, Valuing}
 use Rattle.valuing.specs.First.{First, first-layer, first-from, first-mature}
 
 pub diff : (a b : ℕ) → pos a -ℤ pos b ≡ subℕ a b
@@ -49,75 +49,85 @@ mag-sub a b n h k = by (ltb a b)
     by true = omega arith
     by false = omega arith
 
-module _ {b : Behaviour} {c : Terms} {rs : Returns} {work table work' table' : List ℕ} (v : Valued b c rs work table work' table' 0) where
-  -- the sum over the first return of the values of date 1 is the contract's value
-  pub contract-value : Valid c → expected c rs (cells work' 0 (c .premium + 1)) (c .premium) (c .premium) ≡ contractValue (fixedTerm c rs) b
-  unfolding contractValue startValue reached stateValue fixedTerm processOf expectOver startOf reachBy paidBy expected reachedSum
-  contract-value valid =
-      expected-same c rs (cells work' 0 (c .premium + 1)) (valuesOn c rs b 1) (c .premium) (c .premium) (λ w l. v .values w (c .premium) l (omega arith))
+module _ {b : Behaviour} {c : Terms} {rs : Returns} {ds : Rates} {work table work' table' : List ℕ}
+    (v : Valued b c rs ds work table work' table' 0)
+  where
+    -- the sum over the first return of the values of date 1 is the contract's value
+    pub contract-value : startExpected c rs (ds 0) (cells work' 0 (c .premium + 1)) ≡ contractValue (fixedTerm c rs ds) b
+    unfolding contractValue startValue reached stateValue fixedTerm processOf expectOver startOf reachBy startExpected startReached
+    contract-value =
+        start-expected-same c rs (ds 0) (cells work' 0 (c .premium + 1)) (valuesOn c rs ds b 1)
+        (λ w l. v .values w (c .premium) l (omega arith))
 
-  pub first : First (valuesOn c rs b 1) c work work'
-  first = record { long = v .long; values = v .values; rest = v .rest }
+    pub first : First (valuesOn c rs ds b 1) c work work'
+    first = record { long = v .long; values = v .values; rest = v .rest }
 
-  -- the first layer with zeros behind it
-  pub work-layers : layerSize c + layerSize c ≤ length work
-      → stored work' (layerSize c) (λ (i : ℕ). 0) (layerSize c) ≡ valueLayer (fixedTerm c rs) b ++ replicate (layerSize c) 0 ++ drop (2 * layerSize c) work
-  unfolding valueLayer layer fixedTerm layoutOf
-  work-layers room = first-layer first room
+    -- the first layer with zeros behind it
+    pub work-layers : layerSize c + layerSize c ≤ length work
+        → stored work' (layerSize c) (λ (i : ℕ). 0) (layerSize c)
+        ≡ valueLayer (fixedTerm c rs ds) b ++ replicate (layerSize c) 0 ++ drop (2 * layerSize c) work
+    unfolding valueLayer layer fixedTerm layoutOf
+    work-layers room = first-layer first room
 
-  -- the layers of the table with the rest behind them
-  pub table-layers : tableSize c ≤ length table → 0 < layerSize c
-      → table' ≡ amountLayers (fixedTerm c rs) b ++ drop (tableSize c) table
-  unfolding amountLayers layers fixedTerm processOf layoutOf tableSize layerSize
-  table-layers room some =
-      is-stored table table' 0 _ ((c .dates - 1) * layerSize c) (v .long-table) (omega arith) cell rest ∙ stored-front table _ _ room
-    where
-      rest : (j : ℕ) → (j < 0) ⊎ (0 + (c .dates - 1) * layerSize c ≤ j) → getD table' j 0 ≡ getD table j 0
-      rest j (inl h) = absurd (omega arith)
-      rest j (inr h) = v .rest-table j (omega arith)
+    -- the layers of the table with the rest behind them
+    pub table-layers : tableSize c ≤ length table → 0 < layerSize c
+        → table' ≡ amountLayers (fixedTerm c rs ds) b ++ drop (tableSize c) table
+    unfolding amountLayers layers fixedTerm processOf layoutOf tableSize layerSize
+    table-layers room some =
+        is-stored table table' 0 _ ((c .dates - 1) * layerSize c) (v .long-table) (omega arith) cell rest ∙ stored-front table _ _ room
+      where
+        rest : (j : ℕ) → (j < 0) ⊎ (0 + (c .dates - 1) * layerSize c ≤ j) → getD table' j 0 ≡ getD table j 0
+        rest j (inl h) = absurd (omega arith)
+        rest j (inr h) = v .rest-table j (omega arith)
 
-      cell : (e : ℕ) → e < (c .dates - 1) * layerSize c
-          → getD table' (0 + e) 0 ≡ recordedAmount (fixedTerm c rs) b (suc (e / layerSize c)) (at (e % layerSize c / (c .premium + 1)) (e % layerSize c % (c .premium + 1)))
-      cell e l =
-          let p : 0 < c .premium + 1 = omega arith in
-          let size = layerSize c in
-          let j = e / size in
-          let r = e % size in
-          let w = r / (c .premium + 1) in
-          let a = r % (c .premium + 1) in
-          let dj = div-lt-iff-lt-mul some .1 l in
-          let dr = mod-lt e some in
-          let dw = div-lt-iff-lt-mul p .1 dr in
-          let da = mod-lt r p in
-          let whole : (suc j - 1) * size + (w * (c .premium + 1) + a) ≡ 0 + e =
-          ap (λ (x : ℕ). (suc j - 1) * size + x) (div-add-mod' r (c .premium + 1)) ∙ (let z : suc j - 1 ≡ j = omega arith in rw z (div-add-mod' e size)) ∙ sym (zero-add e) in
-          ap (λ (x : ℕ). getD table' x 0) (sym whole) ∙ v .amounts (suc j) w a (omega arith) (omega arith) (omega arith) (omega arith) (omega arith)
+        cell : (e : ℕ) → e < (c .dates - 1) * layerSize c
+            → getD table' (0 + e) 0
+            ≡ recordedAmount (fixedTerm c rs ds) b (suc (e / layerSize c))
+            (at (e % layerSize c / (c .premium + 1)) (e % layerSize c % (c .premium + 1)))
+        cell e l =
+            let p : 0 < c .premium + 1 = omega arith in
+            let size = layerSize c in
+            let j = e / size in
+            let r = e % size in
+            let w = r / (c .premium + 1) in
+            let a = r % (c .premium + 1) in
+            let dj = div-lt-iff-lt-mul some .1 l in
+            let dr = mod-lt e some in
+            let dw = div-lt-iff-lt-mul p .1 dr in
+            let da = mod-lt r p in
+            let whole : (suc j - 1) * size + (w * (c .premium + 1) + a) ≡ 0 + e =
+            ap (λ (x : ℕ). (suc j - 1) * size + x) (div-add-mod' r (c .premium + 1))
+            ∙ (let z : suc j - 1 ≡ j = omega arith in rw z (div-add-mod' e size)) ∙ sym (zero-add e) in
+            ap (λ (x : ℕ). getD table' x 0) (sym whole)
+            ∙ v .amounts (suc j) w a (omega arith) (omega arith) (omega arith) (omega arith) (omega arith)
 
 -- maturity values put into the first layer change nothing that is kept
-pub from-start : {b : Behaviour} {c : Terms} {rs : Returns} {work work₁ table work' table' : List ℕ} (f : ℕ → ℕ)
-    → work₁ ≡ stored work 0 f (layerSize c) → Valued b c rs work₁ table work' table' 0 → Valued b c rs work table work' table' 0
+pub from-start : {b : Behaviour} {c : Terms} {rs : Returns} {ds : Rates} {work work₁ table work' table' : List ℕ} (f : ℕ → ℕ)
+    → work₁ ≡ stored work 0 f (layerSize c) → Valued b c rs ds work₁ table work' table' 0 → Valued b c rs ds work table work' table' 0
 from-start f e v =
     let x = first-from f e (first v) in
     record { long = x .long; long-table = v .long-table; values = v .values; amounts = v .amounts; rest = x .rest; rest-table = v .rest-table }
 
 -- the first layer at maturity
-pub starting : {c : Terms} {behaviour count : ℕ} {list work work' : List ℕ} (lent : Alone behaviour c count list work)
-    → work' ≡ stored work 0 (flat (c .premium + 1) maturityValue) (layerSize c) → Starting behaviour c count work' list
+pub starting : {c : Terms} {behaviour : ℕ} {list rates work work' : List ℕ} (lent : Alone behaviour c list rates work)
+    → work' ≡ stored work 0 (flat (c .premium + 1) maturityValue) (layerSize c) → Starting behaviour c work' list rates
 unfolding layerSize
 starting {c} {work = work} lent e = record {
   known = lent .known;
-  listing = lent .ready .listing;
-  layers = record { valid = lent .ready .valid; room = let l = ap length e ∙ length-stored work 0 (flat (c .premium + 1) maturityValue) ((c .top + 1) * (c .premium + 1)) in omega (arith, lent .room) };
+  given = lent .given;
+  room =
+      let l = ap length e ∙ length-stored work 0 (flat (c .premium + 1) maturityValue) ((c .top + 1) * (c .premium + 1)) in
+      omega (arith, lent .room);
   mature = first-mature c work (omega (arith, lent .room)) e;
 }
 
 -- ---- what terms that were read answer
-pub answered : {b : Behaviour} {c : Terms} {rs : Returns} {work table work' table' : List ℕ} (r : declared.Answer) (work'' : List ℕ)
-    → Valid c → layerSize c + layerSize c ≤ length work
-    → Valued b c rs work table work' table' 0 → Settled c rs work' r work'' → Answered b c rs work table r work'' table'
+pub answered : {b : Behaviour} {c : Terms} {rs : Returns} {ds : Rates} {work table work' table' : List ℕ} (r : declared.Answer)
+    (work'' : List ℕ) → layerSize c + layerSize c ≤ length work
+    → Valued b c rs ds work table work' table' 0 → Settled c rs (ds 0) work' r work'' → Answered b c rs ds work table r work'' table'
 unfolding answer workAfter onSuccess numberOf placeOf
-answered {b} {c} {rs} r work'' valid room d s =
-    let value : r .value ≡ contractValue (fixedTerm c rs) b = s .value-is ∙ contract-value d valid in record {
+answered {b} {c} {rs} {ds} r work'' room d s =
+    let value : r .value ≡ contractValue (fixedTerm c rs ds) b = s .value-is ∙ contract-value d in record {
       worked = record {
         answer-is = λ i. record {
           number = s .number-is i;
@@ -131,44 +141,57 @@ answered {b} {c} {rs} r work'' valid room d s =
     }
 
 -- ---- the checks of a valuation, one after the other
-module _ (bytes list : List ℕ) (behaviour : ℕ) (work table : List ℕ) where
-  check-refused : (n p : ℕ) → valuingVerdict bytes list behaviour work table ≡ refused n p
-      → agreement.Refused (outcomeAt n p) ≡ valuingAgreed bytes list behaviour work table
+module _ (bytes list rates : List ℕ) (behaviour : ℕ) (work table : List ℕ) where
+  check-refused : (n p : ℕ) → valuingVerdict bytes list rates behaviour work table ≡ refused n p
+      → agreement.Refused (outcomeAt n p) ≡ valuingAgreed bytes list rates behaviour work table
   check-refused n p e = rw e
 
-  pub check-read : (o : Outcome) → bothRead bytes list ≡ agreement.Refused o → agreement.Refused o ≡ valuingAgreed bytes list behaviour work table
+  pub check-read : (o : Outcome) → inputRead bytes list rates ≡ agreement.Refused o
+      → agreement.Refused o ≡ valuingAgreed bytes list rates behaviour work table
   unfolding valuingVerdict valuingChecks
-  check-read o e = check-refused (o .number) (o .place) (then-refused (recordChecks bytes ++ listChecks list) _ (both-not-read bytes list o e))
+  check-read o e =
+      check-refused (o .number) (o .place) (then-refused (inputChecks bytes list rates) _ (input-not-read bytes list rates o e))
 
-  module _ {c : Contract} {rs : listed.Returns} (known : Both bytes list c rs) where
-    lently : valuingVerdict bytes list behaviour work table ≡ verdict (lentChecks (termsIn c) behaviour work table)
+  module _ {c : Contract} {rs : listed.Returns} (known : Agreed (verdict (inputChecks bytes list rates)) bytes list c rs) where
+    lently : valuingVerdict bytes list rates behaviour work table ≡ verdict (lentChecks (termsIn c) behaviour work table)
     unfolding valuingVerdict valuingChecks
-    lently = rw (known .terms) (then-accepted (recordChecks bytes ++ listChecks list) _ (known .accepts))
+    lently = rw (known .terms) (then-accepted (inputChecks bytes list rates) _ (known .accepts))
 
-    pub check-behaviour : ltb 2 behaviour ≡ true → agreement.Refused (outcomeAt 10 0) ≡ valuingAgreed bytes list behaviour work table
+    pub check-valid : Valid (termsIn c)
+    check-valid = rw (known .terms) (input-valid bytes list rates (known .accepts) .terms)
+
+    pub check-behaviour : ltb 2 behaviour ≡ true
+        → agreement.Refused (outcomeAt 10 0) ≡ valuingAgreed bytes list rates behaviour work table
     check-behaviour e = check-refused 10 0 (lently ∙ behaviour-refused (termsIn c) behaviour work table e)
 
     pub check-short : ltb 2 behaviour ≡ false → (short (2 * layerSize (termsIn c)) work || short (tableSize (termsIn c)) table) ≡ true
-        → agreement.Refused (outcomeAt 11 0) ≡ valuingAgreed bytes list behaviour work table
+        → agreement.Refused (outcomeAt 11 0) ≡ valuingAgreed bytes list rates behaviour work table
     check-short e f = check-refused 11 0 (lently ∙ lent-refused (termsIn c) behaviour work table e f)
 
     pub check-passed : ltb 2 behaviour ≡ false → (short (2 * layerSize (termsIn c)) work || short (tableSize (termsIn c)) table) ≡ false
-        → agreement.Accepted c rs ≡ valuingAgreed bytes list behaviour work table
+        → agreement.Accepted c rs ≡ valuingAgreed bytes list rates behaviour work table
     check-passed e f =
         rw (lently ∙ lent-accepted (termsIn c) behaviour work table e f)
         (ap₂ agreement.Accepted (ap contractOf (known .terms)) (ap (λ (n : ℕ). record { count = n }) (known .count)))
 
--- ---- what a call answers, on any input
-module _ (bytes list : List ℕ) (behaviour : ℕ) (work table : List ℕ) where
-  -- the claim follows from the equations
-  pub claimed : {r : declared.Answer} {work' table' : List ℕ} → Reported (valuingVerdict bytes list behaviour work table) bytes list behaviour work table r work' table'
-      → r .number ≡ 0 → Claim (productOf bytes list) (behaviourOf behaviour) (r .value) table'
-  unfolding valuingAnswer valuingTable
-  claimed w zero-number =
-      let X = productOf bytes list in
+-- ---- what a call answers, on any input: the claim follows from the equations
+pub valuing : (bytes list rates : List ℕ) (behaviour : ℕ) (work table : List ℕ) {r : declared.Answer} {work' table' : List ℕ}
+    → Reported (valuingVerdict bytes list rates behaviour work table) bytes list rates behaviour work table r work' table'
+    → Valuing bytes list rates behaviour work table r work' table'
+unfolding valuingAnswer valuingWork valuingTable
+valuing bytes list rates behaviour work table w = record {
+  answer-is = w .answer-is;
+  work-is = w .work-is;
+  table-is = w .table-is;
+  claim = λ zero-number.
+      let X = productOf bytes list rates in
       let b = behaviourOf behaviour in
-      let told = valuing-claim bytes list behaviour work table (ap (λ (x : declared.Answer). x .number) (sym (w .answer-is)) ∙ zero-number) in
+      let told =
+      valuing-claim bytes list rates behaviour work table (ap (λ (x : declared.Answer). x .number) (sym (w .answer-is)) ∙ zero-number) in
       record {
         value = ap (λ (x : declared.Answer). x .value) (w .answer-is) ∙ told .value;
-        attained = subst (λ (t : List ℕ). Attained (X .process) (X .admissible b) (X .layout .InRange) (lookup (X .layout) t)) (sym (w .table-is)) (told .attained);
-      }
+        attained =
+            subst (λ (t : List ℕ). Attained (X .process) (X .admissible b) (X .layout .InRange) (lookup (X .layout) t))
+            (sym (w .table-is)) (told .attained);
+      };
+}

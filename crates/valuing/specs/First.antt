@@ -9,22 +9,21 @@ use lib.ListN.{length, getD, drop, replicate}
 use Rattle.decision.specs.Index.{tabulate}
 use Rattle.slices.specs.Stored.{stored, length-stored, stored-out, stored-zeros}
 use Rattle.slices.specs.Rows.{cells, flat, layer-stored}
-use Rattle.rules.specs.Contract.{Terms, returnsOf}
+use Rattle.rules.specs.Contract.{Terms}
 use Rattle.rules.specs.Date.{maturityValue}
 use Rattle.rules.specs.FixedTerm.{layerSize}
-use Rattle.rules.specs.Refusals.{recordChecks, listChecks}
+use Rattle.rules.specs.Refusals.{inputChecks}
 use Rattle.rules.specs.Operations.{valuingChecks, valuingVerdict}
-use Rattle.laws.specs.Accepted.{Valid, ValidReturns, then-earlier}
+use Rattle.laws.specs.Accepted.{then-earlier}
 use Rattle.laws.specs.Bounds.{stateMost}
 use Rattle.laws.specs.Valuing.{valuing-room}
 use Rattle.contract.specs.declared.Outcome.{Outcome}
 use Rattle.contract.specs.declared.Contract.{Contract}
 use Rattle.contract.specs.declared.Returns.{Returns}
 use Rattle.contract.specs.Reading.{termsIn}
-use Rattle.contract.specs.Accepted.{Agreed, Both, agreed-both}
-use Rattle.expect.specs.Expected.{Listing}
+use Rattle.contract.specs.Accepted.{Agreed, Given, given}
 use Rattle.valuing.specs.declared.Answer as declared
-use Rattle.valuing.specs.Answered.{refusal, Ready, Lent, Settling}
+use Rattle.valuing.specs.Answered.{refusal, Lent, Settling}
 
 -- the first layer holds f, and what stands behind both layers is kept
 pub record First (f : ℕ → ℕ → ℕ) (c : Terms) (work work' : List ℕ) : Type 0 where
@@ -66,13 +65,13 @@ first-mature c work room e w a h l =
     ap (λ (xs : List ℕ). cells xs 0 (c .premium + 1) w a) e
     ∙ layer-stored work 0 (c .premium + 1) (c .top + 1) maturityValue (omega arith) .cell w a (omega arith) (omega arith)
 
-pub settling : {f : ℕ → ℕ → ℕ} {c : Terms} {count : ℕ} {list work work' : List ℕ} → Valid c → Listing list count
+pub settling : {f : ℕ → ℕ → ℕ} {c : Terms} {list rates work work' : List ℕ} → Given c list rates
     → layerSize c + layerSize c ≤ length work → First f c work work' → ((w a : ℕ) → w ≤ c .top → a ≤ c .premium → f w a ≤ stateMost c 1)
-    → Settling c count work' list
-settling valid listing room v most = record {
-  listing = listing;
+    → Settling c work' list rates
+settling given room v most = record {
+  given = given;
   first = record {
-    layers = record { valid = valid; room = omega (arith, v .long) };
+    layers = record { valid = given .valid .terms; room = omega (arith, v .long) };
     small = λ w a h l. le-trans (le-of-eq (v .values w a h l)) (most w a h l);
   };
 }
@@ -81,27 +80,16 @@ settling valid listing room v most = record {
 abbrev pub refused-by : Outcome → declared.Answer
 refused-by o = refusal (o .number) (o .place)
 
-pub listing : {list : List ℕ} (n : ℕ) → n ≡ returnsOf list .count → ValidReturns (returnsOf list) → Listing list n
-unfolding returnsOf
-listing {list} n e valid = record {
-  few = rw e (valid .count);
-  long = rw e (let d = div-add-mod' (length list) 4 in omega arith);
-  valid = valid;
-  all = e;
-}
-
-pub ready : {bytes list : List ℕ} {c : Contract} {rs : Returns} → Both bytes list c rs → Ready (termsIn c) (rs .count) list
-ready {rs = rs} known = record { valid = known .valid; listing = listing (rs .count) (known .count) (known .returns) }
-
 -- what a valuation that is accepted was given
-pub lent : (bytes list : List ℕ) (behaviour : ℕ) (work table : List ℕ) {c : Contract} {rs : Returns}
-    → Agreed (valuingVerdict bytes list behaviour work table) bytes list c rs → Lent behaviour (termsIn c) (rs .count) list work table
+pub lent : (bytes list rates : List ℕ) (behaviour : ℕ) (work table : List ℕ) {c : Contract} {rs : Returns}
+    → Agreed (valuingVerdict bytes list rates behaviour work table) bytes list c rs
+    → Lent behaviour (termsIn c) list rates work table
 unfolding valuingVerdict valuingChecks
-lent bytes list behaviour work table told =
-    let room = valuing-room bytes list behaviour work table (told .accepts) in record {
+lent bytes list rates behaviour work table told =
+    let room = valuing-room bytes list rates behaviour work table (told .accepts) in record {
       alone = record {
         known = room .known;
-        ready = ready (agreed-both told (then-earlier (recordChecks bytes ++ listChecks list) _ (told .accepts)));
+        given = given bytes list rates (then-earlier (inputChecks bytes list rates) _ (told .accepts)) (told .terms);
         room = rw (told .terms) (room .layers);
       };
       room-table = rw (told .terms) (room .entries);

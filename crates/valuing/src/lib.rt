@@ -2,16 +2,15 @@
 ghost use mathlib.Core.Path.{_≡_};
 ghost use mathlib.Core.Bool.{_||_};
 ghost use Prim.Native.Nat.{_*_, _≤_};
-ghost use Rattle.rules.specs.Contract.{topMost, returnsOf};
+ghost use Rattle.rules.specs.Contract.{topMost, returnsOf, ratesOf};
 ghost use Rattle.laws.specs.Bounds.{entryMost};
 ghost use Rattle.rules.specs.Date.{margin};
-ghost use Rattle.rules.specs.Product.{Claim};
 ghost use Rattle.rules.specs.FixedTerm.{layerSize};
 ghost use Rattle.rules.specs.Refusals.{short};
-ghost use Rattle.rules.specs.Operations.{productOf, behaviourOf, tableSize, valuingAnswer, valuingWork, valuingTable};
+ghost use Rattle.rules.specs.Operations.{behaviourOf, tableSize};
 ghost use Rattle.laws.specs.Accepted.{Valid};
 ghost use Rattle.contract.specs.Reading.{termsIn};
-ghost use Rattle.valuing.specs.Answered.{answerOf, refusal, valuingAgreed, Alone, Settling, Settled, Worked, Answered};
+ghost use Rattle.valuing.specs.Answered.{refusal, valuingAgreed, Alone, Settling, Settled, Worked, Answered, Valuing};
 use contract::Agreement;
 use contract::Contract;
 use contract::Outcome;
@@ -53,11 +52,14 @@ pub fn too_short(c: Contract, work: &[u64], table: &[u16]) -> bool
 }
 
 // The answer and the working slice, once the first layer holds the values of date 1.
-pub fn settle(work: &mut [u64], list: &[u8], count: usize, c: Contract) -> Answer
-    requires { ⌜ Settling (termsIn c) count (now work) (now list) ⌝ }
-    ensures { λ r. ⌜ Settled (termsIn c) (returnsOf (now (list .entry))) (now (work .entry)) r (now (work .exit)) ⌝ }
+pub fn settle(work: &mut [u64], list: &[u8], rates: &[u8], c: Contract) -> Answer
+    requires { ⌜ Settling (termsIn c) (now work) (now list) (now rates) ⌝ }
+    ensures { λ r. ⌜
+        Settled (termsIn c) (returnsOf (now (list .entry))) (ratesOf (now (rates .entry)) 0) (now (work .entry)) r
+        (now (work .exit))
+        ⌝ }
 {
-    let value = expect::start_value(&work[..], list, count, c);
+    let value = expect::start_value(&work[..], list, contract::rate_of(rates, 0), c);
     let size = c.layer_size();
     dates::clear(work, size, size);
     Answer {
@@ -68,11 +70,22 @@ pub fn settle(work: &mut [u64], list: &[u8], count: usize, c: Contract) -> Answe
     }
 }
 
-// What a valuation is given, checked in order: record, list, behaviour, the lengths of the slices.
-pub fn check(bytes: &[u8], list: &[u8], behaviour: usize, work: &[u64], table: &[u16]) -> Agreement
-    ensures { λ r. ⌜ r ≡ valuingAgreed (now (bytes .entry)) (now (list .entry)) behaviour (now (work .entry)) (now (table .entry)) ⌝ }
+// What a valuation is given, checked in order: record, list, rates, behaviour, the lengths of the slices.
+pub fn check(
+    bytes: &[u8],
+    list: &[u8],
+    rates: &[u8],
+    behaviour: usize,
+    work: &[u64],
+    table: &[u16],
+) -> Agreement
+    ensures { λ r. ⌜
+        r
+        ≡ valuingAgreed (now (bytes .entry)) (now (list .entry)) (now (rates .entry)) behaviour (now (work .entry))
+        (now (table .entry))
+        ⌝ }
 {
-    let agreement = contract::read(bytes, list);
+    let agreement = contract::read_all(bytes, list, rates);
     let Agreement::Accepted(c, _) = agreement else {
         return agreement;
     };
@@ -95,55 +108,57 @@ pub fn check(bytes: &[u8], list: &[u8], behaviour: usize, work: &[u64], table: &
 pub fn valued(
     c: Contract,
     list: &[u8],
-    count: usize,
+    rates: &[u8],
     behaviour: usize,
     work: &mut [u64],
     table: &mut [u16],
 ) -> Answer
-    requires { ⌜ Alone behaviour (termsIn c) count (now list) (now work) ⌝ }
+    requires { ⌜ Alone behaviour (termsIn c) (now list) (now rates) (now work) ⌝ }
     ensures { λ r. ⌜
-        Answered (behaviourOf behaviour) (termsIn c) (returnsOf (now (list .entry))) (now (work .entry)) (now (table .entry)) r
-        (now (work .exit)) (now (table .exit))
+        Answered (behaviourOf behaviour) (termsIn c) (returnsOf (now (list .entry))) (ratesOf (now (rates .entry)))
+        (now (work .entry)) (now (table .entry)) r (now (work .exit)) (now (table .exit))
         ⌝ }
 {
     dates::fill_maturity(work, c.premium + 1, c.top + 1);
-    dates::all_dates(behaviour, work, table, list, count, c);
-    settle(work, list, count, c)
+    dates::all_dates(behaviour, work, table, list, rates, c);
+    settle(work, list, rates, c)
 }
 
 // .. over the working slice alone.
 pub fn valued_alone(
     c: Contract,
     list: &[u8],
-    count: usize,
+    rates: &[u8],
     behaviour: usize,
     work: &mut [u64],
 ) -> Answer
-    requires { ⌜ Alone behaviour (termsIn c) count (now list) (now work) ⌝ }
+    requires { ⌜ Alone behaviour (termsIn c) (now list) (now rates) (now work) ⌝ }
     ensures { λ r. ⌜
-        Worked (behaviourOf behaviour) (termsIn c) (returnsOf (now (list .entry))) (now (work .entry)) r (now (work .exit))
+        Worked (behaviourOf behaviour) (termsIn c) (returnsOf (now (list .entry))) (ratesOf (now (rates .entry)))
+        (now (work .entry)) r (now (work .exit))
         ⌝ }
 {
     let mut none = [0u16; 1];
-    valued(c, list, count, behaviour, work, &mut none[0..0])
+    valued(c, list, rates, behaviour, work, &mut none[0..0])
 }
 
 // Values a contract: fills the table and answers number, place, value and margin.
 pub fn value(
     bytes: &[u8],
     list: &[u8],
+    rates: &[u8],
     behaviour: usize,
     work: &mut [u64],
     table: &mut [u16],
 ) -> Answer
-    ensures { λ r. ⌜ r ≡ answerOf (valuingAnswer (now (bytes .entry)) (now (list .entry)) behaviour (now (work .entry)) (now (table .entry))) ⌝ }
-    ensures { λ _. ⌜ now (work .exit) ≡ valuingWork (now (bytes .entry)) (now (list .entry)) behaviour (now (work .entry)) (now (table .entry)) ⌝ }
-    ensures { λ _. ⌜ now (table .exit) ≡ valuingTable (now (bytes .entry)) (now (list .entry)) behaviour (now (work .entry)) (now (table .entry)) ⌝ }
-    ensures { λ r. ⌜ (r .number ≡ 0 → Claim (productOf (now (bytes .entry)) (now (list .entry))) (behaviourOf behaviour) (r .value) (now (table .exit))) ⌝ }
+    ensures { λ r. ⌜
+        Valuing (now (bytes .entry)) (now (list .entry)) (now (rates .entry)) behaviour
+        (now (work .entry)) (now (table .entry)) r (now (work .exit)) (now (table .exit))
+        ⌝ }
 {
-    let agreement = check(bytes, list, behaviour, &work[..], &table[..]);
-    let Agreement::Accepted(c, returns) = agreement else {
+    let agreement = check(bytes, list, rates, behaviour, &work[..], &table[..]);
+    let Agreement::Accepted(c, _) = agreement else {
         return refused(agreement.outcome());
     };
-    valued(c, list, returns.count, behaviour, work, table)
+    valued(c, list, rates, behaviour, work, table)
 }

@@ -18,9 +18,9 @@ use Rattle.rules.specs.Contract.{Terms, topMost, factorMost, termsOf, Returns, 
 use Rattle.rules.specs.Date.{dynamic, freeAmount, admits, balanceAfter, guaranteeAfter}
 use Rattle.rules.specs.Product.{walkState, walkAmount, walkHeld, walkPaid, walkCashOn, walkCashLast, walkCash}
 use Rattle.rules.specs.FixedTerm.{State, Held, startOf, reachBy, paidBy, afterIn, cashIn, freeIn, admissibleIn, processOf}
-use Rattle.rules.specs.FixedTerm.{layoutOf, fixedTerm}
+use Rattle.rules.specs.FixedTerm.{layoutOf, fixedTerm, livingTerm}
 use Rattle.rules.specs.Refusals.{Verdict, accepted, refused, verdict, numberOf, placeOf, onSuccess, recordChecks, listChecks}
-use Rattle.rules.specs.Operations.{productOf, tableSize, badDate, pathChecks, walkChecks, walkVerdict, walkCashes}
+use Rattle.rules.specs.Operations.{livingOf, tableSize, badDate, pathChecks, walkChecks, walkVerdict, walkCashes}
 use Rattle.laws.specs.Accepted.{Valid, not-not, then-accepted, then-refused}
 use Rattle.contract.specs.declared.Outcome.{Outcome}
 use Rattle.contract.specs.Reading.{outcomeAt, outcomeOf}
@@ -40,7 +40,7 @@ module _ {c : Terms} {count : ℕ} {list table path : List ℕ} (h : Walking c c
   pub first-met : Met c (returnsOf list) table path 1 (arrivalOf c (c .premium) (returnsOf list .factor (getD path 0 0)) (c .premium))
   unfolding walkPaid walkHeld fixedTerm processOf reachBy paidBy startOf
   first-met = record {
-    state = walk-first (fixedTerm c (returnsOf list)) table path (omega (arith, h .long, h .valid .dates-least));
+    state = walk-first (livingTerm c (returnsOf list)) table path (omega (arith, h .long, h .valid .dates-least));
     paid = refl;
     paid-small = excess-paid-le (c .fee) (c .top) (c .premium) _ (h .valid .premium) (factor-small 0 (h .valid .dates-least));
     account = account-le (c .fee) (c .top) (c .premium) (returnsOf list .factor (getD path 0 0));
@@ -55,27 +55,27 @@ module _ {c : Terms} {count : ℕ} {list table path : List ℕ} (h : Walking c c
 
       pub amount-is :
           getD (midOf from (to - from) table) (p .account * (c .premium + 1) + p .guarantee) 0
-          ≡ walkAmount (fixedTerm c (returnsOf list)) table path i
+          ≡ walkAmount (livingTerm c (returnsOf list)) table path i
       unfolding walkAmount fixedTerm
       amount-is =
           layer-entry l table (h .entries) (m .account) (m .guarantee)
           ∙ sym (ap (lookup (layoutOf c) table i) (m .state))
 
-    pub next-met : (t : ℕ) → t ≡ walkAmount (fixedTerm c (returnsOf list)) table path i
+    pub next-met : (t : ℕ) → t ≡ walkAmount (livingTerm c (returnsOf list)) table path i
         → Met c (returnsOf list) table path (suc i)
         (arrivalOf c (balanceAfter (p .account) t) (returnsOf list .factor (getD path i 0))
         (guaranteeAfter (freeAmount (c .level) (p .guarantee)) (p .account) (p .guarantee) t))
     unfolding walkPaid fixedTerm processOf reachBy paidBy afterIn freeIn balanceAfter
     next-met t e =
         let held =
-        walk-after (fixedTerm c (returnsOf list)) table path i some ∙ ap₂ (λ (s : State) (x : ℕ). afterIn c i s x) (m .state) (sym e) in
+        walk-after (livingTerm c (returnsOf list)) table path i some ∙ ap₂ (λ (s : State) (x : ℕ). afterIn c i s x) (m .state) (sym e) in
         let up : i ≡ suc i - 1 = omega arith in record {
           state =
-              walk-next (fixedTerm c (returnsOf list)) table path i some (omega (arith, h .long))
+              walk-next (livingTerm c (returnsOf list)) table path i some (omega (arith, h .long))
               ∙ ap₂ (λ (s : State) (x : ℕ). reachBy c (returnsOf list) (afterIn c i s x) (getD path i 0)) (m .state) (sym e);
           paid =
               sym (ap (λ (x : Held). paidBy c (returnsOf list) x (getD path i 0)) held)
-              ∙ ap (walkPaid (fixedTerm c (returnsOf list)) table path) up;
+              ∙ ap (walkPaid (livingTerm c (returnsOf list)) table path) up;
           account = account-le (c .fee) (c .top) (p .account - t) (returnsOf list .factor (getD path i 0));
           guarantee =
               le-trans (guarantee-le (freeAmount (c .level) (p .guarantee)) (p .account) (p .guarantee) t)
@@ -93,47 +93,51 @@ module _ {c : Terms} {rs : Returns} {table path : List ℕ} {i : ℕ} {p : Place
   up = omega arith
 
   pub bad-is : badDate c rs table path (i - 1)
-      ≡ not (admits dynamic (freeAmount (c .level) (p .guarantee)) (p .account) (walkAmount (fixedTerm c rs) table path i))
+      ≡ not (admits dynamic (freeAmount (c .level) (p .guarantee)) (p .account) (walkAmount (livingTerm c rs) table path i))
   unfolding badDate admissibleIn freeIn
   bad-is =
-      ap (λ (n : ℕ). not (admissibleIn c dynamic (walkState (fixedTerm c rs) table path n) (walkAmount (fixedTerm c rs) table path n))) up
-      ∙ ap (λ (s : State). not (admissibleIn c dynamic s (walkAmount (fixedTerm c rs) table path i))) (m .state)
+      ap (λ (n : ℕ). not (admissibleIn c dynamic (walkState (livingTerm c rs) table path n) (walkAmount (livingTerm c rs) table path n))) up
+      ∙ ap (λ (s : State). not (admissibleIn c dynamic s (walkAmount (livingTerm c rs) table path i))) (m .state)
 
-  pub cash-is : p .paid + cashIn c i (at (p .account) (p .guarantee)) (walkAmount (fixedTerm c rs) table path i)
-      ≡ walkCashOn (fixedTerm c rs) table path (i - 1)
+  pub cash-is : p .paid + cashIn c i (at (p .account) (p .guarantee)) (walkAmount (livingTerm c rs) table path i)
+      ≡ walkCashOn (livingTerm c rs) table path (i - 1)
   unfolding walkCashOn fixedTerm processOf
   cash-is =
       ap₂ _+_ (m .paid)
-      (sym (ap (λ (n : ℕ). cashIn c n (walkState (fixedTerm c rs) table path n) (walkAmount (fixedTerm c rs) table path n)) up
-      ∙ ap (λ (s : State). cashIn c i s (walkAmount (fixedTerm c rs) table path i)) (m .state)))
+      (sym (ap (λ (n : ℕ). cashIn c n (walkState (livingTerm c rs) table path n) (walkAmount (livingTerm c rs) table path n)) up
+      ∙ ap (λ (s : State). cashIn c i s (walkAmount (livingTerm c rs) table path i)) (m .state)))
 
   -- where no date is bad
   pub amount-within : c .dates - 1 ≤ first (badDate c rs table path) (c .dates - 1) → i < c .dates
-      → walkAmount (fixedTerm c rs) table path i ≤ max (p .account) (freeAmount (c .level) (p .guarantee))
+      → walkAmount (livingTerm c rs) table path i ≤ max (p .account) (freeAmount (c .level) (p .guarantee))
   amount-within none before =
       let m = freeAmount (c .level) (p .guarantee) in
-      let t = walkAmount (fixedTerm c rs) table path i in
+      let t = walkAmount (livingTerm c rs) table path i in
       let good = sym bad-is ∙ all-fail (badDate c rs table path) (c .dates - 1) none (i - 1) (omega arith) in
       dynamic-is m (p .account) _ (not-not (admits dynamic m (p .account) t) (rw good tt))
 
   -- .. and at most 4,000
   pub amount-small : Valid c → c .dates - 1 ≤ first (badDate c rs table path) (c .dates - 1) → i < c .dates
-      → walkAmount (fixedTerm c rs) table path i ≤ topMost
+      → walkAmount (livingTerm c rs) table path i ≤ topMost
   amount-small v none before =
       let guarantee = le-trans (m .guarantee) (le-trans (v .premium) (v .top)) in
       amount-most (c .level) (le-trans (m .account) (v .top)) guarantee (amount-within none before)
 
 -- the cash as the rules list it
 cash-list : (c : Terms) (rs : Returns) (table path cashes : List ℕ) → 1 ≤ c .dates → c .dates ≤ length cashes
-    → set (stored cashes 0 (walkCashOn (fixedTerm c rs) table path) (c .dates - 1)) (c .dates - 1) (walkCashLast (fixedTerm c rs) table path)
-    ≡ walkCash (fixedTerm c rs) table path ++ drop (c .dates) cashes
+    → set (stored cashes 0 (walkCashOn (livingTerm c rs) table path) (c .dates - 1)) (c .dates - 1)
+    (walkCashLast (livingTerm c rs) table path)
+    ≡ walkCash (livingTerm c rs) table path ++ drop (c .dates) cashes
 unfolding walkCash fixedTerm processOf
 cash-list c rs table path cashes some room =
     let n = c .dates - 1 in
     let up : suc n ≡ c .dates = omega arith in
-    ap (λ (xs : List ℕ). set xs n (walkCashLast (fixedTerm c rs) table path)) (stored-front cashes (walkCashOn (fixedTerm c rs) table path) n (omega arith))
-    ∙ last-set n (tabulate n (walkCashOn (fixedTerm c rs) table path)) cashes (walkCashLast (fixedTerm c rs) table path) (length-tabulate n (walkCashOn (fixedTerm c rs) table path)) (omega arith)
-    ∙ ap (λ (k : ℕ). tabulate n (walkCashOn (fixedTerm c rs) table path) ++ (walkCashLast (fixedTerm c rs) table path ∷ []) ++ drop k cashes) up
+    ap (λ (xs : List ℕ). set xs n (walkCashLast (livingTerm c rs) table path))
+    (stored-front cashes (walkCashOn (livingTerm c rs) table path) n (omega arith))
+    ∙ last-set n (tabulate n (walkCashOn (livingTerm c rs) table path)) cashes (walkCashLast (livingTerm c rs) table path)
+    (length-tabulate n (walkCashOn (livingTerm c rs) table path)) (omega arith)
+    ∙ ap (λ (k : ℕ). tabulate n (walkCashOn (livingTerm c rs) table path) ++
+    (walkCashLast (livingTerm c rs) table path ∷ []) ++ drop k cashes) up
   where
     last-set : (n : ℕ) (xs ys : List ℕ) (y : ℕ) → length xs ≡ n → n < length ys → set (xs ++ drop n ys) n y ≡ xs ++ (y ∷ []) ++ drop (suc n) ys
     last-set n xs ys y e l =
@@ -149,7 +153,9 @@ module _ {c : Terms} {rs : Returns} {v : Verdict} {table path cashes : List ℕ}
   walked-refused n p r e f = record { outcome-is = rw e f; cash-is = rw e }
 
   pub walked-accepted : (r : Outcome) (cashes' : List ℕ) → v ≡ accepted → 1 ≤ c .dates → c .dates ≤ length cashes → r ≡ outcomeAt 0 0
-      → cashes' ≡ set (stored cashes 0 (walkCashOn (fixedTerm c rs) table path) (c .dates - 1)) (c .dates - 1) (walkCashLast (fixedTerm c rs) table path)
+      → cashes'
+      ≡ set (stored cashes 0 (walkCashOn (livingTerm c rs) table path) (c .dates - 1)) (c .dates - 1)
+      (walkCashLast (livingTerm c rs) table path)
       → Walked c rs v table path cashes r cashes'
   unfolding onSuccess numberOf placeOf
   walked-accepted r cashes' e some room f g = record { outcome-is = rw e f; cash-is = rw e (g ∙ cash-list c rs table path cashes some room) }
@@ -162,7 +168,7 @@ module _ (bytes list table path cashes : List ℕ) (r : Outcome) where
 
   pub whole : (cashes' : List ℕ) → verdict (recordChecks bytes ++ listChecks list) ≡ accepted → (c : Terms) → c ≡ termsOf bytes
       → Walked c (returnsOf list) (verdict (pathChecks c (returnsOf list) table path cashes)) table path cashes r cashes' → Whole cashes'
-  unfolding walkVerdict walkChecks walkCashes productOf
+  unfolding walkVerdict walkChecks walkCashes livingOf
   whole cashes' e c same a =
       let all = then-accepted (recordChecks bytes ++ listChecks list) (pathChecks (termsOf bytes) (returnsOf list) table path cashes) e in
       let b = subst (λ (x : Terms). Walked x (returnsOf list) (verdict (pathChecks x (returnsOf list) table path cashes)) table path cashes r cashes') same a in

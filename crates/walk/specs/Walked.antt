@@ -6,15 +6,26 @@ use lib.ListN.{getD, length, drop}
 use Rattle.rules.specs.Contract.{Terms, Returns}
 use Rattle.rules.specs.Date.{nextAccount, excessPaid}
 use Rattle.rules.specs.Product.{walkState, walkPaid, walkCash}
-use Rattle.rules.specs.FixedTerm.{fixedTerm}
+use Rattle.rules.specs.FixedTerm.{livingTerm}
 use Rattle.rules.specs.Refusals.{Verdict, onSuccess}
 use Rattle.rules.specs.Operations.{tableSize}
 use Rattle.laws.specs.Accepted.{Valid}
+use Rattle.contract.specs.declared.Contract.{Contract}
+use Rattle.contract.specs.declared.Returns as declared
 use Rattle.contract.specs.declared.Outcome.{Outcome}
-use Rattle.contract.specs.Reading.{outcomeOf}
-use Rattle.expect.specs.Expected.{Listing}
+use Rattle.contract.specs.Accepted.{Both}
+use Rattle.contract.specs.Reading.{termsIn, outcomeOf}
+use Rattle.expect.specs.Expected.{Listing, listing}
 use Rattle.dates.specs.Back.{at}
 use Rattle.walk.specs.declared.Place.{Place}
+
+-- terms and returns that were read
+pub record Ready (c : Terms) (count : ℕ) (list : List ℕ) : Type 0 where
+  pub valid : Valid c
+  pub listing : Listing list count
+
+pub ready : {bytes list : List ℕ} {c : Contract} {rs : declared.Returns} → Both bytes list c rs → Ready (termsIn c) (rs .count) list
+ready known = record { valid = known .valid; listing = listing (known .count) (known .returns) }
 
 -- a path that can be walked
 pub record Walking (c : Terms) (count : ℕ) (list table path : List ℕ) : Type 0 where
@@ -34,8 +45,8 @@ arrivalOf c balance factor guarantee = record {
 
 -- what is met on date i, and was paid on arrival there
 pub record Met (c : Terms) (rs : Returns) (table path : List ℕ) (i : ℕ) (p : Place) : Type 0 where
-  pub state : walkState (fixedTerm c rs) table path i ≡ at (p .account) (p .guarantee)
-  pub paid : p .paid ≡ walkPaid (fixedTerm c rs) table path (i - 1)
+  pub state : walkState (livingTerm c rs) table path i ≡ at (p .account) (p .guarantee)
+  pub paid : p .paid ≡ walkPaid (livingTerm c rs) table path (i - 1)
   pub account : p .account ≤ c .top
   pub guarantee : p .guarantee ≤ c .premium
   pub paid-small : p .paid ≤ 20000 * c .top
@@ -43,4 +54,4 @@ pub record Met (c : Terms) (rs : Returns) (table path : List ℕ) (i : ℕ) (p :
 -- the outcome of a verdict, and the cash slice
 pub record Walked (c : Terms) (rs : Returns) (v : Verdict) (table path cashes : List ℕ) (r : Outcome) (cashes' : List ℕ) : Type 0 where
   pub outcome-is : r ≡ outcomeOf v
-  pub cash-is : cashes' ≡ onSuccess v (walkCash (fixedTerm c rs) table path ++ drop (c .dates) cashes) cashes
+  pub cash-is : cashes' ≡ onSuccess v (walkCash (livingTerm c rs) table path ++ drop (c .dates) cashes) cashes

@@ -9,14 +9,13 @@ ghost use Rattle.slices.specs.Stored.{stored};
 ghost use Rattle.rules.specs.Contract.{topMost, factorMost, returnsOf};
 ghost use Rattle.rules.specs.Date.{dynamic, freeAmount, admits, nextAccount, excessPaid, maturityValue};
 ghost use Rattle.rules.specs.Product.{walkAmount, walkCashOn, walkCashLast};
-ghost use Rattle.rules.specs.FixedTerm.{cashIn, fixedTerm};
+ghost use Rattle.rules.specs.FixedTerm.{cashIn, livingTerm};
 ghost use Rattle.rules.specs.Refusals.{short, verdict};
 ghost use Rattle.rules.specs.Operations.{tableSize, badDate, pathChecks, walkVerdict, walkCashes};
 ghost use Rattle.laws.specs.Accepted.{Valid};
 ghost use Rattle.contract.specs.Reading.{termsIn, outcomeAt, outcomeOf};
 ghost use Rattle.dates.specs.Back.{at};
-ghost use Rattle.valuing.specs.Answered.{Ready};
-ghost use Rattle.walk.specs.Walked.{Walking, Met, Walked};
+ghost use Rattle.walk.specs.Walked.{Ready, Walking, Met, Walked};
 use contract::Agreement;
 use contract::Contract;
 use contract::Outcome;
@@ -109,7 +108,7 @@ fn amount_on(
         × (0 < i)
         × (i < c .dates)
         ⌝ }
-    ensures { λ r. ⌜ r ≡ walkAmount (fixedTerm (termsIn c) (returnsOf (now (list .entry)))) (now (table .entry)) (now (path .entry)) i ⌝ }
+    ensures { λ r. ⌜ r ≡ walkAmount (livingTerm (termsIn c) (returnsOf (now (list .entry)))) (now (table .entry)) (now (path .entry)) i ⌝ }
 {
     let part = dates::layer_of(c, i);
     let from = part.from;
@@ -138,7 +137,7 @@ fn next_place(
         × Met (termsIn c) (returnsOf (now list)) (now table) (now path) i place
         × (0 < i)
         × (i < c .dates)
-        × (t ≡ walkAmount (fixedTerm (termsIn c) (returnsOf (now list))) (now table) (now path) i)
+        × (t ≡ walkAmount (livingTerm (termsIn c) (returnsOf (now list))) (now table) (now path) i)
         × (t ≤ max (place .account) (freeAmount (c .level) (place .guarantee)))
         ⌝ }
     ensures { λ r. ⌜ Met (termsIn c) (returnsOf (now (list .entry))) (now (table .entry)) (now (path .entry)) (suc i) r ⌝ }
@@ -214,10 +213,10 @@ fn pay(c: Contract, list: &[u8], count: usize, table: &[u16], path: &[u16], cash
         now (cash .exit)
         ≡ set
         (stored (now (cash .entry)) 0
-        (walkCashOn (fixedTerm (termsIn c) (returnsOf (now (list .entry)))) (now (table .entry)) (now (path .entry)))
+        (walkCashOn (livingTerm (termsIn c) (returnsOf (now (list .entry)))) (now (table .entry)) (now (path .entry)))
         (c .dates - 1))
         (c .dates - 1)
-        (walkCashLast (fixedTerm (termsIn c) (returnsOf (now (list .entry)))) (now (table .entry)) (now (path .entry)))
+        (walkCashLast (livingTerm (termsIn c) (returnsOf (now (list .entry)))) (now (table .entry)) (now (path .entry)))
         ⌝ }
 {
     let mut place = first_place(c, list, count, table, path);

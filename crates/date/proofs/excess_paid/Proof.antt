@@ -1,27 +1,21 @@
 -- `date::excess_paid` meets its contract. Assumes nothing.
-use Prim.Native.Nat.{ℕ, _*_, _-_}
+use Prim.Native.Nat.{ℕ, _*_}
 use borrow.Author.Needs.{needs}
-use mathlib.Core.Path.{ap, _∙_}
+use mathlib.Core.Path.{ap}
 use native.Mathlib.Omega.{arith}
-use Rattle.rules.specs.Date.{excess, excessPaid}
+use Rattle.rules.specs.Date.{excessPaid}
 use Rattle.date.proofs.excess_paid.Statement.{statement}
 use Rattle.date.proofs.excess_paid.Tie as tie
 
-lifted-account-requires : tie.Need-lifted-account-requires
-lifted-account-requires c κs = search needs
-
-less-requires : tie.Need-less-requires
-less-requires c κs = search needs
+excess-requires : tie.Need-excess-requires
+excess-requires c κs = search needs
 
 mul-result : tie.Need-mul-result
 mul-result c = search needs
 
 returns : tie.Need-returns
-unfolding excess excessPaid
-returns c =
-    let lifted = c .before .lifted-account .ensures in
-    let is = c .less .ensures ∙ ap (λ (x : ℕ). x - c .before .before .args .top) (lifted .0) in
-    (ap (λ (x : ℕ). 10000 * x) is, let e = c .less .ensures in omega (arith, lifted .1))
+unfolding excessPaid
+returns c = let over = c .excess .ensures in (ap (λ (x : ℕ). 10000 * x) (over .0), omega (arith, over .1))
 
 pub excess-paid-spec : {M : Type 1} → statement M
-excess-paid-spec = tie.close (tie.spec lifted-account-requires less-requires mul-result returns)
+excess-paid-spec = tie.close (tie.spec excess-requires mul-result returns)

@@ -6,25 +6,25 @@ use Prim.Native.Nat.{_<_}
 use Rattle.contract.specs.Reading.{termsIn}
 use Rattle.dates.proofs.Laws.{dating, valued-before, valued-none}
 use Rattle.dates.specs.Back.{Valued}
-use Rattle.rules.specs.Contract.{returnsOf}
+use Rattle.rules.specs.Contract.{returnsOf, ratesOf}
 use Rattle.rules.specs.Operations.{behaviourOf}
 use Rattle.dates.proofs.all_dates.Statement.{statement}
 use Rattle.dates.proofs.all_dates.Tie as tie
 
 abbrev Inv-loop : tie.InvT-loop
-Inv-loop behaviour work₀ table₀ list count c i₀ work table i =
-    (i < c .dates) × Valued (behaviourOf behaviour) (termsIn c) (returnsOf list) work₀ table₀ work table i
+Inv-loop behaviour work₀ table₀ list rates c i₀ work table i =
+    (i < c .dates) × Valued (behaviourOf behaviour) (termsIn c) (returnsOf list) (ratesOf rates) work₀ table₀ work table i
 
 abbrev μ-loop : tie.MeasureT-loop
-μ-loop behaviour work₀ table₀ list count c i₀ work table i = i
+μ-loop behaviour work₀ table₀ list rates c i₀ work table i = i
 
 sub-i : tie.Need-sub-i Inv-loop μ-loop
-sub-i c = omega (arith, c .before .before .before .before .pre .layers .valid .dates-least)
+sub-i c = omega (arith, c .before .before .before .before .before .pre .given .valid .terms .dates-least)
 
 loop-holds : tie.Need-loop-holds Inv-loop μ-loop
 loop-holds c =
-    let c4 = c .before .before .before .before in
-    (omega (arith, c4 .pre .layers .valid .dates-least), valued-none (c4 .pre))
+    let pre = c .before .before .before .before .before .pre in
+    (omega (arith, pre .given .valid .terms .dates-least), valued-none pre)
 
 lent-layer-requires : tie.Need-lent-layer-requires Inv-loop μ-loop
 lent-layer-requires c κs = search needs
@@ -44,7 +44,7 @@ part-one-date-end c = search needs
 one-date-requires : tie.Need-one-date-requires Inv-loop μ-loop
 one-date-requires c κs =
     let loop = c .before .before .before .before .loop in
-    let pre = c .before .before .before .before .before .before .before .before .before .pre in
+    let pre = c .before .before .before .before .before .before .before .before .before .before .pre in
     (pre .known, dating pre (loop .inv .1) (loop .inv .0))
 
 sub-i-2 : tie.Need-sub-i-2 Inv-loop μ-loop
@@ -58,7 +58,7 @@ loop-again c =
     let c4 = c .before .before .before .before in
     let c9 = c4 .before .before .before .before .before in
     let loop = c9 .loop in
-    let pre = c9 .before .before .before .before .before .pre in
+    let pre = c9 .before .before .before .before .before .before .pre in
     let part = c4 .before .before .before .lent-layer .ensures in
     let one-date = c4 .one-date in (
       omega arith,

@@ -1,5 +1,6 @@
 -- `dates::one_date` meets its contract. Assumes nothing.
 use borrow.Author.Needs.{needs}
+use Rattle.rules.specs.Contract.{ratesOf}
 use Rattle.dates.proofs.Laws.{dated}
 use Rattle.dates.proofs.one_date.Statement.{statement}
 use Rattle.dates.proofs.one_date.Tie as tie
@@ -22,8 +23,10 @@ same-length-2 c = search needs
 returns : tie.Need-returns
 returns c =
     let c4 = c .before .before .before .before in
+    let c4 = c4 in
     let c10 = c4 .before .before .before .before .before .before in
-    dated (c10 .sum-date .ensures .0) (c10 .sum-date .ensures .1) (c4 .decide-layer .ensures)
+    dated (ratesOf (c10 .before .before .before .before .before .before .args .rates .now)) (c10 .sum-date .ensures .0)
+    (c10 .sum-date .ensures .1) (c4 .decide-layer .ensures)
 
 pub one-date-spec : {M : Type 1} → statement M
 one-date-spec =

@@ -1,87 +1,136 @@
 -- `expect::start_value` meets its contract. Assumes nothing.
-use Prim.Native.Nat.{ℕ, _+_, _*_, _<_}
-use borrow.Author.Needs.{needs}
-use lib.ListN.{getD}
-use mathlib.Core.List.{List}
-use mathlib.Core.Path.{_≡_, ap, _∙_}
+use Prim.Native.Nat.{ℕ, _+_, _*_, _-_, _≤_, _<_}
+use mathlib.Core.Path.{_≡_, refl, ap, ap₂, _∙_}
+use native.Mathlib.Nat.{le-trans, mul-le-mul, mul-le-mul-right}
 use native.Mathlib.Omega.{arith}
+use Rattle.decision.specs.Index.{sum, sum-next}
+use Rattle.laws.specs.Bounds.{entryMost}
+use Rattle.rules.specs.Contract.{returnsOf, weightMost}
+use Rattle.rules.specs.Date.{discounted}
 use Rattle.contract.specs.Reading.{termsIn}
-use Rattle.expect.specs.Expected.{Row, Balance, expected-le}
-use Rattle.laws.specs.Bounds.{stateMost}
-use Rattle.rules.specs.Contract.{returnsOf}
-use Rattle.rules.specs.Date.{nextAccount, discounted}
-use Rattle.expect.proofs.Laws.{filled, start-balance, balance-row, balance-cells, row-reached}
+use Rattle.slices.specs.Rows.{cells}
+use Rattle.expect.specs.Expected.{startReached, startExpected, start-expected-le}
+use Rattle.expect.proofs.Laws.{return-in, return-number, weight-is, weight-small}
 use Rattle.expect.proofs.start_value.Statement.{statement}
 use Rattle.expect.proofs.start_value.Tie as tie
 
--- the balance of the start, where the returns are listed and what they pay is known
-module _ (c : tie.After-weights2) where
-  abbrev start : tie.Start
-  start = c .before .before .before .before .before .before .before .before .before
+abbrev Inv-loop : tie.InvT-loop
+Inv-loop work list rate c sum₀ k₀ k-end total k =
+    (k ≤ k-end)
+    × (total ≡ sum (λ j. returnsOf list .weight j * startReached (termsIn c) (returnsOf list) rate (cells work 0 (c .premium + 1)) j) k)
+    × (total ≤ k * (weightMost * entryMost))
 
-  abbrev weights : List ℕ
-  weights = c .before .before .before .before .fill-weights .last .0
+abbrev μ-loop : tie.MeasureT-loop
+μ-loop work list rate c sum₀ k₀ k-end total k = k-end - k
 
-  abbrev starts : List ℕ
-  starts = c .before .before .fill-starts .last .0
+returns-in-requires : tie.Need-returns-in-requires Inv-loop μ-loop
+returns-in-requires c κs = tt
 
-  starts-are : (k : ℕ) → k < start .args .count
-      → getD starts k 0
-      ≡ nextAccount (start .args .c .fee) (start .args .c .top) (start .args .c .premium) (returnsOf (start .args .list .now) .factor k)
-      * (start .args .c .premium + 1)
-  starts-are = filled _ _ _ (c .before .before .fill-starts .ensures .1) (start .pre .0 .few)
+loop-holds : tie.Need-loop-holds Inv-loop μ-loop
+unfolding sum
+loop-holds c = (omega arith, refl, omega arith)
 
-  balance : Balance (termsIn (start .args .c)) 0 (start .args .work .now) (start .args .list .now) weights
-      (start .args .count) (start .args .c .discount) (stateMost (termsIn (start .args .c)) 1) (c .before .before .fill-starts .result)
-      (start .args .c .premium) (start .args .c .premium + 1) ((start .args .c .top + 1) * (start .args .c .premium + 1))
-  balance =
-      start-balance (start .pre .0) (start .pre .1)
-      (filled _ _ _ (c .before .before .before .before .fill-weights .ensures) (start .pre .0 .few))
-      (c .before .before .fill-starts .ensures .0)
+-- the return met stands in the list
+met : (c : tie.In-loop Inv-loop μ-loop) → c .before .loop .k < returnsOf (c .before .before .before .before .before .args .list .now) .count
+met c = omega (arith, c .loop-test .taken, c .before .before .returns-in .ensures)
 
-  row : Row (start .args .work .now) starts weights (start .args .count)
-      (start .args .c .discount) (stateMost (termsIn (start .args .c)) 1) (c .before .before .fill-starts .result)
-      ((start .args .c .top + 1) * (start .args .c .premium + 1) + start .args .c .premium * (start .args .c .premium + 1))
-      (start .args .c .premium + 1)
-  row = balance-row balance _ starts-are
+mul-word : tie.Need-mul-word Inv-loop μ-loop
+mul-word c = omega (arith, return-number (c .before .before .before .before .before .pre) _ (met c))
 
-add-stride : tie.Need-add-stride
-add-stride c = search needs
+add-word : tie.Need-add-word Inv-loop μ-loop
+add-word c = omega (arith, return-number (c .before .before .before .before .before .pre) _ (met c))
 
-fill-weights-requires : tie.Need-fill-weights-requires
-fill-weights-requires c κs = search needs
+word-requires : tie.Need-word-requires Inv-loop μ-loop
+word-requires c κs = omega (arith, return-in (c .before .before .before .before .before .pre) _ (met c))
 
-fill-starts-requires : tie.Need-fill-starts-requires
-fill-starts-requires c κs = search needs
+first-reached-requires : tie.Need-first-reached-requires Inv-loop μ-loop
+first-reached-requires c κs = (c .before .before .before .before .before .before .pre, met (c .before))
 
-reached-sum-requires : tie.Need-reached-sum-requires
-reached-sum-requires c κs = let r = row c in (r .paid-small, r .few, λ k m. row-reached r k (start c .args .c .premium) m (omega arith))
+-- one product more, and what the products so far leave for it
+product : (c : tie.After-first-reached Inv-loop μ-loop)
+    → c .before .word .result * c .first-reached .result ≤ weightMost * entryMost
+product c =
+    let c7 = c .before .before .before .before .before .before .before in
+    mul-le-mul (weight-small (c7 .pre) _ (met (c .before .before)) (c .before .word .ensures .0)) (c .first-reached .ensures .1)
 
-discounted-requires : tie.Need-discounted-requires
-discounted-requires c κs = search needs
+few : (c : tie.After-first-reached Inv-loop μ-loop) → c .before .before .before .loop .sum ≤ 63 * (weightMost * entryMost)
+few c =
+    let n = return-number (c .before .before .before .before .before .before .before .pre) _ (met (c .before .before)) in
+    le-trans (c .before .before .before .loop .inv .2) (mul-le-mul-right {n = 63} (weightMost * entryMost) (omega arith))
 
-returns : tie.Need-returns
+mul-sum : tie.Need-mul-sum Inv-loop μ-loop
+mul-sum c = omega (arith, product c)
+
+add-sum : tie.Need-add-sum Inv-loop μ-loop
+add-sum c = omega (arith, product c, few c)
+
+add-k : tie.Need-add-k Inv-loop μ-loop
+add-k c = omega (arith, return-number (c .before .before .before .before .before .before .before .pre) _ (met (c .before .before)))
+
+loop-less : tie.Need-loop-less Inv-loop μ-loop
+loop-less c = omega arith
+
+-- what the sum is over
+module _ (c : tie.Start Inv-loop μ-loop) where
+  abbrev weighed : ℕ → ℕ
+  weighed j =
+      returnsOf (c .args .list .now) .weight j
+      * startReached (termsIn (c .args .c)) (returnsOf (c .args .list .now)) (c .args .rate)
+      (cells (c .args .work .now) 0 (c .args .c .premium + 1)) j
+
+loop-again : tie.Need-loop-again Inv-loop μ-loop
+loop-again c =
+    let c3 = c .before .before .before in
+    let c7 = c3 .before .before .before .before in
+    let loop = c3 .loop in
+    let one = sum-next (weighed (c7)) (loop .k) in
+    let last = ap₂ _*_ (weight-is (c7 .pre) _ (met (c .before .before)) (c .before .word .ensures .0)) (c .first-reached .ensures .0) in
+    let more : loop .sum + c .before .word .result * c .first-reached .result ≡ sum (weighed (c7)) (loop .k + 1) = omega
+    (arith, loop .inv .1) in
+    (omega arith, more, omega (arith, loop .inv .2, product c))
+
+-- all returns
+all : (c : tie.After-loop Inv-loop μ-loop)
+    → c .before .loop .k ≡ returnsOf (c .before .before .before .before .before .args .list .now) .count
+all c = omega (arith, c .before .before .returns-in .ensures)
+
+discounted-requires : tie.Need-discounted-requires Inv-loop μ-loop
+discounted-requires c κs =
+    let pre = c .before .before .before .before .before .pre in
+    let n : c .before .loop .k ≤ 64 = omega (arith, all c, pre .returns .count) in
+    let most = mul-le-mul-right (weightMost * entryMost) n in
+    (pre .first .layers .valid .discount, omega (arith, c .before .loop .inv .2))
+
+returns : tie.Need-returns Inv-loop μ-loop
+unfolding startExpected
 returns c =
-    let at = c .before .before in
-    let args = start at .args in
-    let pre = start at .pre in
+    let start = c .before .before .before .before .before .before in
+    let valid = start .pre .first .layers .valid in
+    let rs = returnsOf (start .args .list .now) in
     let is =
     c .discounted .ensures
-    ∙ ap (discounted (args .c .discount)) (c .before .reached-sum .ensures .0)
-    ∙ balance-cells (balance at) (c .before .before .before .before .fill-starts .last .0) (starts-are at) (args .c .premium) in
-    let valid = pre .1 .layers .valid in
+    ∙ ap (discounted (start .args .c .discount)) (c .before .before .loop .inv .1 ∙ ap (sum (weighed start)) (all (c .before))) in
     let most =
-    expected-le (termsIn (args .c)) (returnsOf (args .list .now)) _ 0 (args .c .premium) (args .c .premium) valid (pre .0 .valid)
-    (valid .premium) (λ w h. pre .1 .small w (args .c .premium) h (omega arith)) in
+    start-expected-le (termsIn (start .args .c)) rs (start .args .rate) _ valid (start .pre .returns) (start .pre .rate-is)
+    (λ w h. start .pre .first .small w (start .args .c .premium) h (omega arith)) in
     (is, rw is most)
 
 pub start-value-spec : {M : Type 1} → statement M
 start-value-spec =
     tie.close
     (tie.spec
-    add-stride
-    fill-weights-requires
-    fill-starts-requires
-    reached-sum-requires
+    Inv-loop
+    μ-loop
+    returns-in-requires
+    loop-holds
+    mul-word
+    add-word
+    word-requires
+    first-reached-requires
+    mul-sum
+    add-sum
+    add-k
+    loop-less
+    loop-again
     discounted-requires
     returns)

@@ -1,8 +1,6 @@
 -- `gmwb::gmwb_value` meets its contract. Assumes nothing.
-use borrow.Author.Needs.{needs}
-use borrow.Author.Needs.{sfits-of}
+use borrow.Author.Needs.{needs, sfits-of}
 use mathlib.Core.Path.{ap, _∙_}
-use mathlib.Core.Path.{ap}
 use mir.Facts.{toZ-ofZ}
 use Rattle.valuing.specs.declared.Answer.{Answer}
 use Rattle.gmwb.proofs.gmwb_value.Statement.{statement}
@@ -19,19 +17,17 @@ same-length-2 c = search needs
 
 returns : tie.Need-returns
 returns c =
-    let value-of = c .before .before .before .before .before .value in (
-      ap (λ (x : Answer). x .number) (value-of .ensures .0),
-      (
-        ap (λ (x : Answer). x .place) (value-of .ensures .0),
-        (
-          ap (λ (x : Answer). x .value) (value-of .ensures .0),
-          (
-            toZ-ofZ (sfits-of (c .struct-told .given .1 .1 .1 .0 .1)) ∙ ap (λ (x : Answer). x .margin) (value-of .ensures .0),
-            (value-of .ensures .1 .0, (value-of .ensures .1 .1 .0, value-of .ensures .1 .1 .1)),
-          ),
-        ),
-      ),
-    )
+    let done = c .before .before .before .before .before .value .ensures in record {
+      told = record {
+        number-is = ap (λ (x : Answer). x .number) (done .answer-is);
+        place-is = ap (λ (x : Answer). x .place) (done .answer-is);
+        value-is = ap (λ (x : Answer). x .value) (done .answer-is);
+        margin-is = toZ-ofZ (sfits-of (c .struct-told .given .1 .1 .1 .0 .1)) ∙ ap (λ (x : Answer). x .margin) (done .answer-is);
+      };
+      work-is = done .work-is;
+      table-is = done .table-is;
+      claim = done .claim;
+    }
 
 pub gmwb-value-spec : {M : Type 1} → statement M
 gmwb-value-spec = tie.close (tie.spec value-requires same-length same-length-2 returns)

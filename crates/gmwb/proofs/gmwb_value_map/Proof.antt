@@ -1,6 +1,5 @@
 -- `gmwb::gmwb_value_map` meets its contract. Assumes nothing.
-use borrow.Author.Needs.{needs}
-use borrow.Author.Needs.{sfits-of}
+use borrow.Author.Needs.{needs, sfits-of}
 use mathlib.Core.Path.{ap, _∙_}
 use mir.Facts.{toZ-ofZ}
 use Rattle.valuing.specs.declared.Answer.{Answer}
@@ -21,16 +20,18 @@ same-length-3 c = search needs
 
 returns : tie.Need-returns
 returns c =
-    let told = c .before .before .before .before .before .before .before .before .value-map .ensures in record {
-      number-is = ap (λ (x : Answer). x .number) (told .answer-is);
-      place-is = ap (λ (x : Answer). x .place) (told .answer-is);
-      value-is = ap (λ (x : Answer). x .value) (told .answer-is);
-      margin-is = toZ-ofZ (sfits-of (c .struct-told .given .1 .1 .1 .0 .1)) ∙ ap (λ (x : Answer). x .margin) (told .answer-is);
-      count-is = told .count-is;
-      work-is = told .work-is;
-      table-is = told .table-is;
-      map-is = told .map-is;
-      claim = told .claim;
+    let done = c .before .before .before .before .before .before .before .before .value-map .ensures in record {
+      told = record {
+        number-is = ap (λ (x : Answer). x .number) (done .answer-is);
+        place-is = ap (λ (x : Answer). x .place) (done .answer-is);
+        value-is = ap (λ (x : Answer). x .value) (done .answer-is);
+        margin-is = toZ-ofZ (sfits-of (c .struct-told .given .1 .1 .1 .0 .1)) ∙ ap (λ (x : Answer). x .margin) (done .answer-is);
+      };
+      count-is = done .count-is;
+      work-is = done .work-is;
+      table-is = done .table-is;
+      map-is = done .map-is;
+      claim = done .claim;
     }
 
 pub gmwb-value-map-spec : {M : Type 1} → statement M

@@ -1,6 +1,5 @@
 -- `gmwb::gmwb_value_table` meets its contract. Assumes nothing.
-use borrow.Author.Needs.{needs}
-use borrow.Author.Needs.{sfits-of}
+use borrow.Author.Needs.{needs, sfits-of}
 use mathlib.Core.Path.{ap, _∙_}
 use mir.Facts.{toZ-ofZ}
 use Rattle.valuing.specs.declared.Answer.{Answer}
@@ -15,16 +14,15 @@ same-length c = search needs
 
 returns : tie.Need-returns
 returns c =
-    let value-of = c .before .before .before .value in (
-      ap (λ (x : Answer). x .number) (value-of .ensures .0),
-      (
-        ap (λ (x : Answer). x .place) (value-of .ensures .0),
-        (
-          ap (λ (x : Answer). x .value) (value-of .ensures .0),
-          (toZ-ofZ (sfits-of (c .struct-told .given .1 .1 .1 .0 .1)) ∙ ap (λ (x : Answer). x .margin) (value-of .ensures .0), value-of .ensures .1),
-        ),
-      ),
-    )
+    let done = c .before .before .before .value .ensures in record {
+      told = record {
+        number-is = ap (λ (x : Answer). x .number) (done .answer-is);
+        place-is = ap (λ (x : Answer). x .place) (done .answer-is);
+        value-is = ap (λ (x : Answer). x .value) (done .answer-is);
+        margin-is = toZ-ofZ (sfits-of (c .struct-told .given .1 .1 .1 .0 .1)) ∙ ap (λ (x : Answer). x .margin) (done .answer-is);
+      };
+      work-is = done .work-is;
+    }
 
 pub gmwb-value-table-spec : {M : Type 1} → statement M
 gmwb-value-table-spec = tie.close (tie.spec value-requires same-length returns)

@@ -4,7 +4,7 @@ use borrow.Author.Tests.{lt-ltb, le-ltb}
 use mathlib.Core.Path.{sym, ap, _∙_}
 use native.Mathlib.Omega.{arith}
 use Rattle.contract.specs.Accepted.{agreed, disagreed}
-use Rattle.contract.specs.Reading.{agreementVerdict, outcomeOf, termsIn}
+use Rattle.contract.specs.Reading.{agreementVerdict, outcomeOf}
 use Rattle.contract.specs.declared.Agreement.{Agreement}
 use Rattle.contract.specs.declared.Outcome.{Outcome}
 use Rattle.laws.specs.Map.{mapping-refused}
@@ -39,27 +39,16 @@ same-length-2 c = search needs
 returns : tie.Need-returns
 unfolding numberOf placeOf
 returns c =
-    let enum-told-of = c .before .before .enum-told in
-    let outcome = c .before .outcome in
-    let check = c .before .before .before .before .check in
-    let refused = c .refused in
-    let args = c .before .before .before .before .before .before .before .before .before .before .before .before .args in
-    let bytes₀ = args .bytes .now in
-    let list₀ = args .list .now in
-    let told = enum-told-of .given .1 in
-    let outcome = outcome .ensures ∙ ap (λ (r : Agreement). outcomeOf (agreementVerdict r)) told in
-    let refusal = disagreed _ bytes₀ list₀ _ (sym (check .ensures) ∙ told) in
-    refused-whole bytes₀ list₀ (args .behaviour) (args .work .now) (args .table .now) (args .map .now) _ _
-    (mapping-refused bytes₀ list₀ (args .behaviour) (args .work .now) (args .table .now) (args .map .now) refusal)
-    (refused .ensures ∙ ap (λ (o : Outcome). mapRefusal (o .number) (o .place)) outcome)
+    let told = c .before .before .enum-told .given .1 in
+    let outcome = c .before .outcome .ensures ∙ ap (λ (r : Agreement). outcomeOf (agreementVerdict r)) told in
+    let refusal = disagreed _ _ _ _ (sym (c .before .before .before .before .check .ensures) ∙ told) in
+    refused-whole _ _ _ _ _ _ _ _ _ (mapping-refused _ _ _ _ _ _ _ refusal)
+    (c .refused .ensures ∙ ap (λ (o : Outcome). mapRefusal (o .number) (o .place)) outcome)
 
 map-size-requires : tie.Need-map-size-requires
 map-size-requires c κs =
-    let check = c .before .before .before .check in
-    let agreement = c .before .agreement in
-    let args = c .before .before .before .before .before .before .before .before .before .before .before .args in
-    let told = agreed _ (args .bytes .now) (args .list .now) _ _ (sym (check .ensures) ∙ agreement .given .1) in
-    lent (args .bytes .now) (args .list .now) (args .behaviour) (args .work .now) (args .table .now) told .alone .ready .valid
+    let c3 = c .before .before .before in
+    lent _ _ _ _ _ _ (agreed _ _ _ _ _ (sym (c3 .check .ensures) ∙ c .before .agreement .given .1)) .alone .given .valid .terms
 
 refused-requires-2 : tie.Need-refused-requires-2
 refused-requires-2 c κs = search needs
@@ -73,34 +62,28 @@ same-length-4 c = search needs
 returns-2 : tie.Need-returns-2
 unfolding short
 returns-2 c =
-    let check = c .before .before .before .before .before .before .check in
-    let agreement = c .before .before .before .before .agreement in
-    let map-size = c .before .before .map-size in
-    let if1 = c .before .if1 in
-    let refused2 = c .refused2 in
-    let args = c .before .before .before .before .before .before .before .before .before .before .before .before .before .before .args in
-    let told = agreed _ (args .bytes .now) (args .list .now) _ _ (sym (check .ensures) ∙ agreement .given .1) in
-    too-short (args .bytes .now) (args .list .now) (args .behaviour) (args .work .now) (args .table .now) (args .map .now) told
-    (lt-ltb _ _ (rw (map-size .ensures) at (if1 .taken))) (refused2 .ensures)
+    let c4 = c .before .before .before .before in
+    let c6 = c4 .before .before in
+    let told = agreed _ _ _ _ _ (sym (c6 .check .ensures) ∙ c4 .agreement .given .1) in
+    too-short _ _ _ _ _ _ _ told (lt-ltb _ _ (rw (c .before .before .map-size .ensures) at (c .before .if1 .taken))) (c .refused2 .ensures)
 
 valued-requires : tie.Need-valued-requires
 valued-requires c κs =
-    let check = c .before .before .before .before .before .before .before .check in
-    let agreement = c .before .before .before .before .before .agreement in
-    let args = c .before .before .before .before .before .before .before .before .before .before .before .before .before .before .before .args in
-    let told = agreed _ (args .bytes .now) (args .list .now) _ _ (sym (check .ensures) ∙ agreement .given .1) in
-    lent (args .bytes .now) (args .list .now) (args .behaviour) (args .work .now) (args .table .now) told .alone
+    let c5 = c .before .before .before .before .before in
+    let c7 = c5 .before .before in
+    lent _ _ _ _ _ _ (agreed _ _ _ _ _ (sym (c7 .check .ensures) ∙ c5 .agreement .given .1)) .alone
 
 fill-requires : tie.Need-fill-requires
 fill-requires c κs =
-    let check = c .before .before .before .before .before .before .before .before .before .before .before .before .before .before .check in
-    let agreement = c .before .before .before .before .before .before .before .before .before .before .before .before .agreement in
-    let map-size = c .before .before .before .before .before .before .before .before .before .before .map-size in
-    let if1 = c .before .before .before .before .before .before .before .before .before .if1 in
-    let args = c .before .before .before .before .before .before .before .before .before .before .before .before .before .before .before .before .before .before .before .before .before .before .args in
-    let told = agreed _ (args .bytes .now) (args .list .now) _ _ (sym (check .ensures) ∙ agreement .given .1) in
-    let given = lent (args .bytes .now) (args .list .now) (args .behaviour) (args .work .now) (args .table .now) told in
-    record { valid = given .alone .ready .valid; entries = omega (arith, given .room-table); words = omega (arith, map-size .ensures, if1 .left) }
+    let c9 = c .before .before .before .before .before .before .before .before .before in
+    let c10 = c9 .before in
+    let c12 = c10 .before .before in
+    let c14 = c12 .before .before in
+    let given = lent _ _ _ _ _ _ (agreed _ _ _ _ _ (sym (c14 .check .ensures) ∙ c12 .agreement .given .1)) in record {
+      valid = given .alone .given .valid .terms;
+      entries = omega (arith, given .room-table);
+      words = omega (arith, c10 .map-size .ensures, c9 .if1 .left);
+    }
 
 same-length-5 : tie.Need-same-length-5
 same-length-5 c = search needs
@@ -114,16 +97,14 @@ same-length-7 c = search needs
 returns-3 : tie.Need-returns-3
 unfolding short
 returns-3 c =
-    let check = c .before .before .before .before .before .before .before .before .before .before .before .before .before .before .before .before .before .check in
-    let agreement = c .before .before .before .before .before .before .before .before .before .before .before .before .before .before .before .agreement in
-    let map-size = c .before .before .before .before .before .before .before .before .before .before .before .before .before .map-size in
-    let if1 = c .before .before .before .before .before .before .before .before .before .before .before .before .if1 in
-    let valued = c .before .before .before .before .before .before .before .before .before .valued in
-    let fill = c .before .before .fill in
-    let args = c .before .before .before .before .before .before .before .before .before .before .before .before .before .before .before .before .before .before .before .before .before .before .before .before .before .args in
-    let told = agreed _ (args .bytes .now) (args .list .now) _ _ (sym (check .ensures) ∙ agreement .given .1) in
-    filled (args .bytes .now) (args .list .now) (args .behaviour) (args .work .now) (args .table .now) (args .map .now) told
-    (le-ltb _ _ (rw (map-size .ensures) at (if1 .left))) (valued .ensures) (fill .ensures .0) (fill .ensures .1)
+    let c9 = c .before .before .before .before .before .before .before .before .before in
+    let c12 = c9 .before .before .before in
+    let c13 = c12 .before in
+    let c15 = c13 .before .before in
+    let c17 = c15 .before .before in
+    let told = agreed _ _ _ _ _ (sym (c17 .check .ensures) ∙ c15 .agreement .given .1) in
+    let fill = c .before .before .fill .ensures in
+    filled _ _ _ _ _ _ _ told (le-ltb _ _ (rw (c13 .map-size .ensures) at (c12 .if1 .left))) (c9 .valued .ensures) (fill .0) (fill .1)
 
 pub value-map-spec : {M : Type 1} → statement M
 value-map-spec =

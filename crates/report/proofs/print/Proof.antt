@@ -7,9 +7,22 @@ use Rattle.rules.specs.Date.{static, mixed, dynamic}
 use Rattle.rules.specs.Operations.{behaviourOf}
 use Rattle.report.specs.Tables.{workLeft}
 use Rattle.report.specs.Text.{put-then, put-counts}
-use Rattle.report.proofs.Laws.{refused-printed, accepted-printed, program-accepts, filled, valued, refuses, table-left, work-left, table-kept, work-kept, work-again}
+use Rattle.report.proofs.Laws.{refused-printed, accepted-printed, program-accepts, filled, valued, refuses, zeros-lent}
+use Rattle.report.proofs.Laws.{table-left, work-left, table-kept, work-kept, work-again}
 use Rattle.report.proofs.print.Statement.{statement}
 use Rattle.report.proofs.print.Tie as tie
+
+rates-length-requires : tie.Need-rates-length-requires
+rates-length-requires c κs = search needs
+
+sub-value : tie.Need-sub-value
+sub-value c = search needs
+
+part-value-start : tie.Need-part-value-start
+part-value-start c = search needs
+
+part-value-end : tie.Need-part-value-end
+part-value-end c = search needs
 
 value-requires : tie.Need-value-requires
 value-requires c κs = search needs
@@ -20,26 +33,28 @@ refusal-requires c κs = search needs
 returns : tie.Need-returns
 unfolding behaviourOf
 returns c =
-    let args = c .before .before .before .before .before .before .before .before .before .args in
-    let bytes₀ = args .bytes .now in
-    let list₀ = args .list .now in
-    let value-arg = c .before .before .before .before .before .before .value-arg in
-    let value-arg2 = c .before .before .before .before .before .value-arg2 in
-    let value = c .before .before .before .before .value in
-    let if1 = c .before .before .if1 in
+    let c4 = c .before .before .before .before in
+    let c5 = c4 .before in
+    let c6 = c5 .before in
+    let c9 = c6 .before .before .before in
+    let c12 = c9 .before .before .before in
+    let bytes₀ = c12 .args .bytes .now in
+    let list₀ = c12 .args .list .now in
+    let long = c6 .value-arg2 .given .0 .1 in
+    let long-table = c5 .value-arg3 .given .0 .1 in
+    let told = rw (zeros-lent bytes₀ (c9 .rates-length .ensures)) at (c4 .value .ensures) in
+    let taken = c .before .before .if1 .taken in
     let w = c .refusal .ensures in
-    let no-to = refuses bytes₀ list₀ _ _ _ (value-arg .given .0 .1) (value-arg2 .given .0 .1) (value .ensures .0) (if1 .taken) in (
-      w .holds ∙ refused-printed bytes₀ list₀ _ _ _ (value-arg .given .0 .1) (value-arg2 .given .0 .1) (value .ensures .0) (if1 .taken),
+    let no-to = refuses bytes₀ list₀ _ _ _ long long-table (told .answer-is) taken in (
+      w .holds ∙ refused-printed bytes₀ list₀ _ _ _ long long-table (told .answer-is) taken,
       (
         put-counts w (omega (arith, c .refusal .kept .0, c .before .refusal-arg .given .0 .1)),
         (
           w .kept _ (le-refl _),
           (
-            value .ensures .1 .0
-                ∙ work-left bytes₀ list₀ 0 _ _ (omega arith) (value-arg .given .0 .1) (value-arg2 .given .0 .1)
-                ∙ work-kept bytes₀ list₀ no-to static dynamic _,
+            told .work-is ∙ work-left bytes₀ list₀ 0 _ _ (omega arith) long long-table ∙ work-kept bytes₀ list₀ no-to static dynamic _,
             (
-              value .ensures .1 .1 .0 ∙ table-left bytes₀ list₀ 0 _ _ (omega arith) (value-arg .given .0 .1) (value-arg2 .given .0 .1),
+              told .table-is ∙ table-left bytes₀ list₀ 0 _ _ (omega arith) long long-table,
               (table-kept bytes₀ list₀ no-to mixed _, table-kept bytes₀ list₀ no-to dynamic _),
             ),
           ),
@@ -47,8 +62,26 @@ returns c =
       ),
     )
 
+sub-value-2 : tie.Need-sub-value-2
+sub-value-2 c = search needs
+
+part-value-start-2 : tie.Need-part-value-start-2
+part-value-start-2 c = search needs
+
+part-value-end-2 : tie.Need-part-value-end-2
+part-value-end-2 c = search needs
+
 value-requires-2 : tie.Need-value-requires-2
 value-requires-2 c κs = search needs
+
+sub-value-3 : tie.Need-sub-value-3
+sub-value-3 c = search needs
+
+part-value-start-3 : tie.Need-part-value-start-3
+part-value-start-3 c = search needs
+
+part-value-end-3 : tie.Need-part-value-end-3
+part-value-end-3 c = search needs
 
 value-requires-3 : tie.Need-value-requires-3
 value-requires-3 c κs = search needs
@@ -58,62 +91,78 @@ value-lines-requires c κs = search needs
 
 all-lines-requires : tie.Need-all-lines-requires
 all-lines-requires c κs =
-    let args = c .before .before .before .before .before .before .before .before .before .before .before .before .before .before .before .before .before .before .before .before .before .before .args in
-    let bytes₀ = args .bytes .now in
-    let list₀ = args .list .now in
-    let value-arg = c .before .before .before .before .before .before .before .before .before .before .before .before .before .before .before .before .before .before .before .value-arg in
-    let value-arg2 = c .before .before .before .before .before .before .before .before .before .before .before .before .before .before .before .before .before .before .value-arg2 in
-    let value = c .before .before .before .before .before .before .before .before .before .before .before .before .before .before .before .before .before .value in
-    let if1 = c .before .before .before .before .before .before .before .before .before .before .before .before .before .before .before .if1 in
-    let value-lines = c .before .before .before .before .before .before .before .value-lines in
-    let all-lines-arg2 = c .before .before .before .before .before .all-lines-arg2 in
-    let all-lines-arg4 = c .before .before .before .all-lines-arg4 in
-    let yes-to = program-accepts bytes₀ list₀ _ _ _ (value-arg .given .0 .1) (value-arg2 .given .0 .1) (value .ensures .0) (if1 .left) in (
-      filled bytes₀ list₀ yes-to (all-lines-arg2 .given .0) (all-lines-arg4 .given .0) (c .before .all-lines-arg6 .given .0),
-      omega (arith, value-lines .ensures .within, c .all-lines-arg7 .given .0 .1),
+    let c3 = c .before .before .before in
+    let c5 = c3 .before .before in
+    let c7 = c5 .before .before in
+    let c19 = c7 .before .before .before .before .before .before .before .before .before .before .before .before in
+    let c21 = c19 .before .before in
+    let c22 = c21 .before in
+    let c23 = c22 .before in
+    let c26 = c23 .before .before .before in
+    let c29 = c26 .before .before .before in
+    let bytes₀ = c29 .args .bytes .now in
+    let list₀ = c29 .args .list .now in
+    let told = rw (zeros-lent bytes₀ (c26 .rates-length .ensures)) at (c21 .value .ensures) in
+    let yes-to =
+    program-accepts bytes₀ list₀ _ _ _ (c23 .value-arg2 .given .0 .1) (c22 .value-arg3 .given .0 .1) (told .answer-is) (c19 .if1 .left) in (
+      filled bytes₀ list₀ yes-to (c5 .all-lines-arg2 .given .0) (c3 .all-lines-arg4 .given .0) (c .before .all-lines-arg6 .given .0),
+      omega (arith, c7 .value-lines .ensures .within, c .all-lines-arg7 .given .0 .1),
     )
 
 returns-2 : tie.Need-returns-2
 unfolding behaviourOf
 returns-2 c =
-    let args = c .before .before .before .before .before .before .before .before .before .before .before .before .before .before .before .before .before .before .before .before .before .before .before .args in
-    let bytes₀ = args .bytes .now in
-    let list₀ = args .list .now in
-    let value-arg = c .before .before .before .before .before .before .before .before .before .before .before .before .before .before .before .before .before .before .before .before .value-arg in
-    let value-arg2 = c .before .before .before .before .before .before .before .before .before .before .before .before .before .before .before .before .before .before .before .value-arg2 in
-    let value = c .before .before .before .before .before .before .before .before .before .before .before .before .before .before .before .before .before .before .value in
-    let if1 = c .before .before .before .before .before .before .before .before .before .before .before .before .before .before .before .before .if1 in
-    let value-arg3 = c .before .before .before .before .before .before .before .before .before .before .before .before .before .before .before .value-arg3 in
-    let value-arg4 = c .before .before .before .before .before .before .before .before .before .before .before .before .before .before .value-arg4 in
-    let value2 = c .before .before .before .before .before .before .before .before .before .before .before .before .before .value2 in
-    let value-arg5 = c .before .before .before .before .before .before .before .before .before .before .before .before .value-arg5 in
-    let value-arg6 = c .before .before .before .before .before .before .before .before .before .before .before .value-arg6 in
-    let value3 = c .before .before .before .before .before .before .before .before .before .before .value3 in
-    let value-lines = c .before .before .before .before .before .before .before .before .value-lines in
-    let yes-to = program-accepts bytes₀ list₀ _ _ _ (value-arg .given .0 .1) (value-arg2 .given .0 .1) (value .ensures .0) (if1 .left) in
-    let w = put-then (value-lines .ensures) (c .all-lines .ensures) in
-    let one = value .ensures .1 .0 ∙ work-left bytes₀ list₀ 0 _ _ (omega arith) (value-arg .given .0 .1) (value-arg2 .given .0 .1) in
+    let c8 = c .before .before .before .before .before .before .before .before in
+    let c10 = c8 .before .before in
+    let c11 = c10 .before in
+    let c12 = c11 .before in
+    let c15 = c12 .before .before .before in
+    let c16 = c15 .before in
+    let c17 = c16 .before in
+    let c20 = c17 .before .before .before in
+    let c22 = c20 .before .before in
+    let c23 = c22 .before in
+    let c24 = c23 .before in
+    let c27 = c24 .before .before .before in
+    let c30 = c27 .before .before .before in
+    let bytes₀ = c30 .args .bytes .now in
+    let list₀ = c30 .args .list .now in
+    let zeros = zeros-lent bytes₀ (c27 .rates-length .ensures) in
+    let long₀ = c24 .value-arg2 .given .0 .1 in
+    let room₀ = c23 .value-arg3 .given .0 .1 in
+    let told₀ = rw zeros at (c22 .value .ensures) in
+    let long₁ = c17 .value-arg5 .given .0 .1 in
+    let room₁ = c16 .value-arg6 .given .0 .1 in
+    let told₁ = rw zeros at (c15 .value2 .ensures) in
+    let long₂ = c12 .value-arg8 .given .0 .1 in
+    let room₂ = c11 .value-arg9 .given .0 .1 in
+    let told₂ = rw zeros at (c10 .value3 .ensures) in
+    let yes-to = program-accepts bytes₀ list₀ _ _ _ long₀ room₀ (told₀ .answer-is) (c20 .if1 .left) in
+    let statics = valued bytes₀ list₀ 0 _ _ _ _ (omega arith) long₀ room₀ yes-to (told₀ .answer-is) (told₀ .table-is) in
+    let mixeds = valued bytes₀ list₀ 1 _ _ _ _ (omega arith) long₁ room₁ yes-to (told₁ .answer-is) (told₁ .table-is) in
+    let dynamics = valued bytes₀ list₀ 2 _ _ _ _ (omega arith) long₂ room₂ yes-to (told₂ .answer-is) (told₂ .table-is) in
+    let w = put-then (c8 .value-lines .ensures) (c .all-lines .ensures) in
+    let one = told₀ .work-is ∙ work-left bytes₀ list₀ 0 _ _ (omega arith) long₀ room₀ in
     let two =
-    value2 .ensures .1 .0
-    ∙ work-left bytes₀ list₀ 1 _ _ (omega arith) (value-arg3 .given .0 .1) (value-arg4 .given .0 .1)
+    told₁ .work-is
+    ∙ work-left bytes₀ list₀ 1 _ _ (omega arith) long₁ room₁
     ∙ ap (workLeft bytes₀ list₀ mixed) one
     ∙ work-again bytes₀ list₀ static mixed _ in (
-      w .holds
-          ∙ accepted-printed bytes₀ list₀ (valued bytes₀ list₀ 0 _ _ _ _ (omega arith) (value-arg .given .0 .1) (value-arg2 .given .0 .1) yes-to (value .ensures .0) (value .ensures .1 .1 .0)) (valued bytes₀ list₀ 1 _ _ _ _ (omega arith) (value-arg3 .given .0 .1) (value-arg4 .given .0 .1) yes-to (value2 .ensures .0) (value2 .ensures .1 .1 .0)) (valued bytes₀ list₀ 2 _ _ _ _ (omega arith) (value-arg5 .given .0 .1) (value-arg6 .given .0 .1) yes-to (value3 .ensures .0) (value3 .ensures .1 .1 .0)) yes-to,
+      w .holds ∙ accepted-printed bytes₀ list₀ statics mixeds dynamics yes-to,
       (
         put-counts w (omega (arith, c .all-lines .kept .1 .1 .1 .1 .1 .0, c .before .all-lines-arg7 .given .0 .1)),
         (
           w .kept _ (le-refl _),
           (
-            value3 .ensures .1 .0
-                ∙ work-left bytes₀ list₀ 2 _ _ (omega arith) (value-arg5 .given .0 .1) (value-arg6 .given .0 .1)
+            told₂ .work-is
+                ∙ work-left bytes₀ list₀ 2 _ _ (omega arith) long₂ room₂
                 ∙ ap (workLeft bytes₀ list₀ dynamic) two
                 ∙ work-again bytes₀ list₀ mixed dynamic _,
             (
-              value .ensures .1 .1 .0 ∙ table-left bytes₀ list₀ 0 _ _ (omega arith) (value-arg .given .0 .1) (value-arg2 .given .0 .1),
+              told₀ .table-is ∙ table-left bytes₀ list₀ 0 _ _ (omega arith) long₀ room₀,
               (
-                value2 .ensures .1 .1 .0 ∙ table-left bytes₀ list₀ 1 _ _ (omega arith) (value-arg3 .given .0 .1) (value-arg4 .given .0 .1),
-                value3 .ensures .1 .1 .0 ∙ table-left bytes₀ list₀ 2 _ _ (omega arith) (value-arg5 .given .0 .1) (value-arg6 .given .0 .1),
+                told₁ .table-is ∙ table-left bytes₀ list₀ 1 _ _ (omega arith) long₁ room₁,
+                told₂ .table-is ∙ table-left bytes₀ list₀ 2 _ _ (omega arith) long₂ room₂,
               ),
             ),
           ),
@@ -125,10 +174,20 @@ pub print-spec : {M : Type 1} → statement M
 print-spec =
     tie.close
     (tie.spec
+    rates-length-requires
+    sub-value
+    part-value-start
+    part-value-end
     value-requires
     refusal-requires
     returns
+    sub-value-2
+    part-value-start-2
+    part-value-end-2
     value-requires-2
+    sub-value-3
+    part-value-start-3
+    part-value-end-3
     value-requires-3
     value-lines-requires
     all-lines-requires

@@ -11,13 +11,19 @@ add-follow-layer : tie.Need-add-follow-layer
 add-follow-layer c = search needs
 
 follow-layer-requires : tie.Need-follow-layer-requires
-follow-layer-requires c κs = following (c .before .before .before .before .before .before .before .before .before .pre) (c .before .before .before .before .sum-date .ensures .0) (c .before .before .before .before .sum-date .ensures .1)
+follow-layer-requires c κs =
+    let c4 = c .before .before .before .before in
+    let c10 = c4 .before .before .before .before .before .before in
+    let told = c4 .sum-date .ensures in following (c10 .pre) (told .0) (told .1)
 
 same-length : tie.Need-same-length
 same-length c = search needs
 
 returns : tie.Need-returns
-returns c = back (c .before .before .before .before .before .before .before .before .before .before .before .before .pre) (c .before .before .before .before .before .before .before .sum-date .ensures .0) (c .before .before .before .before .before .before .before .sum-date .ensures .1) (c .before .before .follow-layer .ensures)
+returns c =
+    let c7 = c .before .before .before .before .before .before .before in
+    let c13 = c7 .before .before .before .before .before .before in
+    let told = c7 .sum-date .ensures in back (c13 .pre) (told .0) (told .1) (c .before .before .follow-layer .ensures)
 
 pub follow-date-spec : {M : Type 1} → statement M
 follow-date-spec =

@@ -4,7 +4,7 @@ use borrow.Author.Needs.{needs}
 use mathlib.Core.Path.{_≡_}
 use native.Mathlib.Omega.{arith}
 use Rattle.contract.specs.Reading.{termsIn}
-use Rattle.rules.specs.Contract.{returnsOf}
+use Rattle.rules.specs.Contract.{returnsOf, ratesOf}
 use Rattle.supplied.specs.Followed.{tableOn}
 use Rattle.valuing.specs.First.{First}
 use Rattle.supplied.proofs.Laws.{dating, first-before, first-none}
@@ -12,17 +12,19 @@ use Rattle.supplied.proofs.follow_dates.Statement.{statement}
 use Rattle.supplied.proofs.follow_dates.Tie as tie
 
 abbrev Inv-loop : tie.InvT-loop
-Inv-loop work₀ table list count c i₀ work i =
-    (i < c .dates) × First (tableOn (termsIn c) (returnsOf list) table (suc i)) (termsIn c) work₀ work
+Inv-loop work₀ table list rates c i₀ work i =
+    (i < c .dates) × First (tableOn (termsIn c) (returnsOf list) (ratesOf rates) table (suc i)) (termsIn c) work₀ work
 
 abbrev μ-loop : tie.MeasureT-loop
-μ-loop work₀ table list count c i₀ work i = i
+μ-loop work₀ table list rates c i₀ work i = i
 
 sub-i : tie.Need-sub-i Inv-loop μ-loop
-sub-i c = omega (arith, c .before .before .before .before .pre .layers .valid .dates-least)
+sub-i c = omega (arith, c .before .before .before .before .before .pre .given .valid .terms .dates-least)
 
 loop-holds : tie.Need-loop-holds Inv-loop μ-loop
-loop-holds c = let pre = c .before .before .before .before .pre in (omega (arith, pre .layers .valid .dates-least), first-none pre)
+loop-holds c =
+    let c5 = c .before .before .before .before .before in
+    let pre = c5 .pre in (omega (arith, pre .given .valid .terms .dates-least), first-none pre)
 
 layer-of-requires : tie.Need-layer-of-requires Inv-loop μ-loop
 layer-of-requires c κs = search needs
@@ -42,7 +44,7 @@ part-follow-date-end c = search needs
 follow-date-requires : tie.Need-follow-date-requires Inv-loop μ-loop
 follow-date-requires c κs =
     let loop = c .before .before .before .before .loop in
-    let pre = c .before .before .before .before .before .before .before .before .before .pre in
+    let pre = c .before .before .before .before .before .before .before .before .before .before .pre in
     dating pre (c .before .before .layer-of .ensures) (c .before .before .before .loop-test .taken) (loop .inv .0) (loop .inv .1)
 
 sub-i-2 : tie.Need-sub-i-2 Inv-loop μ-loop
@@ -56,7 +58,7 @@ loop-again c =
     let loop = c .before .before .before .before .before .before .before .loop in
     let part = c .before .before .before .before .before .layer-of .ensures in
     let taken = c .before .before .before .before .before .before .loop-test .taken in
-    let pre = c .before .before .before .before .before .before .before .before .before .before .before .before .pre in
+    let pre = c .before .before .before .before .before .before .before .before .before .before .before .before .before .pre in
     (omega arith, first-before pre part taken (loop .inv .0) (loop .inv .1) _ (c .before .before .follow-date .ensures))
 
 same-length : tie.Need-same-length Inv-loop μ-loop

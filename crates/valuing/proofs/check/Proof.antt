@@ -2,13 +2,13 @@
 use borrow.Author.Needs.{needs}
 use borrow.Author.Tests.{lt-ltb, le-ltb}
 use mathlib.Core.Path.{sym, _∙_}
-use Rattle.contract.specs.Accepted.{both-read}
-use Rattle.valuing.proofs.Laws.{check-read, check-behaviour, check-short, check-passed}
+use Rattle.contract.specs.Accepted.{input-read}
+use Rattle.valuing.proofs.Laws.{check-read, check-valid, check-behaviour, check-short, check-passed}
 use Rattle.valuing.proofs.check.Statement.{statement}
 use Rattle.valuing.proofs.check.Tie as tie
 
-read-requires : tie.Need-read-requires
-read-requires c κs = search needs
+read-all-requires : tie.Need-read-all-requires
+read-all-requires c κs = search needs
 
 enum-known-agreement : tie.Need-enum-known-agreement
 enum-known-agreement c = search needs
@@ -19,31 +19,41 @@ enum-told c = search needs
 returns : tie.Need-returns
 returns c =
     let told = c .enum-told .given .1 in
-    told ∙ check-read _ _ _ _ _ _ (sym (c .before .before .read .ensures) ∙ told)
+    told ∙ check-read _ _ _ _ _ _ _ (sym (c .before .before .read-all .ensures) ∙ told)
 
 returns-2 : tie.Need-returns-2
 returns-2 c =
-    let known = both-read _ _ _ _ (sym (c .before .before .before .before .read .ensures) ∙ c .before .before .agreement .given .1) in
-    check-behaviour _ _ _ _ _ known (lt-ltb _ _ (c .if1 .taken))
+    let c4 = c .before .before .before .before in
+    let known = input-read _ _ _ _ _ (sym (c4 .read-all .ensures) ∙ c .before .before .agreement .given .1) in
+    check-behaviour _ _ _ _ _ _ known (lt-ltb _ _ (c .if1 .taken))
 
 too-short-requires : tie.Need-too-short-requires
-too-short-requires c κs = both-read _ _ _ _ (sym (c .before .before .before .before .read .ensures) ∙ c .before .before .agreement .given .1) .valid
+too-short-requires c κs =
+    let c4 = c .before .before .before .before in
+    let c10 = c4 .before .before .before .before .before .before in
+    let args = c10 .args in
+    let known = input-read _ _ _ _ _ (sym (c4 .read-all .ensures) ∙ c .before .before .agreement .given .1) in
+    check-valid _ _ _ (args .behaviour) (args .work .now) (args .table .now) known
 
 returns-3 : tie.Need-returns-3
 returns-3 c =
-    let known = both-read _ _ _ _ (sym (c .before .before .before .before .before .before .read .ensures) ∙ c .before .before .before .before .agreement .given .1) in
-    check-short _ _ _ _ _ known (le-ltb _ _ (c .before .before .if1 .left)) (sym (c .before .too-short .ensures) ∙ c .if2 .taken)
+    let c4 = c .before .before .before .before in
+    let c6 = c4 .before .before in
+    let known = input-read _ _ _ _ _ (sym (c6 .read-all .ensures) ∙ c4 .agreement .given .1) in
+    check-short _ _ _ _ _ _ known (le-ltb _ _ (c .before .before .if1 .left)) (sym (c .before .too-short .ensures) ∙ c .if2 .taken)
 
 returns-4 : tie.Need-returns-4
 returns-4 c =
-    let known = both-read _ _ _ _ (sym (c .before .before .before .before .before .before .read .ensures) ∙ c .before .before .before .before .agreement .given .1) in
-    check-passed _ _ _ _ _ known (le-ltb _ _ (c .before .before .if1 .left)) (sym (c .before .too-short .ensures) ∙ c .if2 .left)
+    let c4 = c .before .before .before .before in
+    let c6 = c4 .before .before in
+    let known = input-read _ _ _ _ _ (sym (c6 .read-all .ensures) ∙ c4 .agreement .given .1) in
+    check-passed _ _ _ _ _ _ known (le-ltb _ _ (c .before .before .if1 .left)) (sym (c .before .too-short .ensures) ∙ c .if2 .left)
 
 pub check-spec : {M : Type 1} → statement M
 check-spec =
     tie.close
     (tie.spec
-    read-requires
+    read-all-requires
     enum-known-agreement
     enum-told
     returns

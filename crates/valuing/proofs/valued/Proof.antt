@@ -17,22 +17,26 @@ add-fill-maturity-2 c = search needs
 fill-maturity-requires : tie.Need-fill-maturity-requires
 unfolding layerSize
 fill-maturity-requires c κs =
-    let pre = c .before .before .before .before .before .before .pre in
-    let v = pre .ready .valid in
+    let pre = c .before .before .before .before .before .before .before .pre in
+    let v = pre .given .valid .terms in
     (omega (arith, v .top), omega (arith, v .top, v .premium), omega (arith, pre .room))
 
 all-dates-requires : tie.Need-all-dates-requires
 unfolding layerSize
 all-dates-requires c κs =
-    let pre = c .before .before .before .before .before .before .before .before .before .before .before .pre in
-    starting pre (c .before .before .before .before .fill-maturity .ensures)
+    let c4 = c .before .before .before .before in
+    let c12 = c4 .before .before .before .before .before .before .before .before in
+    starting (c12 .pre) (c4 .fill-maturity .ensures)
 
 settle-requires : tie.Need-settle-requires
 unfolding layerSize
 settle-requires c κs =
-    let pre = c .before .before .before .before .before .before .before .before .before .before .before .before .before .before .before .before .before .pre in
-    let v = from-start _ (c .before .before .before .before .before .before .before .before .before .before .fill-maturity .ensures) (c .before .before .before .before .before .all-dates .ensures) in
-    settling (pre .ready .valid) (pre .ready .listing) (pre .room) (first v) (values-most _ _ _ (pre .ready .valid) (pre .ready .listing .valid) 1)
+    let c5 = c .before .before .before .before .before in
+    let c10 = c5 .before .before .before .before .before in
+    let c18 = c10 .before .before .before .before .before .before .before .before in
+    let pre = c18 .pre in
+    let v = from-start _ (c10 .fill-maturity .ensures) (c5 .all-dates .ensures) in
+    settling (pre .given) (pre .room) (first v) (values-most _ _ _ _ (pre .given .valid) 1)
 
 same-length : tie.Need-same-length
 same-length c = search needs
@@ -43,8 +47,10 @@ same-length-2 c = search needs
 returns : tie.Need-returns
 unfolding layerSize
 returns c =
-    let pre = c .before .before .before .before .before .before .before .before .before .before .before .before .before .before .before .before .before .before .before .before .pre in
-    answered _ _ (pre .ready .valid) (pre .room) (from-start _ (c .before .before .before .before .before .before .before .before .before .before .before .before .before .fill-maturity .ensures) (c .before .before .before .before .before .before .before .before .all-dates .ensures)) (c .before .before .settle .ensures)
+    let c8 = c .before .before .before .before .before .before .before .before in
+    let c13 = c8 .before .before .before .before .before in
+    let c21 = c13 .before .before .before .before .before .before .before .before in
+    answered _ _ (c21 .pre .room) (from-start _ (c13 .fill-maturity .ensures) (c8 .all-dates .ensures)) (c .before .before .settle .ensures)
 
 pub valued-spec : {M : Type 1} → statement M
 valued-spec =

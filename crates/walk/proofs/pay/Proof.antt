@@ -8,7 +8,7 @@ use Rattle.contract.specs.Reading.{termsIn}
 use Rattle.rules.specs.Contract.{returnsOf}
 use Rattle.rules.specs.Date.{maturityValue}
 use Rattle.rules.specs.Product.{walkCashOn, walkCashLast}
-use Rattle.rules.specs.FixedTerm.{State, cashIn, processOf, fixedTerm}
+use Rattle.rules.specs.FixedTerm.{State, cashIn, processOf, fixedTerm, livingTerm}
 use Rattle.dates.specs.Back.{at}
 use Rattle.slices.specs.Stored.{stored, stored-push, length-stored}
 use Rattle.walk.specs.Walked.{Met}
@@ -21,7 +21,7 @@ Inv-loop c list count table path cash₀ place₀ i₀ cash place i =
     (0 < i)
     × (i ≤ c .dates)
     × Met (termsIn c) (returnsOf list) table path i place
-    × (cash ≡ stored cash₀ 0 (walkCashOn (fixedTerm (termsIn c) (returnsOf list)) table path) (i - 1))
+    × (cash ≡ stored cash₀ 0 (walkCashOn (livingTerm (termsIn c) (returnsOf list)) table path) (i - 1))
 
 abbrev μ-loop : tie.MeasureT-loop
 μ-loop c list count table path cash₀ place₀ i₀ cash place i = c .dates - i
@@ -93,7 +93,7 @@ loop-again c =
     let args = c .before .before .before .before .before .before .before .before .before .before .before .args in
     let loop = c .before .before .before .before .before .loop in
     let i' = loop .i in
-    let cashes = walkCashOn (fixedTerm (termsIn (args .c)) (returnsOf (args .list .now))) (args .table .now) (args .path .now) in
+    let cashes = walkCashOn (livingTerm (termsIn (args .c)) (returnsOf (args .list .now))) (args .table .now) (args .path .now) in
     let cash-is =
     c .before .cash-on .ensures
     ∙ ap (λ (t : ℕ). loop .place .paid + cashIn (termsIn (args .c)) i' (at (loop .place .account) (loop .place .guarantee)) t)
@@ -155,7 +155,8 @@ returns c =
     let e : loop .i ≡ args .c .dates = omega (arith, loop .inv .1, if1 .left) in
     let met = subst (λ (n : ℕ). Met (termsIn c₀) (returnsOf list₀) table₀ path₀ n (loop .place)) e (loop .inv .2) in
     let filled =
-    loop .inv .3 ∙ ap (λ (n : ℕ). stored (args .cash .now) 0 (walkCashOn (fixedTerm (termsIn c₀) (returnsOf list₀)) table₀ path₀) (n - 1)) e in
+    loop .inv .3
+    ∙ ap (λ (n : ℕ). stored (args .cash .now) 0 (walkCashOn (livingTerm (termsIn c₀) (returnsOf list₀)) table₀ path₀) (n - 1)) e in
     let last =
     c .cash-last .ensures
     ∙ ap₂ _+_ (met .paid) (sym (ap (λ (s : State). maturityValue (s .account) (s .guarantee)) (met .state))) in

@@ -5,7 +5,7 @@ use Rattle.contract.specs.Accepted.{both-read, both-not-read}
 use Rattle.contract.specs.Reading.{agreementVerdict, outcomeOf}
 use Rattle.contract.specs.declared.Agreement.{Agreement}
 use Rattle.rules.specs.Refusals.{numberOf, placeOf}
-use Rattle.valuing.specs.First.{ready}
+use Rattle.walk.specs.Walked.{ready}
 use Rattle.walk.proofs.Laws.{whole, whole-refused}
 use Rattle.walk.proofs.walk.Statement.{statement}
 use Rattle.walk.proofs.walk.Tie as tie
