@@ -9,14 +9,11 @@ use Rattle.slices.specs.Rows.{cells}
 use Rattle.rules.specs.Contract.{topMost, rateMost}
 use Rattle.rules.specs.Date.{deathPayment, deathShare}
 use Rattle.laws.specs.Date.{share-le, death-le}
+use Rattle.laws.specs.Narrow.{lowMost}
 
 -- by account and guarantee, without the excess that leads there: it passes through unchanged (`share-excess`)
 abbrev pub shared : ℕ → (ℕ → ℕ → ℕ) → ℕ → ℕ → ℕ
 shared rate v w a = deathShare rate (v w a) (deathPayment w a 0)
-
--- what no value passes: it has 32 bits
-abbrev pub lowMost : ℕ
-lowMost = 4294967295
 
 -- what a rate leaves of a value, in two halves: (10,000 − rate) × 2 ^ 64 / 10,000, rounded up
 pub record Halves (rate high low : ℕ) : Type 0 where

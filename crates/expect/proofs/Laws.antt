@@ -13,9 +13,9 @@ use Rattle.rules.specs.Contract.{Terms, Returns, word, returnsOf, factorMost, w
 use Rattle.rules.specs.Date.{nextAccount, excess, excessPaid, deathPayment, deathShare, discounted}
 use Rattle.rules.specs.FixedTerm.{reachBy, paidBy, deathBy, startOf, layerSize}
 use Rattle.laws.specs.Bounds.{stateMost, value-room, value-most, entryMost}
-use Rattle.laws.specs.Narrow.{value-narrow}
+use Rattle.laws.specs.Narrow.{lowMost, value-narrow}
 use Rattle.laws.specs.Date.{account-le, excess-paid-le}
-use Rattle.expect.specs.Expected.{reachedSum, expected, paidSum, stateSum, two-sums, paid-sum-le, scaled, term, lowMost, productMost}
+use Rattle.expect.specs.Expected.{reachedSum, expected, paidSum, stateSum, two-sums, paid-sum-le, scaled, term, productMost}
 use Rattle.expect.specs.Expected.{Reached, Run, Adding, Summed, Row, Listing, Layers, Values, Within, Balance, Starting}
 use Rattle.expect.specs.Expected.{startReached, start-reached-le}
 

@@ -13,6 +13,7 @@ use Rattle.rules.specs.FixedTerm.{reachBy, paidBy, deathBy, startOf, layerSize}
 use Rattle.laws.specs.Accepted.{Valid, ValidReturns}
 use Rattle.laws.specs.Date.{account-le, excess-paid-le, share-le, death-le}
 use Rattle.laws.specs.Bounds.{discounted-average, stateMost, value-room, value-most, entryMost}
+use Rattle.laws.specs.Narrow.{lowMost}
 
 -- the sum of weight × value reached
 unfoldable pub reachedSum : Terms → Returns → (ℕ → ℕ → ℕ) → ℕ → ℕ → ℕ
@@ -46,10 +47,7 @@ two-sums c rs v balance a = sym (sum-eq _ _ (rs .count) (λ k l. omega arith) �
 abbrev pub term : List ℕ → List ℕ → List ℕ → ℕ → ℕ → ℕ
 term work starts weights a k = getD weights k 0 * getD work (getD starts k 0 + a) 0
 
--- what no value of a layer passes: it has 32 bits; and no such product
-abbrev pub lowMost : ℕ
-lowMost = 4294967295
-
+-- what no product of a weight and a value of a layer passes, which has 32 bits
 abbrev pub productMost : ℕ
 productMost = weightMost * lowMost
 

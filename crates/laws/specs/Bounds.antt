@@ -53,7 +53,7 @@ pub amount-le : {c : Terms} → Valid c → (b : Behaviour) (s : State) (t : ℕ
 unfolding admissibleIn freeIn
 amount-le {c} v b s t g p = amount-most (c .level) (g .account) (le-trans (g .guarantee) (v .premium)) (admits-within b _ _ t p)
 
--- so is what account and guarantee are
+-- .. and what a state pays at maturity is at most 10,000 × top
 pub ends : {c : Terms} → Valid c → (s : State) → InRange c s → maturityValue (s .account) (s .guarantee) ≤ 10000 * c .top
 unfolding maturityValue
 ends v s g = mul-le-mul-left 10000 (max-le (g .account) (le-trans (g .guarantee) (v .premium)))

@@ -29,6 +29,10 @@ use Rattle.laws.specs.ThirdDemand.{valuing-valid, valuing-reports}
 use Rattle.laws.specs.Supplied.{all-admitted}
 use Rattle.laws.specs.Walk.{walk-in-range, walk-admits, walk-paid-le}
 
+-- what no number of 32 bits passes
+abbrev pub lowMost : ℕ
+lowMost = 4294967295
+
 -- with what is paid on arrival the largest is 3,240,000,000
 pub value-narrow : (c : Terms) → Valid c → (i : ℕ) → 1 ≤ i → 20000 * c .top + stateMost c i < 2 ^ 32
 value-narrow c v i l =

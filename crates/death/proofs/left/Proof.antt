@@ -4,7 +4,7 @@ use borrow.Author.Needs.{needs}
 use mathlib.Core.Path.{_≡_, ap, _∙_}
 use native.Mathlib.Nat.{le-trans, le-of-eq, mod-eq-of-lt, mul-le-mul}
 use native.Mathlib.Omega.{arith}
-use Rattle.death.specs.Shared.{lowMost}
+use Rattle.laws.specs.Narrow.{lowMost}
 use Rattle.death.proofs.Laws.{left-is, left-small, high-small, low-small}
 use Rattle.death.proofs.left.Statement.{statement}
 use Rattle.death.proofs.left.Tie as tie
