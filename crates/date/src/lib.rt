@@ -3,7 +3,7 @@ ghost use mathlib.Core.Path.{_≡_};
 ghost use Prim.Native.Nat.{_-_, _*_, _≤_, _<_, max, min};
 ghost use Rattle.rules.specs.Contract.{topMost, datesMost, rateMost, discountMost, factorMost};
 ghost use Rattle.rules.specs.Date.{dynamic, freeAmount, largestAmount, admits, rateOn, penalty, cash, guaranteeAfter};
-ghost use Rattle.rules.specs.Date.{balanceAfter, liftedAccount, nextAccount, excess, excessPaid, maturityValue};
+ghost use Rattle.rules.specs.Date.{balanceAfter, liftedAccount, nextAccount, excessPaid, maturityValue};
 ghost use Rattle.rules.specs.Date.{deathPayment, deathShare, discounted};
 
 // An entry of a working slice, and one of a table, as a number.
@@ -109,20 +109,12 @@ pub fn next_account(fee: usize, top: usize, balance: usize, factor: usize) -> us
     smaller(top, lifted_account(fee, balance, factor))
 }
 
-// What a return lifts above top.
-pub fn excess(fee: usize, top: usize, balance: usize, factor: usize) -> usize
-    requires { ⌜ (fee ≤ rateMost) × (balance ≤ topMost) × (factor ≤ factorMost) ⌝ }
-    ensures { λ r. ⌜ (r ≡ excess fee top balance factor) × (r ≤ 3 * balance) ⌝ }
-{
-    less(lifted_account(fee, balance, factor), top)
-}
-
-// What a return pays on arrival.
+// What a return pays on arrival: 10,000 x what it lifts above top.
 pub fn excess_paid(fee: usize, top: usize, balance: usize, factor: usize) -> usize
     requires { ⌜ (fee ≤ rateMost) × (balance ≤ topMost) × (factor ≤ factorMost) ⌝ }
     ensures { λ r. ⌜ (r ≡ excessPaid fee top balance factor) × (r ≤ factorMost * balance) ⌝ }
 {
-    10000 * excess(fee, top, balance, factor)
+    10000 * less(lifted_account(fee, balance, factor), top)
 }
 
 pub fn maturity_value(w: usize, a: usize) -> usize
@@ -132,18 +124,18 @@ pub fn maturity_value(w: usize, a: usize) -> usize
     10000 * larger(w, a)
 }
 
-// What a death pays where a return leads to account w and guarantee a, with an excess.
-pub fn death_payment(w: usize, a: usize, over: usize) -> usize
-    requires { ⌜ (w ≤ topMost) × (a ≤ topMost) × (over ≤ 3 * topMost) ⌝ }
-    ensures { λ r. ⌜ (r ≡ deathPayment w a over) × (r ≤ 160000000) ⌝ }
+// What a death pays on account w and guarantee a: as much as maturity. An excess is paid beside it, as to the holder who lives.
+pub fn death_payment(w: usize, a: usize) -> usize
+    requires { ⌜ (w ≤ topMost) × (a ≤ topMost) ⌝ }
+    ensures { λ r. ⌜ (r ≡ deathPayment w a 0) × (r ≤ 40000000) ⌝ }
 {
-    10000 * larger(w, a) + 10000 * over
+    maturity_value(w, a)
 }
 
 // What value and death payment become, by the death rate.
 pub fn death_share(rate: usize, value: usize, payment: usize) -> usize
     requires { ⌜ (rate ≤ rateMost) × (value ≤ 4294967295) × (payment ≤ 4294967295) ⌝ }
-    ensures { λ r. ⌜ (r ≡ deathShare rate value payment) × (r ≤ 8589934590) ⌝ }
+    ensures { λ r. ⌜ (r ≡ deathShare rate value payment) × (r ≤ 4294967295) ⌝ }
 {
     ((10000 - rate) * value + rate * payment) / 10000
 }

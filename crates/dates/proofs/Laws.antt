@@ -13,16 +13,17 @@ use Rattle.slices.specs.Stored.{stored, length-stored, stored-out}
 use Rattle.slices.specs.Rows.{cells, flat, flat-at, layer-stored, within-rows, rows-le, rows-before}
 use Rattle.slices.specs.Parts.{put-long, put-in, put-above}
 use Rattle.rules.specs.Contract.{Terms, Returns, Rates, returnsOf, ratesOf}
-use Rattle.rules.specs.Date.{Behaviour, deathPayment, deathShare}
+use Rattle.rules.specs.Date.{Behaviour}
 use Rattle.rules.specs.Product.{recordedAmount}
 use Rattle.rules.specs.FixedTerm.{rateIn, layerSize, fixedTerm}
 use Rattle.rules.specs.Operations.{behaviourOf}
 use Rattle.laws.specs.Step.{rate-le}
 use Rattle.laws.specs.Accepted.{Valid}
+use Rattle.laws.specs.Date.{shared, shared-le}
 use Rattle.laws.specs.Bounds.{stateMost}
 use Rattle.laws.specs.Narrow.{value-narrow}
-use Rattle.expect.specs.Expected.{Values, expected, scaled, expected-le, expected-same}
-use Rattle.death.specs.Shared.{shared, Rows, shared-le}
+use Rattle.expect.specs.Expected.{Values, expected, scaled, expected-le, expected-same, shared-same}
+use Rattle.death.specs.Shared.{Rows}
 use Rattle.keys.specs.declared.Date.{Date}
 use Rattle.keys.specs.Sums.{Sums, sums}
 use Rattle.worth.specs.Worth.{bestValue, bestAmount, value-same, amount-same}
@@ -210,9 +211,7 @@ module _ {behaviour : ℕ} {c : Terms} {work₀ table₀ list rates work table :
             → expected c (returnsOf list) (shared (ratesOf rates i) (cells work 0 (c .premium + 1))) x y
             ≡ expected c (returnsOf list)
             (shared (ratesOf rates i) (valuesOn c (returnsOf list) (ratesOf rates) (behaviourOf behaviour) (suc i))) x y
-        sums-are x y k =
-            expected-same c (returnsOf list) _ _ x y (λ w h.
-            ap (λ (z : ℕ). deathShare (ratesOf rates i) z (deathPayment w y 0)) (v .values w y h k))
+        sums-are x y k = shared-same c (returnsOf list) (ratesOf rates i) _ _ x y (λ w h. v .values w y h k)
 
         value-is : (w a : ℕ) → w ≤ c .top → a ≤ c .premium
             → cells work₁ 0 (c .premium + 1) w a ≡ valuesOn c (returnsOf list) (ratesOf rates) (behaviourOf behaviour) i w a

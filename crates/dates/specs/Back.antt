@@ -11,13 +11,12 @@ use Rattle.rules.specs.Contract.{Terms, Returns, Rates, rateMost}
 use Rattle.rules.specs.Date.{Behaviour, nextAccount, excess, excessPaid, maturityValue, discounted}
 use Rattle.rules.specs.Product.{stateValue, recordedAmount}
 use Rattle.laws.specs.Accepted.{ValidInput}
-use Rattle.laws.specs.Date.{share-excess}
+use Rattle.laws.specs.Date.{share-excess, shared}
 use Rattle.laws.specs.Bounds.{stateMost, state-value-le}
 use Rattle.rules.specs.FixedTerm.{State, Held, freeIn, admissibleIn, limitIn, rateIn, cashIn, afterIn, reachBy, paidBy, deathBy, expectOver}
 use Rattle.rules.specs.FixedTerm.{processOf, layerSize, fixedTerm}
 use Rattle.contract.specs.Accepted.{Given}
 use Rattle.expect.specs.Expected.{reachedSum, expected}
-use Rattle.death.specs.Shared.{shared}
 use Rattle.worth.specs.Worth.{worthOver, bestValue, bestAmount, value-same, amount-same}
 
 abbrev pub at : ℕ → ℕ → State

@@ -7,9 +7,9 @@ use Rattle.slices.specs.Rows.{cells}
 use Rattle.rules.specs.Contract.{Terms, Returns, Rates}
 use Rattle.rules.specs.Date.{Behaviour}
 use Rattle.rules.specs.FixedTerm.{rateIn, layerSize}
+use Rattle.laws.specs.Date.{shared}
 use Rattle.contract.specs.Accepted.{Given}
 use Rattle.expect.specs.Expected.{expected, Values}
-use Rattle.death.specs.Shared.{shared}
 use Rattle.keys.specs.declared.Date.{Date}
 use Rattle.keys.specs.Sums.{Sums, sums}
 use Rattle.worth.specs.Worth.{bestValue, bestAmount}

@@ -8,11 +8,11 @@ use native.Mathlib.Decide.{decLe}
 use native.Mathlib.Omega.{arith}
 use lib.ListN.{length, getD}
 use Rattle.rules.specs.Date.{deathPayment, deathShare}
-use Rattle.laws.specs.Date.{share-living, share-whole}
+use Rattle.laws.specs.Date.{share-living, share-whole, shared}
 use Rattle.laws.specs.Narrow.{lowMost}
 use Rattle.slices.specs.Stored.{stored, length-stored, stored-none, stored-out, stored-eq, stored-join, is-stored}
 use Rattle.slices.specs.Rows.{cells, flat, layer-flat, rows-le, rows-step, row-next}
-use Rattle.death.specs.Shared.{shared, Halves, Run, Row, Rows}
+use Rattle.death.specs.Shared.{Halves, Run, Row, Rows}
 
 -- ---- a quotient by two products
 -- what the low half is rounded up by does not show

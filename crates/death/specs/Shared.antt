@@ -1,19 +1,11 @@
--- The values of a date's states as the death rate of the period before it leaves them. Assumes nothing.
+-- States whose values are to become their shares, by the death rate of the period. Assumes nothing.
 use mathlib.Core.List.{List}
 use mathlib.Core.Path.{_≡_}
 use Prim.Native.Nat.{ℕ, _+_, _-_, _*_, _/_, _%_, _≤_, _<_}
-use native.Mathlib.Nat.{le-trans}
-use native.Mathlib.Omega.{arith}
 use lib.ListN.{length, getD}
 use Rattle.slices.specs.Rows.{cells}
 use Rattle.rules.specs.Contract.{topMost, rateMost}
-use Rattle.rules.specs.Date.{deathPayment, deathShare}
-use Rattle.laws.specs.Date.{share-le, death-le}
 use Rattle.laws.specs.Narrow.{lowMost}
-
--- by account and guarantee, without the excess that leads there: it passes through unchanged (`share-excess`)
-abbrev pub shared : ℕ → (ℕ → ℕ → ℕ) → ℕ → ℕ → ℕ
-shared rate v w a = deathShare rate (v w a) (deathPayment w a 0)
 
 -- what a rate leaves of a value, in two halves: (10,000 − rate) × 2 ^ 64 / 10,000, rounded up
 pub record Halves (rate high low : ℕ) : Type 0 where
@@ -46,8 +38,3 @@ pub record Rows (work : List ℕ) (rate stride n : ℕ) : Type 0 where
   pub width : stride ≤ 4001
   pub room : n * stride ≤ length work
   pub small : (w a : ℕ) → w < n → a < stride → cells work 0 stride w a ≤ lowMost
-
--- a share is at most what the value does not pass, if that is no less than 10,000 × top
-pub shared-le : (rate top : ℕ) (v : ℕ → ℕ → ℕ) {w a x : ℕ} → rate ≤ rateMost → w ≤ top → a ≤ top → 10000 * top ≤ x → v w a ≤ x
-    → shared rate v w a ≤ x
-shared-le rate top v {w} {a} {x} small h l most value = share-le x small value (le-trans (death-le w a 0 top h l) (omega arith))

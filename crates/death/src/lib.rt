@@ -5,8 +5,9 @@ ghost use lib.ListN.{length, getD};
 ghost use Rattle.slices.specs.Stored.{stored};
 ghost use Rattle.slices.specs.Rows.{cells, flat};
 ghost use Rattle.rules.specs.Contract.{rateMost};
+ghost use Rattle.laws.specs.Date.{shared};
 ghost use Rattle.laws.specs.Narrow.{lowMost};
-ghost use Rattle.death.specs.Shared.{shared, Halves, Run, Row, Rows};
+ghost use Rattle.death.specs.Shared.{Halves, Run, Row, Rows};
 
 // A death rate above 0, and what it leaves of a value, (10,000 - rate) / 10,000, in two halves of 32 bits, the low one rounded up.
 struct Death {

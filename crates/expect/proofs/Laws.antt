@@ -9,15 +9,15 @@ use lib.ListN.{getD, length, replicate, getD-replicate}
 use Rattle.decision.specs.Index.{sum, sum-eq, sum-next, weighted-le}
 use Rattle.slices.specs.Stored.{stored, length-stored, stored-out, stored-first, stored-join}
 use Rattle.slices.specs.Rows.{cells, flat, flat-at, within-rows, rows-le, rows-step}
-use Rattle.rules.specs.Contract.{Terms, Returns, word, returnsOf, factorMost, weightTotal, weightMost}
-use Rattle.rules.specs.Date.{nextAccount, excess, excessPaid, deathPayment, deathShare, discounted}
-use Rattle.rules.specs.FixedTerm.{reachBy, paidBy, deathBy, startOf, layerSize}
+use Rattle.rules.specs.Contract.{Terms, Returns, word, returnsOf, topMost, rateMost, factorMost, weightTotal, weightMost}
+use Rattle.rules.specs.Date.{nextAccount, excessPaid, deathPayment, deathShare, discounted}
+use Rattle.rules.specs.FixedTerm.{layerSize}
 use Rattle.laws.specs.Bounds.{stateMost, value-room, value-most, entryMost}
 use Rattle.laws.specs.Narrow.{lowMost, value-narrow}
-use Rattle.laws.specs.Date.{account-le, excess-paid-le}
+use Rattle.laws.specs.Date.{account-le, shared, shared-le}
 use Rattle.expect.specs.Expected.{reachedSum, expected, paidSum, stateSum, two-sums, paid-sum-le, scaled, term, productMost}
 use Rattle.expect.specs.Expected.{Reached, Run, Adding, Summed, Row, Listing, Layers, Values, Within, Balance, Starting}
-use Rattle.expect.specs.Expected.{startReached, start-reached-le}
+use Rattle.expect.specs.Expected.{reachedFrom, expected-le}
 
 -- ---- sums along the guarantees
 -- a product is small
@@ -268,6 +268,15 @@ module _ (c : Terms) (rs : Returns) (work : List ℕ) (stride size : ℕ) (size-
       ∙ ap (stored work size sums) (rows-step stride b)
 
 -- ---- the first return
+-- the sum over it is within the bound on an entry
+pub start-le : {c : Terms} {rate : ℕ} {work list : List ℕ} → Starting c rate work list
+    → expected c (returnsOf list) (shared rate (cells work 0 (c .premium + 1))) (c .premium) (c .premium) ≤ entryMost
+start-le {c} {rate} {work} s =
+    let valid = s .first .layers .valid in
+    expected-le c _ _ 0 (c .premium) (c .premium) valid (s .returns) (valid .premium) (λ w h.
+    shared-le rate (c .top) (cells work 0 (c .premium + 1)) (s .rate-is) h (valid .premium) (omega arith)
+    (s .first .small w (c .premium) h (omega arith)))
+
 module _ {c : Terms} {rate : ℕ} {work list : List ℕ} (s : Starting c rate work list) (k : ℕ) (l : k < returnsOf list .count) where
   -- it stands in the list
   pub return-in : 4 * k + 4 ≤ length list
@@ -277,9 +286,11 @@ module _ {c : Terms} {rate : ℕ} {work list : List ℕ} (s : Starting c rate wo
   pub return-number : k < 64
   return-number = omega (arith, s .returns .count)
 
-  pub factor-small : {factor : ℕ} → factor ≡ word list (4 * k) → factor ≤ factorMost
+  -- what the leaves ask of its factor
+  pub factor-in : {factor : ℕ} → factor ≡ word list (4 * k) → (c .fee ≤ rateMost) × (c .premium ≤ topMost) × (factor ≤ factorMost)
   unfolding returnsOf
-  factor-small e = rw e (s .returns .factor k l)
+  factor-in e =
+      let valid = s .first .layers .valid in (valid .fee, le-trans (valid .premium) (valid .top), rw e (s .returns .factor k l))
 
   pub weight-is : {weight : ℕ} → weight ≡ word list (4 * k + 2) → weight ≡ returnsOf list .weight k
   unfolding returnsOf
@@ -288,41 +299,30 @@ module _ {c : Terms} {rate : ℕ} {work list : List ℕ} (s : Starting c rate wo
   pub weight-small : {weight : ℕ} → weight ≡ word list (4 * k + 2) → weight ≤ weightMost
   weight-small e = rw (weight-is e) (s .returns .weight k l)
 
-  -- what it leads to stands in the first layer, and is of 32 bits with what is paid on arrival
+  -- what it leads to stands in the first layer, and is of 32 bits
   pub account-in : (w : ℕ) → w ≤ c .top → w * (c .premium + 1) + c .premium < length work
   unfolding layerSize
   account-in w h =
       let i = within-rows (c .premium + 1) (c .top + 1) w (c .premium) (omega arith) (omega arith) in
       omega (arith, s .first .layers .room)
 
-  pub value-low : (w : ℕ) → w ≤ c .top → 20000 * c .top + getD work (w * (c .premium + 1) + c .premium) 0 ≤ lowMost
+  pub value-low : (w : ℕ) → w ≤ c .top → getD work (w * (c .premium + 1) + c .premium) 0 ≤ lowMost
   value-low w h =
       let small = s .first .small w (c .premium) h (omega arith) in
       let low = value-narrow c (s .first .layers .valid) 1 (omega arith) in
       let at = ap (λ (i : ℕ). getD work i 0) (zero-add (w * (c .premium + 1) + c .premium)) in
       omega arith
 
-  pub over-small : {factor over : ℕ} → factor ≡ word list (4 * k) → over ≡ excess (c .fee) (c .top) (c .premium) factor
-      → 10000 * over ≤ 20000 * c .top
-  unfolding excessPaid
-  over-small {factor} f e =
-      rw e (excess-paid-le (c .fee) (c .top) (c .premium) factor (s .first .layers .valid .premium) (factor-small f))
-
-  -- the share is the rule's
-  pub start-is : {factor account over value payment r : ℕ}
+  -- with its share, it is what every date's sum takes
+  pub start-is : {factor account paid value payment r : ℕ}
       → factor ≡ word list (4 * k)
       → account ≡ nextAccount (c .fee) (c .top) (c .premium) factor
-      → over ≡ excess (c .fee) (c .top) (c .premium) factor
+      → paid ≡ excessPaid (c .fee) (c .top) (c .premium) factor
       → value ≡ getD work (account * (c .premium + 1) + c .premium) 0
-      → payment ≡ deathPayment account (c .premium) over
-      → r ≡ deathShare rate (10000 * over + value) payment
-      → r ≡ startReached c (returnsOf list) rate (cells work 0 (c .premium + 1)) k
-  unfolding startReached paidBy reachBy deathBy startOf excessPaid returnsOf
+      → payment ≡ deathPayment account (c .premium) 0
+      → r ≡ deathShare rate value payment
+      → paid + r ≡ reachedFrom c (returnsOf list) (shared rate (cells work 0 (c .premium + 1))) (c .premium) (c .premium) k
+  unfolding returnsOf
   start-is {account = account} f w x v p r =
       let at = ap (λ (i : ℕ). getD work i 0) (sym (zero-add (account * (c .premium + 1) + c .premium))) in
-      r ∙ rw (p, v ∙ at, x, w, f) refl
-
-  pub start-is-le : startReached c (returnsOf list) rate (cells work 0 (c .premium + 1)) k ≤ entryMost
-  start-is-le =
-      start-reached-le c (returnsOf list) rate _ k (s .first .layers .valid) (s .rate-is) (s .returns .factor k l)
-      (λ w h. s .first .small w (c .premium) h (omega arith))
+      rw (x, r, p, v ∙ at, w, f) refl

@@ -7,21 +7,22 @@ use native.Mathlib.Omega.{arith}
 use lib.ListN.{getD, length}
 use Rattle.decision.specs.Index.{sum, sum-eq, sum-add, weighted-le}
 use Rattle.slices.specs.Rows.{cells}
-use Rattle.rules.specs.Contract.{Terms, Returns, returnsOf, rateMost, discountMost, factorMost, weightTotal, weightMost, returnsMost}
-use Rattle.rules.specs.Date.{nextAccount, excess, excessPaid, deathShare, discounted}
-use Rattle.rules.specs.FixedTerm.{reachBy, paidBy, deathBy, startOf, layerSize}
+use Rattle.rules.specs.Contract.{Terms, Returns, returnsOf, rateMost, discountMost, weightTotal, weightMost, returnsMost}
+use Rattle.rules.specs.Date.{nextAccount, excessPaid, deathPayment, deathShare, discounted}
+use Rattle.rules.specs.FixedTerm.{layerSize}
 use Rattle.laws.specs.Accepted.{Valid, ValidReturns}
-use Rattle.laws.specs.Date.{account-le, excess-paid-le, share-le, death-le}
+use Rattle.laws.specs.Date.{account-le, excess-paid-le, shared}
 use Rattle.laws.specs.Bounds.{discounted-average, stateMost, value-room, value-most, entryMost}
 use Rattle.laws.specs.Narrow.{lowMost}
 
+-- the value that return k reaches, with what it pays on arrival
+abbrev pub reachedFrom : Terms → Returns → (ℕ → ℕ → ℕ) → ℕ → ℕ → ℕ → ℕ
+reachedFrom c rs v balance a k =
+    excessPaid (c .fee) (c .top) balance (rs .factor k) + v (nextAccount (c .fee) (c .top) balance (rs .factor k)) a
+
 -- the sum of weight × value reached
 unfoldable pub reachedSum : Terms → Returns → (ℕ → ℕ → ℕ) → ℕ → ℕ → ℕ
-reachedSum c rs v balance a =
-    sum (λ k.
-    rs .weight k
-    * (excessPaid (c .fee) (c .top) balance (rs .factor k) + v (nextAccount (c .fee) (c .top) balance (rs .factor k)) a))
-    (rs .count)
+reachedSum c rs v balance a = sum (λ k. rs .weight k * reachedFrom c rs v balance a k) (rs .count)
 
 unfoldable pub expected : Terms → Returns → (ℕ → ℕ → ℕ) → ℕ → ℕ → ℕ
 expected c rs v balance a = discounted (c .discount) (reachedSum c rs v balance a)
@@ -164,40 +165,7 @@ expected-same c rs v v' balance a h =
     ap (λ (z : ℕ). rs .weight k * (excessPaid (c .fee) (c .top) balance (rs .factor k) + z))
     (h _ (account-le (c .fee) (c .top) balance (rs .factor k)))))
 
--- ---- the first return
--- the value that return k reaches from the start, as its share at death leaves it
-unfoldable pub startReached : Terms → Returns → ℕ → (ℕ → ℕ → ℕ) → ℕ → ℕ
-startReached c rs rate v k =
-    deathShare rate (paidBy c rs (startOf c) k + v (reachBy c rs (startOf c) k .account) (c .premium)) (deathBy c rs (startOf c) k)
-
-unfoldable pub startExpected : Terms → Returns → ℕ → (ℕ → ℕ → ℕ) → ℕ
-startExpected c rs rate v = discounted (c .discount) (sum (λ k. rs .weight k * startReached c rs rate v k) (rs .count))
-
--- over values of date 1 it is within the bound on an entry
-pub start-reached-le : (c : Terms) (rs : Returns) (rate : ℕ) (v : ℕ → ℕ → ℕ) (k : ℕ) → Valid c → rate ≤ rateMost
-    → rs .factor k ≤ factorMost → ((w : ℕ) → w ≤ c .top → v w (c .premium) ≤ stateMost c 1) → startReached c rs rate v k ≤ entryMost
-unfolding startReached paidBy reachBy deathBy startOf excessPaid
-start-reached-le c rs rate v k valid small f h =
-    let paid = excess-paid-le (c .fee) (c .top) (c .premium) (rs .factor k) (valid .premium) f in
-    let account = account-le (c .fee) (c .top) (c .premium) (rs .factor k) in
-    let room = le-trans (value-room c valid 1 (omega arith)) (value-most valid) in
-    let value = h _ account in
-    let dies = death-le _ (c .premium) (excess (c .fee) (c .top) (c .premium) (rs .factor k)) (c .top) account (valid .premium) in
-    share-le entryMost small (le-trans (add-le-add paid value) room) (omega arith)
-
-pub start-expected-le : (c : Terms) (rs : Returns) (rate : ℕ) (v : ℕ → ℕ → ℕ) → Valid c → ValidReturns rs → rate ≤ rateMost
-    → ((w : ℕ) → w ≤ c .top → v w (c .premium) ≤ stateMost c 1) → startExpected c rs rate v ≤ entryMost
-unfolding startExpected
-start-expected-le c rs rate v valid returns small h =
-    discounted-average (c .discount) _ entryMost (valid .discount)
-    (weighted-le (rs .weight) _ (rs .count) (returns .total) (λ k l. start-reached-le c rs rate v k valid small (returns .factor k l) h))
-
--- only the values that it can reach count
-pub start-expected-same : (c : Terms) (rs : Returns) (rate : ℕ) (v v' : ℕ → ℕ → ℕ)
-    → ((w : ℕ) → w ≤ c .top → v w (c .premium) ≡ v' w (c .premium)) → startExpected c rs rate v ≡ startExpected c rs rate v'
-unfolding startExpected startReached reachBy startOf
-start-expected-same c rs rate v v' h =
-    ap (discounted (c .discount))
-    (sum-eq _ _ (rs .count) (λ k l.
-    ap (λ (z : ℕ). rs .weight k * deathShare rate (paidBy c rs (startOf c) k + z) (deathBy c rs (startOf c) k))
-    (h _ (account-le (c .fee) (c .top) (c .premium) (rs .factor k)))))
+pub shared-same : (c : Terms) (rs : Returns) (rate : ℕ) (v v' : ℕ → ℕ → ℕ) (balance a : ℕ) → ((w : ℕ) → w ≤ c .top → v w a ≡ v' w a)
+    → expected c rs (shared rate v) balance a ≡ expected c rs (shared rate v') balance a
+shared-same c rs rate v v' balance a h =
+    expected-same c rs _ _ balance a (λ w l. ap (λ (z : ℕ). deathShare rate z (deathPayment w a 0)) (h w l))

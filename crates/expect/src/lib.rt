@@ -11,9 +11,10 @@ ghost use Rattle.laws.specs.Bounds.{stateMost, entryMost};
 ghost use Rattle.rules.specs.Date.{nextAccount, discounted};
 ghost use Rattle.rules.specs.FixedTerm.{layerSize};
 ghost use Rattle.laws.specs.Accepted.{Valid};
+ghost use Rattle.laws.specs.Date.{shared};
 ghost use Rattle.contract.specs.Reading.{termsIn};
 ghost use Rattle.expect.specs.Expected.{term, productMost, Reached, Run, Adding, Summed, Row, Listing, Values};
-ghost use Rattle.expect.specs.Expected.{paidSum, expected, scaled, Starting, startReached, startExpected};
+ghost use Rattle.expect.specs.Expected.{reachedFrom, paidSum, expected, scaled, Starting};
 use contract::Contract;
 
 // How many returns are averaged, by what they are discounted, what no value of the layer passes, and what the returns pay on
@@ -435,28 +436,31 @@ pub fn expect_layer(work: &mut [u64], list: &[u8], count: usize, c: Contract, i:
     }
 }
 
-// What return k is worth from the start: the value reached, with its share at death.
+// What return k is worth from the start: its excess, and the share of the value of the state that it leads to.
 fn first_reached(work: &[u64], list: &[u8], rate: usize, c: Contract, k: usize) -> usize
     requires { ⌜ Starting (termsIn c) rate (now work) (now list) × (k < returnsOf (now list) .count) ⌝ }
     ensures { λ r. ⌜
         (r
-        ≡ startReached (termsIn c) (returnsOf (now (list .entry))) rate (cells (now (work .entry)) 0 (c .premium + 1)) k)
+        ≡ reachedFrom (termsIn c) (returnsOf (now (list .entry))) (shared rate (cells (now (work .entry)) 0 (c .premium + 1)))
+        (c .premium) (c .premium) k)
         × (r ≤ entryMost)
         ⌝ }
 {
     let factor = contract::word(list, Contract::RETURN_BYTES * k);
     let account = date::next_account(c.fee, c.top, c.premium, factor);
-    let over = date::excess(c.fee, c.top, c.premium, factor);
+    let paid = date::excess_paid(c.fee, c.top, c.premium, factor);
     let value = date::wide(work[account * (c.premium + 1) + c.premium]);
-    let payment = date::death_payment(account, c.premium, over);
-    date::death_share(rate, 10000 * over + value, payment)
+    let payment = date::death_payment(account, c.premium);
+    paid + date::death_share(rate, value, payment)
 }
 
 // The discounted sum over the first return, from balance and guarantee U.
 pub fn start_value(work: &[u64], list: &[u8], rate: usize, c: Contract) -> u64
     requires { ⌜ Starting (termsIn c) rate (now work) (now list) ⌝ }
     ensures { λ r. ⌜
-        (r ≡ startExpected (termsIn c) (returnsOf (now (list .entry))) rate (cells (now (work .entry)) 0 (c .premium + 1)))
+        (r
+        ≡ expected (termsIn c) (returnsOf (now (list .entry))) (shared rate (cells (now (work .entry)) 0 (c .premium + 1)))
+        (c .premium) (c .premium))
         × (r ≤ entryMost)
         ⌝ }
 {

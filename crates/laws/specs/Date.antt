@@ -184,3 +184,13 @@ share-whole rate value w a =
 pub death-le : (w a over top : ℕ) → w ≤ top → a ≤ top → deathPayment w a over ≤ 10000 * over + 10000 * top
 unfolding deathPayment
 death-le w a over top h l = let m = max-le h l in omega arith
+
+-- the values v of a date's states as the death rate of the period before it leaves them, by account and guarantee, without the
+-- excess that leads there: it passes through unchanged (`share-excess`)
+abbrev pub shared : ℕ → (ℕ → ℕ → ℕ) → ℕ → ℕ → ℕ
+shared rate v w a = deathShare rate (v w a) (deathPayment w a 0)
+
+-- at most what the value does not pass, if that is no less than 10,000 × top
+pub shared-le : (rate top : ℕ) (v : ℕ → ℕ → ℕ) {w a x : ℕ} → rate ≤ rateMost → w ≤ top → a ≤ top → 10000 * top ≤ x → v w a ≤ x
+    → shared rate v w a ≤ x
+shared-le rate top v {w} {a} {x} small h l most value = share-le x small value (le-trans (death-le w a 0 top h l) (omega arith))

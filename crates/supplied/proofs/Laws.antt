@@ -10,27 +10,25 @@ use lib.Dec.{T}
 use lib.ListN.{length, getD, drop, replicate}
 use borrow.Rule.Slice.PartMut.{midOf}
 use Rattle.decision.specs.Index.{first}
-use Rattle.decision.specs.Process.{reached, worth, tableValue, startTableValue}
+use Rattle.decision.specs.Process.{worth, tableValue, startTableValue}
 use Rattle.decision.specs.Optimal.{table-step, table-last}
 use Rattle.decision.specs.Layers.{low-digit, lookup, layer}
 use Rattle.slices.specs.Parts.{part-at}
 use Rattle.slices.specs.Stored.{stored, length-stored, stored-out}
 use Rattle.slices.specs.Rows.{cells, flat, rows-le, rows-step, row-next, layer-stored}
 use Rattle.rules.specs.Contract.{Terms, topMost, rateMost, termsOf, Returns, returnsOf, Rates, ratesOf}
-use Rattle.rules.specs.Date.{dynamic, freeAmount, admits, maturityValue, deathPayment, deathShare, margin}
+use Rattle.rules.specs.Date.{dynamic, freeAmount, admits, maturityValue, margin}
 use Rattle.rules.specs.Product.{suppliedValue, suppliedLayer}
 use Rattle.rules.specs.Refusals.{Verdict, accepted, refused, verdict, numberOf, placeOf, onSuccess, inputChecks}
-use Rattle.rules.specs.FixedTerm.{freeIn, admissibleIn, rateIn, cashIn, afterIn, reachBy, expectOver, startOf, processOf}
-use Rattle.rules.specs.FixedTerm.{layerSize, layoutOf, fixedTerm}
+use Rattle.rules.specs.FixedTerm.{freeIn, admissibleIn, rateIn, cashIn, afterIn, startOf, processOf, layerSize, layoutOf, fixedTerm}
 use Rattle.rules.specs.Operations.{productOf, answer, workAfter, tableSize, badAt, badEntry, tableChecks, suppliedChecks}
 use Rattle.rules.specs.Operations.{suppliedVerdict, suppliedAnswer, suppliedWork}
 use Rattle.laws.specs.Supplied.{all-admitted}
-use Rattle.laws.specs.Date.{dynamic-is}
+use Rattle.laws.specs.Date.{dynamic-is, shared}
 use Rattle.laws.specs.Accepted.{Valid, ValidInput, then-accepted, then-refused}
 use Rattle.laws.specs.Bounds.{table-value-le, stateMost, entryMost}
 use Rattle.contract.specs.Accepted.{Given}
-use Rattle.expect.specs.Expected.{expected, expected-same, startReached, startExpected, start-expected-same}
-use Rattle.death.specs.Shared.{shared}
+use Rattle.expect.specs.Expected.{expected, shared-same}
 use Rattle.keys.specs.declared.Date.{Date}
 use Rattle.keys.specs.Sums.{sums, Sums, sum-in, row-in, sums-less, sums-kept, sums-same}
 use Rattle.worth.specs.Worth.{worthOver, worth-same}
@@ -38,7 +36,7 @@ use Rattle.dates.specs.Back.{at, expectedOn, shared-expects}
 use Rattle.dates.specs.Dated.{dateOf, Summed}
 use Rattle.dates.specs.Layer.{DateLayer, layer-long, layer-entry}
 use Rattle.valuing.specs.declared.Answer as declared
-use Rattle.valuing.specs.Answered.{answerOf, refusal, Settled}
+use Rattle.valuing.specs.Answered.{refusal, Settled}
 use Rattle.valuing.specs.First.{First, first-layer, first-mature}
 use Rattle.supplied.specs.Followed.{followed, followedOn, Following, Dating, Back, tableOn, Starting, Answered, Supplying}
 
@@ -206,9 +204,7 @@ module _ {c : Terms} {work₀ table list rates work : List ℕ} (s : Starting c 
     next-sums : (x y : ℕ) → y ≤ c .premium
         → expected c (returnsOf list) (shared (ratesOf rates i) (cells work 0 (c .premium + 1))) x y
         ≡ expected c (returnsOf list) (shared (ratesOf rates i) (tableOn c (returnsOf list) (ratesOf rates) table (suc i))) x y
-    next-sums x y k =
-        expected-same c (returnsOf list) _ _ x y (λ w h.
-        ap (λ (z : ℕ). deathShare (ratesOf rates i) z (deathPayment w y 0)) (v .values w y h k))
+    next-sums x y k = shared-same c (returnsOf list) (ratesOf rates i) _ _ x y (λ w h. v .values w y h k)
 
     pub first-before : (work₁ : List ℕ) → Back c (returnsOf list) (ratesOf rates) i work (midOf from (to - from) table) work₁
         → First (tableOn c (returnsOf list) (ratesOf rates) table (suc (i - 1))) c work₀ work₁
@@ -252,11 +248,12 @@ starting {c} {work' = work'} work given room room-table none e = record {
 
 module _ (rs : Returns) (ds : Rates) (table : List ℕ) {c : Terms} {work work' : List ℕ}
     (d : First (tableOn c rs ds table 1) c work work') where
-  supplied-value : startExpected c rs (ds 0) (cells work' 0 (c .premium + 1)) ≡ suppliedValue (fixedTerm c rs ds) table
-  unfolding suppliedValue startTableValue reached fixedTerm processOf expectOver startOf reachBy startExpected startReached
-  supplied-value =
-      start-expected-same c rs (ds 0) (cells work' 0 (c .premium + 1)) (tableOn c rs ds table 1) (λ w l.
-      d .values w (c .premium) l (omega arith))
+  supplied-value : ds 0 ≤ rateMost
+      → expected c rs (shared (ds 0) (cells work' 0 (c .premium + 1))) (c .premium) (c .premium) ≡ suppliedValue (fixedTerm c rs ds) table
+  unfolding suppliedValue startTableValue fixedTerm processOf startOf
+  supplied-value small =
+      shared-same c rs (ds 0) _ _ (c .premium) (c .premium) (λ w l. d .values w (c .premium) l (omega arith))
+      ∙ sym (shared-expects c rs ds 0 _ (c .premium) (c .premium) small)
 
   supplied-layer : layerSize c + layerSize c ≤ length work
       → stored work' (layerSize c) (λ (i : ℕ). 0) (layerSize c)
@@ -271,10 +268,11 @@ module _ {c : Terms} {rs : Returns} {ds : Rates} {v : Verdict} {work table : Lis
   answered-refused n p r e f = record { answer-is = rw e f; work-is = rw e }
 
   pub answered-accepted : {work' : List ℕ} (r : declared.Answer) (work'' : List ℕ) → v ≡ accepted → layerSize c + layerSize c ≤ length work
-      → First (tableOn c rs ds table 1) c work work' → Settled c rs (ds 0) work' r work'' → Answered c rs ds v work table r work''
+      → ds 0 ≤ rateMost → First (tableOn c rs ds table 1) c work work' → Settled c rs (ds 0) work' r work''
+      → Answered c rs ds v work table r work''
   unfolding answer workAfter onSuccess numberOf placeOf
-  answered-accepted r work'' e room d s =
-      let value : r .value ≡ suppliedValue (fixedTerm c rs ds) table = s .value-is ∙ supplied-value rs ds table d in record {
+  answered-accepted r work'' e room small d s =
+      let value : r .value ≡ suppliedValue (fixedTerm c rs ds) table = s .value-is ∙ supplied-value rs ds table d small in record {
         answer-is = rw e (λ i. record {
           number = s .number-is i;
           place = s .place-is i;

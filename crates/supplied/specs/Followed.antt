@@ -14,9 +14,9 @@ use Rattle.rules.specs.Product.{suppliedValue, suppliedLayer}
 use Rattle.rules.specs.FixedTerm.{rateIn, layerSize, layoutOf, processOf, fixedTerm}
 use Rattle.rules.specs.Refusals.{Verdict}
 use Rattle.rules.specs.Operations.{answer, workAfter, tableSize, badEntry, suppliedAnswer, suppliedWork}
+use Rattle.laws.specs.Date.{shared}
 use Rattle.contract.specs.Accepted.{Given}
 use Rattle.expect.specs.Expected.{expected}
-use Rattle.death.specs.Shared.{shared}
 use Rattle.keys.specs.declared.Date.{Date}
 use Rattle.keys.specs.Sums.{sums, Sums}
 use Rattle.worth.specs.Worth.{worthOver}

@@ -11,17 +11,18 @@ use lib.IntN.{pos, negsuc, _-ℤ_, subℕ}
 use lib.Signed.{mag}
 use borrow.Author.Tests.{le-ltb}
 use lib.ListN.{length, getD, drop, replicate}
-use Rattle.decision.specs.Process.{reached, startValue, Attained}
+use Rattle.decision.specs.Process.{startValue, Attained}
 use Rattle.decision.specs.Layers.{lookup, layer, layers}
 use Rattle.slices.specs.Stored.{stored, length-stored, is-stored, stored-front}
 use Rattle.slices.specs.Rows.{cells, flat}
-use Rattle.rules.specs.Contract.{Terms, Returns, Rates}
+use Rattle.rules.specs.Contract.{Terms, Returns, Rates, rateMost}
 use Rattle.rules.specs.Date.{Behaviour, maturityValue, margin}
 use Rattle.rules.specs.Product.{contractValue, valueLayer, amountLayers, stateValue, recordedAmount}
-use Rattle.rules.specs.FixedTerm.{fixedTerm, processOf, expectOver, startOf, reachBy, layoutOf, layerSize}
+use Rattle.rules.specs.FixedTerm.{fixedTerm, processOf, startOf, layoutOf, layerSize}
 use Rattle.rules.specs.Refusals.{refused, verdict, numberOf, placeOf, onSuccess, short, inputChecks}
 use Rattle.rules.specs.Operations.{productOf, answer, workAfter, behaviourOf, tableSize, lentChecks, valuingChecks}
 use Rattle.rules.specs.Operations.{valuingVerdict, valuingAnswer, valuingWork, valuingTable}
+use Rattle.laws.specs.Date.{shared}
 use Rattle.laws.specs.Accepted.{Valid, then-accepted, then-refused, input-valid}
 use Rattle.laws.specs.FixedTerm.{size-some}
 use Rattle.laws.specs.ThirdDemand.{valuing-claim}
@@ -32,8 +33,8 @@ use Rattle.contract.specs.declared.Outcome.{Outcome}
 use Rattle.contract.specs.declared.Returns as listed
 use Rattle.contract.specs.Accepted.{Agreed, input-not-read}
 use Rattle.contract.specs.Reading.{termsIn, contractOf, outcomeAt, inputRead}
-use Rattle.expect.specs.Expected.{startReached, startExpected, start-expected-same}
-use Rattle.dates.specs.Back.{at, valuesOn, Valued, Starting}
+use Rattle.expect.specs.Expected.{expected, shared-same}
+use Rattle.dates.specs.Back.{at, valuesOn, shared-expects, Valued, Starting}
 use Rattle.valuing.specs.declared.Answer as declared
 use Rattle.valuing.specs.Answered.{valuingAgreed, Alone, Settled, Answered, Reported, Valuing}
 use Rattle.valuing.specs.First.{First, first-layer, first-from, first-mature}
@@ -53,11 +54,12 @@ module _ {b : Behaviour} {c : Terms} {rs : Returns} {ds : Rates} {work table wor
     (v : Valued b c rs ds work table work' table' 0)
   where
     -- the sum over the first return of the values of date 1 is the contract's value
-    pub contract-value : startExpected c rs (ds 0) (cells work' 0 (c .premium + 1)) ≡ contractValue (fixedTerm c rs ds) b
-    unfolding contractValue startValue reached stateValue fixedTerm processOf expectOver startOf reachBy startExpected startReached
-    contract-value =
-        start-expected-same c rs (ds 0) (cells work' 0 (c .premium + 1)) (valuesOn c rs ds b 1)
-        (λ w l. v .values w (c .premium) l (omega arith))
+    pub contract-value : ds 0 ≤ rateMost
+        → expected c rs (shared (ds 0) (cells work' 0 (c .premium + 1))) (c .premium) (c .premium) ≡ contractValue (fixedTerm c rs ds) b
+    unfolding contractValue startValue stateValue fixedTerm processOf startOf
+    contract-value small =
+        shared-same c rs (ds 0) _ _ (c .premium) (c .premium) (λ w l. v .values w (c .premium) l (omega arith))
+        ∙ sym (shared-expects c rs ds 0 _ (c .premium) (c .premium) small)
 
     pub first : First (valuesOn c rs ds b 1) c work work'
     first = record { long = v .long; values = v .values; rest = v .rest }
@@ -123,11 +125,11 @@ starting {c} {work = work} lent e = record {
 
 -- ---- what terms that were read answer
 pub answered : {b : Behaviour} {c : Terms} {rs : Returns} {ds : Rates} {work table work' table' : List ℕ} (r : declared.Answer)
-    (work'' : List ℕ) → layerSize c + layerSize c ≤ length work
+    (work'' : List ℕ) → layerSize c + layerSize c ≤ length work → ds 0 ≤ rateMost
     → Valued b c rs ds work table work' table' 0 → Settled c rs (ds 0) work' r work'' → Answered b c rs ds work table r work'' table'
 unfolding answer workAfter onSuccess numberOf placeOf
-answered {b} {c} {rs} {ds} r work'' room d s =
-    let value : r .value ≡ contractValue (fixedTerm c rs ds) b = s .value-is ∙ contract-value d in record {
+answered {b} {c} {rs} {ds} r work'' room small d s =
+    let value : r .value ≡ contractValue (fixedTerm c rs ds) b = s .value-is ∙ contract-value d small in record {
       worked = record {
         answer-is = λ i. record {
           number = s .number-is i;

@@ -13,7 +13,8 @@ use Rattle.rules.specs.FixedTerm.{fixedTerm, layerSize}
 use Rattle.rules.specs.Refusals.{Verdict, accepted, refused, numberOf, placeOf, onSuccess}
 use Rattle.rules.specs.Operations.{productOf, Answer, answer, workAfter, behaviourOf, tableSize, valuingVerdict, valuedAnswer}
 use Rattle.rules.specs.Operations.{valuedWork, valuedTable, valuingAnswer, valuingWork, valuingTable}
-use Rattle.expect.specs.Expected.{startExpected, Values}
+use Rattle.laws.specs.Date.{shared}
+use Rattle.expect.specs.Expected.{expected, Values}
 use Rattle.contract.specs.Accepted.{Given}
 use Rattle.contract.specs.declared.Agreement.{Agreement}
 use Rattle.contract.specs.Reading.{agreementOf}
@@ -50,7 +51,7 @@ pub record Settling (c : Terms) (work list rates : List ℕ) : Type 0 where
 pub record Settled (c : Terms) (rs : Returns) (rate : ℕ) (work : List ℕ) (r : declared.Answer) (work' : List ℕ) : Type 0 where
   pub number-is : r .number ≡ 0
   pub place-is : r .place ≡ 0
-  pub value-is : r .value ≡ startExpected c rs rate (cells work 0 (c .premium + 1))
+  pub value-is : r .value ≡ expected c rs (shared rate (cells work 0 (c .premium + 1))) (c .premium) (c .premium)
   pub margin-is : r .margin ≡ margin (r .value) (c .premium)
   pub work-is : work' ≡ stored work (layerSize c) (λ (i : ℕ). 0) (layerSize c)
 

@@ -6,7 +6,7 @@ use native.Mathlib.Omega.{arith}
 use Prim.Native.Nat.{ℕ, _+_, _*_}
 use Rattle.contract.specs.Reading.{termsIn}
 use Rattle.expect.specs.Expected.{listing}
-use Rattle.death.specs.Shared.{shared}
+use Rattle.laws.specs.Date.{shared}
 use Rattle.slices.specs.Rows.{cells, flat}
 use Rattle.slices.specs.Stored.{stored}
 use Rattle.dates.proofs.Laws.{sharing, shared-values, summed}

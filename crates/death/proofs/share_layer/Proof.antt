@@ -4,9 +4,9 @@ use lib.ListN.{length}
 use mathlib.Core.List.{List}
 use mathlib.Core.Path.{_≡_, ap, _∙_}
 use native.Mathlib.Omega.{arith}
+use Rattle.laws.specs.Date.{shared}
 use Rattle.slices.specs.Rows.{cells, flat}
 use Rattle.slices.specs.Stored.{stored, stored-none, length-stored}
-use Rattle.death.specs.Shared.{shared}
 use Rattle.death.proofs.Laws.{row-of, share-step, shared-none}
 use Rattle.death.proofs.share_layer.Statement.{statement}
 use Rattle.death.proofs.share_layer.Tie as tie

@@ -1,11 +1,10 @@
 -- `expect::first_reached` meets its contract. Assumes nothing.
-use Prim.Native.Nat.{ℕ, _≤_}
+use Prim.Native.Nat.{_≤_}
 use borrow.Author.Needs.{needs}
-use mathlib.Core.Path.{_∙_}
 use native.Mathlib.Nat.{le-trans}
 use native.Mathlib.Omega.{arith}
 use Rattle.laws.specs.Date.{account-le}
-use Rattle.expect.proofs.Laws.{return-in, return-number, factor-small, over-small, account-in, value-low, start-is, start-is-le}
+use Rattle.expect.proofs.Laws.{return-in, factor-in, account-in, value-low, start-is}
 use Rattle.expect.proofs.first_reached.Statement.{statement}
 use Rattle.expect.proofs.first_reached.Tie as tie
 
@@ -20,16 +19,11 @@ word-requires : tie.Need-word-requires
 word-requires c κs = let pre = c .before .before .pre in omega (arith, return-in (pre .0) _ (pre .1))
 
 next-account-requires : tie.Need-next-account-requires
-next-account-requires c κs =
-    let pre = c .before .before .before .pre in
-    let valid = pre .0 .first .layers .valid in
-    (valid .fee, le-trans (valid .premium) (valid .top), factor-small (pre .0) _ (pre .1) (c .word .ensures .0))
+next-account-requires c κs = let pre = c .before .before .before .pre in factor-in (pre .0) _ (pre .1) (c .word .ensures .0)
 
-excess-requires : tie.Need-excess-requires
-excess-requires c κs =
-    let pre = c .before .before .before .before .pre in
-    let valid = pre .0 .first .layers .valid in
-    (valid .fee, le-trans (valid .premium) (valid .top), factor-small (pre .0) _ (pre .1) (c .before .word .ensures .0))
+excess-paid-requires : tie.Need-excess-paid-requires
+excess-paid-requires c κs =
+    let pre = c .before .before .before .before .pre in factor-in (pre .0) _ (pre .1) (c .before .word .ensures .0)
 
 add-wide : tie.Need-add-wide
 add-wide c = search needs
@@ -62,53 +56,31 @@ wide-requires c κs = search needs
 
 death-payment-requires : tie.Need-death-payment-requires
 death-payment-requires c κs =
-    let c4 = c .before .before .before .before in
-    let c5 = c4 .before in
+    let c5 = c .before .before .before .before .before in
     let c9 = c5 .before .before .before .before in
-    let valid = c9 .pre .0 .first .layers .valid in (
-      le-trans (account (c5)) (valid .top),
-      le-trans (valid .premium) (valid .top),
-      omega
-          (arith, c4 .excess .ensures .1, valid .premium, valid .top),
-    )
-
-mul-death-share : tie.Need-mul-death-share
-mul-death-share c = search needs
-
-add-death-share : tie.Need-add-death-share
-add-death-share c =
-    let pre = c .before .before .before .before .before .before .before .before .before .before .pre in
-    let valid = pre .0 .first .layers .valid in
-    let low = value-low (pre .0) _ (pre .1) _ (account (c .before .before .before .before .before .before)) in
-    omega (arith, c .before .before .before .before .before .excess .ensures .1, c .before .wide .ensures, valid .premium, valid .top)
+    let valid = c9 .pre .0 .first .layers .valid in (le-trans (account (c5)) (valid .top), le-trans (valid .premium) (valid .top))
 
 death-share-requires : tie.Need-death-share-requires
 death-share-requires c κs =
-    let c5 = c .before .before .before .before .before in
-    let c6 = c5 .before in
-    let c7 = c6 .before in
-    let c10 = c7 .before .before .before in
-    let pre = c10 .pre in
-    let low = value-low (pre .0) _ (pre .1) _ (account (c6)) in (
-      pre .0 .rate-is,
-      omega
-          (arith, over-small (pre .0) _ (pre .1) (c7 .word .ensures .0) (c5 .excess .ensures .0), c .before .wide .ensures),
-      omega
-          (arith, c .death-payment .ensures .1),
-    )
+    let c6 = c .before .before .before .before .before .before in
+    let pre = c6 .before .before .before .before .pre in
+    let low = value-low (pre .0) _ (pre .1) _ (account (c6)) in
+    (pre .0 .rate-is, rw (c .before .wide .ensures) low, omega (arith, c .death-payment .ensures .1))
+
+add-result : tie.Need-add-result
+add-result c = search needs
 
 returns : tie.Need-returns
 returns c =
     let c6 = c .before .before .before .before .before .before in
     let c7 = c6 .before in
     let c8 = c7 .before in
-    let c11 = c8 .before .before .before in
-    let pre = c11 .pre in
-    let is =
-    start-is (pre .0) _ (pre .1) (c8 .word .ensures .0) (c7 .next-account .ensures) (c6 .excess .ensures .0)
-    (c .before .before .wide .ensures)
-    (c .before .death-payment .ensures .0) (c .death-share .ensures .0) in
-    (is, rw is (start-is-le (pre .0) _ (pre .1)))
+    let pre = c8 .before .before .before .pre in
+    let valid = pre .0 .first .layers .valid in (
+      start-is (pre .0) _ (pre .1) (c8 .word .ensures .0) (c7 .next-account .ensures) (c6 .excess-paid .ensures .0)
+          (c .before .before .wide .ensures) (c .before .death-payment .ensures .0) (c .death-share .ensures .0),
+      omega (arith, c6 .excess-paid .ensures .1, c .death-share .ensures .1, valid .premium, valid .top),
+    )
 
 pub first-reached-spec : {M : Type 1} → statement M
 first-reached-spec =
@@ -117,7 +89,7 @@ first-reached-spec =
     mul-word
     word-requires
     next-account-requires
-    excess-requires
+    excess-paid-requires
     add-wide
     mul-wide
     add-wide-2
@@ -125,7 +97,6 @@ first-reached-spec =
     shared-slice-read-wide
     wide-requires
     death-payment-requires
-    mul-death-share
-    add-death-share
     death-share-requires
+    add-result
     returns)

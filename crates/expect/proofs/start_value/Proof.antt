@@ -1,24 +1,30 @@
 -- `expect::start_value` meets its contract. Assumes nothing.
 use Prim.Native.Nat.{ℕ, _+_, _*_, _-_, _≤_, _<_}
-use mathlib.Core.Path.{_≡_, refl, ap, ap₂, _∙_}
+use mathlib.Core.List.{List}
+use mathlib.Core.Path.{_≡_, refl, ap, ap₂, sym, _∙_}
 use native.Mathlib.Nat.{le-trans, mul-le-mul, mul-le-mul-right}
 use native.Mathlib.Omega.{arith}
 use Rattle.decision.specs.Index.{sum, sum-next}
 use Rattle.laws.specs.Bounds.{entryMost}
-use Rattle.rules.specs.Contract.{returnsOf, weightMost}
+use Rattle.laws.specs.Date.{shared}
+use Rattle.rules.specs.Contract.{Terms, returnsOf, weightMost}
 use Rattle.rules.specs.Date.{discounted}
 use Rattle.contract.specs.Reading.{termsIn}
 use Rattle.slices.specs.Rows.{cells}
-use Rattle.expect.specs.Expected.{startReached, startExpected, start-expected-le}
-use Rattle.expect.proofs.Laws.{return-in, return-number, weight-is, weight-small}
+use Rattle.expect.specs.Expected.{reachedFrom, reachedSum, expected}
+use Rattle.expect.proofs.Laws.{start-le, return-in, return-number, weight-is, weight-small}
 use Rattle.expect.proofs.start_value.Statement.{statement}
 use Rattle.expect.proofs.start_value.Tie as tie
 
+-- what the sum is over
+abbrev weighed : List ℕ → List ℕ → ℕ → Terms → ℕ → ℕ
+weighed work list rate c j =
+    returnsOf list .weight j
+    * reachedFrom c (returnsOf list) (shared rate (cells work 0 (c .premium + 1))) (c .premium) (c .premium) j
+
 abbrev Inv-loop : tie.InvT-loop
 Inv-loop work list rate c sum₀ k₀ k-end total k =
-    (k ≤ k-end)
-    × (total ≡ sum (λ j. returnsOf list .weight j * startReached (termsIn c) (returnsOf list) rate (cells work 0 (c .premium + 1)) j) k)
-    × (total ≤ k * (weightMost * entryMost))
+    (k ≤ k-end) × (total ≡ sum (weighed work list rate (termsIn c)) k) × (total ≤ k * (weightMost * entryMost))
 
 abbrev μ-loop : tie.MeasureT-loop
 μ-loop work list rate c sum₀ k₀ k-end total k = k-end - k
@@ -70,24 +76,13 @@ add-k c = omega (arith, return-number (c .before .before .before .before .before
 loop-less : tie.Need-loop-less Inv-loop μ-loop
 loop-less c = omega arith
 
--- what the sum is over
-module _ (c : tie.Start Inv-loop μ-loop) where
-  abbrev weighed : ℕ → ℕ
-  weighed j =
-      returnsOf (c .args .list .now) .weight j
-      * startReached (termsIn (c .args .c)) (returnsOf (c .args .list .now)) (c .args .rate)
-      (cells (c .args .work .now) 0 (c .args .c .premium + 1)) j
-
 loop-again : tie.Need-loop-again Inv-loop μ-loop
 loop-again c =
     let c3 = c .before .before .before in
     let c7 = c3 .before .before .before .before in
     let loop = c3 .loop in
-    let one = sum-next (weighed (c7)) (loop .k) in
     let last = ap₂ _*_ (weight-is (c7 .pre) _ (met (c .before .before)) (c .before .word .ensures .0)) (c .first-reached .ensures .0) in
-    let more : loop .sum + c .before .word .result * c .first-reached .result ≡ sum (weighed (c7)) (loop .k + 1) = omega
-    (arith, loop .inv .1) in
-    (omega arith, more, omega (arith, loop .inv .2, product c))
+    (omega arith, ap₂ _+_ (loop .inv .1) last ∙ sym (sum-next _ (loop .k)), omega (arith, loop .inv .2, product c))
 
 -- all returns
 all : (c : tie.After-loop Inv-loop μ-loop)
@@ -102,18 +97,13 @@ discounted-requires c κs =
     (pre .first .layers .valid .discount, omega (arith, c .before .loop .inv .2))
 
 returns : tie.Need-returns Inv-loop μ-loop
-unfolding startExpected
+unfolding expected reachedSum
 returns c =
     let start = c .before .before .before .before .before .before in
-    let valid = start .pre .first .layers .valid in
-    let rs = returnsOf (start .args .list .now) in
     let is =
     c .discounted .ensures
-    ∙ ap (discounted (start .args .c .discount)) (c .before .before .loop .inv .1 ∙ ap (sum (weighed start)) (all (c .before))) in
-    let most =
-    start-expected-le (termsIn (start .args .c)) rs (start .args .rate) _ valid (start .pre .returns) (start .pre .rate-is)
-    (λ w h. start .pre .first .small w (start .args .c .premium) h (omega arith)) in
-    (is, rw is most)
+    ∙ ap (discounted (start .args .c .discount)) (c .before .before .loop .inv .1 ∙ ap (sum _) (all (c .before))) in
+    (is, rw is (start-le (start .pre)))
 
 pub start-value-spec : {M : Type 1} → statement M
 start-value-spec =

@@ -180,7 +180,12 @@ returns-3 c =
     let follow-dates = c6 .follow-dates in
     let settle = c .before .before .settle in
     let d = first-from _ (fill-maturity .ensures) (follow-dates .ensures) in
-    answered-accepted _ _ (table-accepted (termsIn c₀) work₀ table₀ (sym (too-short .ensures) ∙ if1 .left) (sym (ap (λ (x : ℕ). ltb x ((args .c .dates - 1) * ((args .c .top + 1) * (args .c .premium + 1)))) (first-bad .ensures)) ∙ le-ltb _ _ (if2 .left))) (lent-room (termsIn c₀) 0 work₀ table₀ (sym (too-short .ensures) ∙ if1 .left) .0) d (settle .ensures)
+    let long = sym (too-short .ensures) ∙ if1 .left in
+    let none =
+    sym (ap (λ (x : ℕ). ltb x ((args .c .dates - 1) * ((args .c .top + 1) * (args .c .premium + 1)))) (first-bad .ensures))
+    ∙ le-ltb _ _ (if2 .left) in
+    answered-accepted _ _ (table-accepted (termsIn c₀) work₀ table₀ long none) (lent-room (termsIn c₀) 0 work₀ table₀ long .0)
+    (c26 .pre .valid .rates .rate 0) d (settle .ensures)
 
 pub valued-spec : {M : Type 1} → statement M
 valued-spec =

@@ -8,7 +8,8 @@ use mir.Val.{SFits}
 use native.Mathlib.Nat.{le-trans}
 use native.Mathlib.Omega.{arith}
 use Rattle.contract.specs.Reading.{termsIn}
-use Rattle.expect.specs.Expected.{startExpected}
+use Rattle.laws.specs.Date.{shared}
+use Rattle.expect.specs.Expected.{expected}
 use Rattle.rules.specs.Contract.{returnsOf}
 use Rattle.rules.specs.Date.{margin}
 use Rattle.slices.specs.Rows.{cells}
@@ -69,7 +70,9 @@ returns c =
       place-is = refl;
       value-is =
           c6 .start-value .ensures .0
-          ∙ ap (λ (r : ℕ). startExpected (termsIn (args .c)) (returnsOf (args .list .now)) r (cells (args .work .now) 0 stride))
+          ∙ ap (λ (r : ℕ).
+          expected (termsIn (args .c)) (returnsOf (args .list .now)) (shared r (cells (args .work .now) 0 stride)) (args .c .premium)
+          (args .c .premium))
           (c7 .rate-of .ensures);
       margin-is = toZ-ofZ (margin-fits c) ∙ c .margin .ensures;
       work-is =

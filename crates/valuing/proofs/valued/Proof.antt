@@ -50,7 +50,9 @@ returns c =
     let c8 = c .before .before .before .before .before .before .before .before in
     let c13 = c8 .before .before .before .before .before in
     let c21 = c13 .before .before .before .before .before .before .before .before in
-    answered _ _ (c21 .pre .room) (from-start _ (c13 .fill-maturity .ensures) (c8 .all-dates .ensures)) (c .before .before .settle .ensures)
+    let pre = c21 .pre in
+    answered _ _ (pre .room) (pre .given .valid .rates .rate 0) (from-start _ (c13 .fill-maturity .ensures) (c8 .all-dates .ensures))
+    (c .before .before .settle .ensures)
 
 pub valued-spec : {M : Type 1} → statement M
 valued-spec =
