@@ -1,22 +1,22 @@
 -- The best of a date over the next date's values is the rules' value and recorded amount. Assumes nothing.
 use mathlib.Core.List.{List}
-use mathlib.Core.Path.{_≡_, ap, sym, _∙_}
+use mathlib.Core.Path.{_≡_, sym, _∙_}
 use Prim.Native.Nat.{ℕ, suc, _+_, _-_, _*_, _≤_, _<_}
 use lib.ListN.{length, getD}
-use Rattle.decision.specs.Index.{sum-eq}
 use Rattle.decision.specs.Process.{reached, worth, recorded}
 use Rattle.decision.specs.Optimal.{value-step, value-last}
 use Rattle.slices.specs.Rows.{cells}
 use Rattle.rules.specs.Contract.{Terms, Returns, Rates, rateMost}
-use Rattle.rules.specs.Date.{Behaviour, nextAccount, excess, excessPaid, maturityValue, discounted}
+use Rattle.rules.specs.Date.{Behaviour, nextAccount, excess, excessPaid, maturityValue}
 use Rattle.rules.specs.Product.{stateValue, recordedAmount}
 use Rattle.laws.specs.Accepted.{ValidInput}
 use Rattle.laws.specs.Date.{share-excess, shared}
+use Rattle.laws.specs.FixedTerm.{mean-same}
 use Rattle.laws.specs.Bounds.{stateMost, state-value-le}
 use Rattle.rules.specs.FixedTerm.{State, Held, freeIn, admissibleIn, limitIn, rateIn, cashIn, afterIn, reachBy, paidBy, deathBy, expectOver}
 use Rattle.rules.specs.FixedTerm.{processOf, layerSize, fixedTerm}
 use Rattle.contract.specs.Accepted.{Given}
-use Rattle.expect.specs.Expected.{reachedSum, expected}
+use Rattle.expect.specs.Expected.{expected}
 use Rattle.worth.specs.Worth.{worthOver, bestValue, bestAmount, value-same, amount-same}
 
 abbrev pub at : ℕ → ℕ → State
@@ -35,13 +35,10 @@ expectedOn c rs ds i v balance a =
 -- over states that were shared before
 pub shared-expects : (c : Terms) (rs : Returns) (ds : Rates) (i : ℕ) (v : State → ℕ) (balance a : ℕ) → ds i ≤ rateMost
     → expectedOn c rs ds i v balance a ≡ expected c rs (shared (ds i) (λ (x y : ℕ). v (at x y))) balance a
-unfolding expectOver reached processOf reachBy paidBy deathBy excessPaid expected reachedSum
+unfolding expectOver reached processOf reachBy paidBy deathBy excessPaid expected
 shared-expects c rs ds i v balance a small =
-    ap (discounted (c .discount))
-    (sum-eq _ _ (rs .count) (λ k l.
-    ap (λ (x : ℕ). rs .weight k * x)
-    (share-excess (ds i) (nextAccount (c .fee) (c .top) balance (rs .factor k)) a
-    (excess (c .fee) (c .top) balance (rs .factor k)) _ small)))
+    mean-same c rs (λ k l.
+    share-excess (ds i) (nextAccount (c .fee) (c .top) balance (rs .factor k)) a (excess (c .fee) (c .top) balance (rs .factor k)) _ small)
 
 pub value-back : (c : Terms) (rs : Returns) (ds : Rates) (b : Behaviour) (i w a : ℕ) → ds i ≤ rateMost → i < c .dates
     → bestValue b (expected c rs (shared (ds i) (valuesOn c rs ds b (suc i)))) (rateIn c i) (c .level) w a ≡ valuesOn c rs ds b i w a

@@ -11,13 +11,13 @@ use Rattle.slices.specs.Stored.{stored, length-stored, stored-out, stored-first
 use Rattle.slices.specs.Rows.{cells, flat, flat-at, within-rows, rows-le, rows-step}
 use Rattle.rules.specs.Contract.{Terms, Returns, word, returnsOf, topMost, rateMost, factorMost, weightTotal, weightMost}
 use Rattle.rules.specs.Date.{nextAccount, excessPaid, deathPayment, deathShare, discounted}
-use Rattle.rules.specs.FixedTerm.{layerSize}
+use Rattle.rules.specs.FixedTerm.{meanOf, layerSize}
 use Rattle.laws.specs.Bounds.{stateMost, value-room, value-most, entryMost}
 use Rattle.laws.specs.Narrow.{lowMost, value-narrow}
 use Rattle.laws.specs.Date.{account-le, shared, shared-le}
-use Rattle.expect.specs.Expected.{reachedSum, expected, paidSum, stateSum, two-sums, paid-sum-le, scaled, term, productMost}
-use Rattle.expect.specs.Expected.{Reached, Run, Adding, Summed, Row, Listing, Layers, Values, Within, Balance, Starting}
-use Rattle.expect.specs.Expected.{reachedFrom, expected-le}
+use Rattle.laws.specs.FixedTerm.{mean-same}
+use Rattle.expect.specs.Expected.{reachedFrom, expected, expected-le, paidSum, stateSum, two-sums, paid-sum-le, scaled, term}
+use Rattle.expect.specs.Expected.{productMost, Reached, Run, Adding, Summed, Row, Listing, Layers, Values, Within, Balance, Starting}
 
 -- ---- sums along the guarantees
 -- a product is small
@@ -211,7 +211,7 @@ module _ {c : Terms} {i : ℕ} {work list weights : List ℕ} {count discount mo
         pub balance-cells : (a : ℕ)
             → discounted discount (paid + sum (term work starts weights a) count)
             ≡ expected c (returnsOf list) (cells work 0 stride) balance a
-        unfolding expected
+        unfolding expected meanOf
         balance-cells a =
             ap₂ discounted (b .discount-is)
             (ap₂ _+_ (b .paid-is) (states-are a) ∙ two-sums c (returnsOf list) (cells work 0 stride) balance a)
@@ -247,14 +247,14 @@ module _ (c : Terms) (rs : Returns) (work : List ℕ) (stride size : ℕ) (size-
 
   -- the rows filled so far are not read
   kept : (n b a : ℕ) → a < stride → expected c rs (cells (stored work size sums n) 0 stride) b a ≡ expected c rs (cells work 0 stride) b a
-  unfolding expected reachedSum
+  unfolding expected
   kept n b a l =
-      ap (discounted (c .discount)) (sum-eq _ _ (rs .count) (λ k m.
+      mean-same c rs (λ k m.
       let x = nextAccount (c .fee) (c .top) b (rs .factor k) in
       let h = account-le (c .fee) (c .top) b (rs .factor k) in
       let i = within-rows stride (c .top + 1) x a (omega arith) l in
-      ap (λ (y : ℕ). rs .weight k * (excessPaid (c .fee) (c .top) b (rs .factor k) + y))
-      (stored-out work size sums n (0 + (x * stride + a)) (inl (omega arith)))))
+      ap (λ (y : ℕ). excessPaid (c .fee) (c .top) b (rs .factor k) + y)
+      (stored-out work size sums n (0 + (x * stride + a)) (inl (omega arith))))
 
   pub expect-step : (b : ℕ) (work' : List ℕ)
       → work' ≡ stored work size (flat stride (scaled (expected c rs (cells work 0 stride)))) (b * stride)

@@ -8,11 +8,12 @@ use lib.ListN.{getD, length}
 use Rattle.decision.specs.Index.{sum, sum-eq, sum-add, weighted-le}
 use Rattle.slices.specs.Rows.{cells}
 use Rattle.rules.specs.Contract.{Terms, Returns, returnsOf, rateMost, discountMost, weightTotal, weightMost, returnsMost}
-use Rattle.rules.specs.Date.{nextAccount, excessPaid, deathPayment, deathShare, discounted}
-use Rattle.rules.specs.FixedTerm.{layerSize}
+use Rattle.rules.specs.Date.{nextAccount, excessPaid, deathPayment, deathShare}
+use Rattle.rules.specs.FixedTerm.{meanOf, layerSize}
 use Rattle.laws.specs.Accepted.{Valid, ValidReturns}
 use Rattle.laws.specs.Date.{account-le, excess-paid-le, shared}
-use Rattle.laws.specs.Bounds.{discounted-average, stateMost, value-room, value-most, entryMost}
+use Rattle.laws.specs.FixedTerm.{mean-same}
+use Rattle.laws.specs.Bounds.{mean-le, stateMost, value-room, value-most, entryMost}
 use Rattle.laws.specs.Narrow.{lowMost}
 
 -- the value that return k reaches, with what it pays on arrival
@@ -20,18 +21,15 @@ abbrev pub reachedFrom : Terms → Returns → (ℕ → ℕ → ℕ) → ℕ →
 reachedFrom c rs v balance a k =
     excessPaid (c .fee) (c .top) balance (rs .factor k) + v (nextAccount (c .fee) (c .top) balance (rs .factor k)) a
 
--- the sum of weight × value reached
-unfoldable pub reachedSum : Terms → Returns → (ℕ → ℕ → ℕ) → ℕ → ℕ → ℕ
-reachedSum c rs v balance a = sum (λ k. rs .weight k * reachedFrom c rs v balance a k) (rs .count)
-
 unfoldable pub expected : Terms → Returns → (ℕ → ℕ → ℕ) → ℕ → ℕ → ℕ
-expected c rs v balance a = discounted (c .discount) (reachedSum c rs v balance a)
+expected c rs v balance a = meanOf c rs (reachedFrom c rs v balance a)
 
 -- a sum as the second layer holds it: times 8,192, so that it can be added to a key, which holds an amount below 8,192 beside a value
 abbrev pub scaled : (ℕ → ℕ → ℕ) → ℕ → ℕ → ℕ
 scaled e balance a = 8192 * e balance a
 
--- its two parts: what the returns pay on arrival, which no guarantee changes, and the values of the states that they lead to
+-- the two parts of its sum: what the returns pay on arrival, which no guarantee changes, and the values of the states that they
+-- lead to
 unfoldable pub paidSum : Terms → Returns → ℕ → ℕ
 paidSum c rs balance = sum (λ k. rs .weight k * excessPaid (c .fee) (c .top) balance (rs .factor k)) (rs .count)
 
@@ -39,8 +37,8 @@ unfoldable pub stateSum : Terms → Returns → (ℕ → ℕ → ℕ) → ℕ �
 stateSum c rs v balance a = sum (λ k. rs .weight k * v (nextAccount (c .fee) (c .top) balance (rs .factor k)) a) (rs .count)
 
 pub two-sums : (c : Terms) (rs : Returns) (v : ℕ → ℕ → ℕ) (balance a : ℕ)
-    → paidSum c rs balance + stateSum c rs v balance a ≡ reachedSum c rs v balance a
-unfolding reachedSum paidSum stateSum
+    → paidSum c rs balance + stateSum c rs v balance a ≡ sum (λ k. rs .weight k * reachedFrom c rs v balance a k) (rs .count)
+unfolding paidSum stateSum
 two-sums c rs v balance a = sym (sum-eq _ _ (rs .count) (λ k l. omega arith) ∙ sum-add _ _ (rs .count))
 
 -- ---- what the loops hand to each other
@@ -147,23 +145,20 @@ paid-sum-le c rs balance returns h =
 -- a discounted sum over the values of date i + 1 is within the bound on an entry
 pub expected-le : (c : Terms) (rs : Returns) (v : ℕ → ℕ → ℕ) (i balance a : ℕ) → Valid c → ValidReturns rs → balance ≤ c .top
     → ((w : ℕ) → w ≤ c .top → v w a ≤ stateMost c (i + 1)) → expected c rs v balance a ≤ entryMost
-unfolding expected reachedSum
+unfolding expected
 expected-le c rs v i balance a valid returns top h =
-    let room = value-room c valid (i + 1) (omega arith) in
-    discounted-average (c .discount) _ entryMost (valid .discount)
-    (weighted-le (rs .weight) _ (rs .count) (returns .total) (λ k l.
-    le-trans (add-le-add (excess-paid-le (c .fee) (c .top) balance (rs .factor k) top (returns .factor k l)) (h _ (account-le (c .fee) (c .top) balance (rs .factor k))))
-    (le-trans room (value-most valid))))
+    let room = le-trans (value-room c valid (i + 1) (omega arith)) (value-most valid) in
+    mean-le entryMost valid returns (λ k l.
+    let paid = excess-paid-le (c .fee) (c .top) balance (rs .factor k) top (returns .factor k l) in
+    le-trans (add-le-add paid (h _ (account-le (c .fee) (c .top) balance (rs .factor k)))) room)
 
 -- only the values that it can reach count
 pub expected-same : (c : Terms) (rs : Returns) (v v' : ℕ → ℕ → ℕ) (balance a : ℕ) → ((w : ℕ) → w ≤ c .top → v w a ≡ v' w a)
     → expected c rs v balance a ≡ expected c rs v' balance a
-unfolding expected reachedSum
+unfolding expected
 expected-same c rs v v' balance a h =
-    ap (discounted (c .discount))
-    (sum-eq _ _ (rs .count) (λ k l.
-    ap (λ (z : ℕ). rs .weight k * (excessPaid (c .fee) (c .top) balance (rs .factor k) + z))
-    (h _ (account-le (c .fee) (c .top) balance (rs .factor k)))))
+    mean-same c rs (λ k l.
+    ap (λ (z : ℕ). excessPaid (c .fee) (c .top) balance (rs .factor k) + z) (h _ (account-le (c .fee) (c .top) balance (rs .factor k))))
 
 pub shared-same : (c : Terms) (rs : Returns) (rate : ℕ) (v v' : ℕ → ℕ → ℕ) (balance a : ℕ) → ((w : ℕ) → w ≤ c .top → v w a ≡ v' w a)
     → expected c rs (shared rate v) balance a ≡ expected c rs (shared rate v') balance a

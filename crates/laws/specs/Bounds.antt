@@ -13,8 +13,8 @@ use Rattle.rules.specs.Contract.{Terms, Returns, Rates, topMost, datesMost, fac
 use Rattle.rules.specs.Date.{Behaviour, dynamic, liftedAccount, nextAccount, excessPaid, maturityValue, discounted}
 use Rattle.rules.specs.Product.{stateValue, recordedAmount, contractValue}
 use Rattle.rules.specs.FixedTerm.{State, Held, InRange, freeIn, admissibleIn, rateIn, cashIn, afterIn, reachBy, paidBy}
-use Rattle.rules.specs.FixedTerm.{deathBy, expectOver, startOf, processOf, fixedTerm}
-use Rattle.laws.specs.Accepted.{Valid, ValidInput}
+use Rattle.rules.specs.FixedTerm.{deathBy, meanOf, expectOver, startOf, processOf, fixedTerm}
+use Rattle.laws.specs.Accepted.{Valid, ValidReturns, ValidInput}
 use Rattle.laws.specs.Date.{admits-within, amount-most, excess-paid-le, period-le, share-le, death-le}
 use Rattle.laws.specs.FixedTerm.{opened, closed}
 
@@ -22,6 +22,11 @@ use Rattle.laws.specs.FixedTerm.{opened, closed}
 pub discounted-average : (d s x : ℕ) → d ≤ discountMost → s ≤ weightTotal * x → discounted d s ≤ x
 unfolding discounted
 discounted-average d s x h l = div-le-of-le-mul 10000000000 (le-trans (mul-le-mul h l) (omega arith))
+
+pub mean-le : {c : Terms} {rs : Returns} {f : ℕ → ℕ} (x : ℕ) → Valid c → ValidReturns rs → ((k : ℕ) → k < rs .count → f k ≤ x)
+    → meanOf c rs f ≤ x
+unfolding meanOf
+mean-le {c} {rs} x v r h = discounted-average (c .discount) _ x (v .discount) (weighted-le (rs .weight) _ (rs .count) (r .total) h)
 
 -- what no state's value passes on date i: 10,000 × top at maturity, and 20,000 × top for each decision to come with the arrival
 -- after it
@@ -90,9 +95,7 @@ module _ (c : Terms) (rs : Returns) (ds : Rates) (v : ValidInput c rs ds) where
       → expectOver c rs ds i h x ≤ y
   unfolding expectOver
   averages i h x y range room g =
-      discounted-average (c .discount) _ y (v .terms .discount)
-      (weighted-le (rs .weight) _ (rs .count) (v .returns .total) (λ k l.
-      share-le y (v .rates .rate i) (g k l) (dies h k y (range k l) (room k l))))
+      mean-le y (v .terms) (v .returns) (λ k l. share-le y (v .rates .rate i) (g k l) (dies h k y (range k l) (room k l)))
 
   -- a state's value is at most a bound in N and top
   pub state-value-le : (b : Behaviour) (i : ℕ) (s : State) → InRange c s → stateValue (fixedTerm c rs ds) b i s ≤ stateMost c i

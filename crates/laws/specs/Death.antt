@@ -5,12 +5,11 @@ use mathlib.Core.Path.{_≡_, refl, ap, _∙_}
 use Prim.Native.Nat.{ℕ, zero, suc, _+_, _*_}
 use native.Mathlib.Omega.{arith}
 use lib.ListN.{getD, replicate}
-use Rattle.decision.specs.Index.{sum}
 use Rattle.decision.specs.Process.{reached, startValue, startTableValue}
 use Rattle.rules.specs.Contract.{Terms, Returns, Rates, word, termsOf, returnsOf, rateBytes, ratesOf}
-use Rattle.rules.specs.Date.{Behaviour, deathShare, discounted}
+use Rattle.rules.specs.Date.{Behaviour, deathShare}
 use Rattle.rules.specs.Product.{Product, stateValue, contractValue, valueLayer, amountLayers, suppliedValue, suppliedLayer}
-use Rattle.rules.specs.FixedTerm.{State, Held, deathBy, expectOver, startOf, processOf, fixedTerm, livingTerm}
+use Rattle.rules.specs.FixedTerm.{State, Held, deathBy, meanOf, expectOver, startOf, processOf, fixedTerm, livingTerm}
 use Rattle.rules.specs.Refusals.{onSuccess}
 use Rattle.rules.specs.Operations.{productOf, recordVerdict}
 use Rattle.rules.specs.Printed.{zeroRates, programOf}
@@ -35,13 +34,9 @@ expecting expects X = record {
   layout = X .layout;
 }
 
--- "discount × (sum of weight × ..) / 10,000,000,000" of any numbers
-unfoldable pub meanOf : Terms → Returns → (ℕ → ℕ) → ℕ
-meanOf c rs f = discounted (c .discount) (sum (λ k. rs .weight k * f k) (rs .count))
-
 -- the contract without death, as it is up to (iv)
 unfoldable pub deathless : Terms → Returns → Product State Held
-deathless c rs = expecting (λ i h reached. meanOf c rs reached) (livingTerm c rs)
+deathless c rs = expecting (λ i h. meanOf c rs) (livingTerm c rs)
 
 -- ---- zero rates
 module _ (c : Terms) (rs : Returns) (ds : Rates) (none : (i : ℕ) → ds i ≡ 0) where
@@ -50,10 +45,8 @@ module _ (c : Terms) (rs : Returns) (ds : Rates) (none : (i : ℕ) → ds i ≡ 
 
   -- the whole product, so all that is said of it
   pub zero-rates : fixedTerm c rs ds ≡ deathless c rs
-  unfolding fixedTerm processOf expectOver deathless meanOf
-  zero-rates j =
-      expecting (λ i h x. discounted (c .discount) (sum (λ k. rs .weight k * shared-none i (x k) (deathBy c rs h k) j) (rs .count)))
-      (livingTerm c rs)
+  unfolding fixedTerm processOf expectOver deathless
+  zero-rates j = expecting (λ i h x. meanOf c rs (λ k. shared-none i (x k) (deathBy c rs h k) j)) (livingTerm c rs)
 
   -- values: of the contract, of every state, of the first layer left
   pub zero-rates-value : (b : Behaviour) → contractValue (fixedTerm c rs ds) b ≡ contractValue (deathless c rs) b
@@ -96,10 +89,8 @@ program-deathless bytes list =
 module _ (c : Terms) (rs : Returns) (ds : Rates) (sure : ds 0 ≡ 10000) where
   only-death : (v : State → ℕ)
       → expectOver c rs ds 0 (startOf c) (reached (processOf c rs ds) v (startOf c)) ≡ meanOf c rs (deathBy c rs (startOf c))
-  unfolding expectOver meanOf
-  only-death v j =
-      discounted (c .discount)
-      (sum (λ k. rs .weight k * certain (reached (processOf c rs ds) v (startOf c) k) (deathBy c rs (startOf c) k) j) (rs .count))
+  unfolding expectOver
+  only-death v j = meanOf c rs (λ k. certain (reached (processOf c rs ds) v (startOf c) k) (deathBy c rs (startOf c) k) j)
     where
       certain : (value payment : ℕ) → deathShare (ds 0) value payment ≡ payment
       certain value payment = ap (λ (r : ℕ). deathShare r value payment) sure ∙ share-certain value payment

@@ -1,13 +1,14 @@
 -- The fixed-term contract is sound: it owes the third demand nothing more. Assumes nothing.
+use mathlib.Core.Path.{_≡_, ap}
 use Prim.Native.Nat.{ℕ, _+_, _-_, _*_, _≤_, _<_}
 use native.Mathlib.Nat.{le-refl, le-trans, mod-lt, div-lt-iff-lt-mul, mul-le-mul, mul-le-mul-left, mul-pos}
 use native.Mathlib.Omega.{arith}
-use Rattle.decision.specs.Index.{sum-le}
+use Rattle.decision.specs.Index.{sum-le, sum-eq}
 use Rattle.decision.specs.Process.{Monotone, Open, Closed}
 use Rattle.decision.specs.Layers.{Placed, low-digit, high-digit, two-digits}
 use Rattle.rules.specs.Contract.{Terms, Returns, Rates}
 use Rattle.rules.specs.Date.{Behaviour, largestAmount, discounted}
-use Rattle.rules.specs.FixedTerm.{State, Held, InRange, freeIn, admissibleIn, limitIn, afterIn, reachBy, deathBy, expectOver}
+use Rattle.rules.specs.FixedTerm.{State, Held, InRange, freeIn, admissibleIn, limitIn, afterIn, reachBy, deathBy, meanOf, expectOver}
 use Rattle.rules.specs.FixedTerm.{startOf, processOf, layerSize, layoutOf, fixedTerm}
 use Rattle.rules.specs.Operations.{tableSize}
 use Rattle.laws.specs.Accepted.{Valid}
@@ -18,8 +19,13 @@ discounted-le : (d x y : ℕ) → x ≤ y → discounted d x ≤ discounted d y
 unfolding discounted
 discounted-le d x y l = let m = mul-le-mul-left d l in omega arith
 
+-- only the values that the returns reach count
+pub mean-same : (c : Terms) (rs : Returns) {f g : ℕ → ℕ} → ((k : ℕ) → k < rs .count → f k ≡ g k) → meanOf c rs f ≡ meanOf c rs g
+unfolding meanOf
+mean-same c rs h = ap (discounted (c .discount)) (sum-eq _ _ (rs .count) (λ k l. ap (λ (x : ℕ). rs .weight k * x) (h k l)))
+
 pub monotone : (c : Terms) (rs : Returns) (ds : Rates) → Monotone (processOf c rs ds)
-unfolding processOf expectOver
+unfolding processOf meanOf expectOver
 monotone c rs ds i h v w g =
     discounted-le (c .discount) _ _
     (sum-le _ _ (rs .count) (λ k l. mul-le-mul-left (rs .weight k) (share-mono (ds i) (deathBy c rs h k) (g k l))))

@@ -18,7 +18,7 @@ use Rattle.rules.specs.Date.{maturityValue, deathPayment, deathShare, di
 use Rattle.rules.specs.Product.{stateValue, recordedAmount, contractValue, amountLayers, walkState, walkAmount, walkHeld}
 use Rattle.rules.specs.Product.{walkPaid, walkCashOn, walkCashLast, walkCash}
 use Rattle.rules.specs.FixedTerm.{State, freeIn, admissibleIn, limitIn, cashIn, afterIn, reachBy, paidBy, deathBy}
-use Rattle.rules.specs.FixedTerm.{expectOver, startOf, processOf, layerSize, layoutOf, fixedTerm}
+use Rattle.rules.specs.FixedTerm.{meanOf, expectOver, startOf, processOf, layerSize, layoutOf, fixedTerm}
 use Rattle.rules.specs.Refusals.{checkEach, Verdict, accepted, refused, verdict, numberOf, placeOf, onSuccess, outside}
 use Rattle.rules.specs.Refusals.{short, termsChecks, recordChecks, badReturn, listChecks, ratesChecks, inputChecks}
 use Rattle.rules.specs.Operations.{productOf, livingOf, Answer, answer, behaviourNumber, behaviourOf, tableSize, lentChecks}
@@ -198,8 +198,8 @@ pub marked-cases : map (λ r. tell (r .asked)) marked ≡ map (λ r. r .told) ma
 unfolding sum first firstFrom largest smallestBest reached worth valueOver value recorded startValue word long bytesOf termsOf returnsOf
     ratesOf freeAmount largestAmount surrenders admits rateOn penalty cash guaranteeAfter balanceAfter liftedAccount nextAccount excess
     excessPaid maturityValue discounted margin stateValue recordedAmount contractValue freeIn admissibleIn limitIn cashIn afterIn reachBy
-    paidBy deathPayment deathShare deathBy expectOver startOf processOf layerSize layoutOf fixedTerm checkEach verdict numberOf placeOf
-    onSuccess outside short termsChecks recordChecks badReturn listChecks ratesChecks inputChecks productOf answer behaviourNumber
+    paidBy deathPayment deathShare deathBy meanOf expectOver startOf processOf layerSize layoutOf fixedTerm checkEach verdict numberOf
+    placeOf onSuccess outside short termsChecks recordChecks badReturn listChecks ratesChecks inputChecks productOf answer behaviourNumber
     behaviourOf tableSize lentChecks valuingChecks valuingVerdict valuingAnswer amountChecks bookingChecks bookingVerdict bookingBytes
     bookingBuffer packed P P-one P-discounted Q returnsP at unless-refused booked valued valuedWith recordVerdict zeroRates tell row
     marked
@@ -232,8 +232,8 @@ pub step-cases : map (λ r. tell (r .asked)) step-rows ≡ map (λ r. r .told) s
 unfolding sum first firstFrom largest smallestBest reached worth valueOver value recorded startValue word long bytesOf termsOf returnsOf
     ratesOf freeAmount largestAmount surrenders admits rateOn penalty cash guaranteeAfter balanceAfter liftedAccount nextAccount excess
     excessPaid maturityValue discounted margin stateValue recordedAmount contractValue freeIn admissibleIn limitIn cashIn afterIn reachBy
-    paidBy deathPayment deathShare deathBy expectOver startOf processOf layerSize layoutOf fixedTerm checkEach verdict numberOf placeOf
-    onSuccess outside short termsChecks recordChecks badReturn listChecks ratesChecks inputChecks productOf answer behaviourNumber
+    paidBy deathPayment deathShare deathBy meanOf expectOver startOf processOf layerSize layoutOf fixedTerm checkEach verdict numberOf
+    placeOf onSuccess outside short termsChecks recordChecks badReturn listChecks ratesChecks inputChecks productOf answer behaviourNumber
     behaviourOf tableSize lentChecks recordVerdict valuingChecks valuingVerdict valuingAnswer amountChecks bookingChecks bookingVerdict
     bookingBytes bookingBuffer packed P-spare P-step returnsP at unless-refused booked valued valuedWith zeroRates tell row step-rows
 step-cases = refl
@@ -259,11 +259,11 @@ pub map-cases : map (λ r. tell (r .asked)) map-rows ≡ map (λ r. r .told) map
 unfolding sum tabulate first firstFrom largest smallestBest reached worth valueOver value recorded startValue word long bytesOf termsOf
     returnsOf ratesOf freeAmount largestAmount surrenders admits rateOn penalty cash guaranteeAfter balanceAfter liftedAccount nextAccount
     excess excessPaid maturityValue discounted recordedAmount amountLayers layers freeIn admissibleIn limitIn cashIn afterIn reachBy
-    paidBy deathPayment deathShare deathBy expectOver startOf processOf layerSize layoutOf fixedTerm checkEach verdict onSuccess outside
-    short termsChecks recordChecks badReturn listChecks ratesChecks inputChecks productOf behaviourNumber behaviourOf tableSize lentChecks
-    valuingChecks bit fromBits wordsFor wordOf wordsOf setBits surrendered surrenderMap surrenderCount mapSize mapChecks mappingChecks
-    mappingVerdict mappingTable mappingMap mappingCount packed P P-one P-three returnsP unless-refused recordVerdict zeroRates tell row
-    map-rows
+    paidBy deathPayment deathShare deathBy meanOf expectOver startOf processOf layerSize layoutOf fixedTerm checkEach verdict onSuccess
+    outside short termsChecks recordChecks badReturn listChecks ratesChecks inputChecks productOf behaviourNumber behaviourOf tableSize
+    lentChecks valuingChecks bit fromBits wordsFor wordOf wordsOf setBits surrendered surrenderMap surrenderCount mapSize mapChecks
+    mappingChecks mappingVerdict mappingTable mappingMap mappingCount packed P P-one P-three returnsP unless-refused recordVerdict
+    zeroRates tell row map-rows
 map-cases = refl
 
 -- ---- document 02 (iv): contract P with N 3, and its walks along the dynamic table; with top 12, where the first return pays
@@ -289,10 +289,10 @@ unfolding sum tabulate first firstFrom largest smallestBest reached worth valueO
     bytesOf termsOf returnsOf ratesOf freeAmount largestAmount surrenders admits rateOn penalty cash guaranteeAfter balanceAfter
     liftedAccount nextAccount excess excessPaid maturityValue discounted margin recordedAmount contractValue amountLayers walkState
     walkAmount walkHeld walkPaid walkCashOn walkCashLast walkCash lookup layers entry freeIn admissibleIn limitIn cashIn afterIn reachBy
-    paidBy deathPayment deathShare deathBy expectOver startOf processOf layerSize layoutOf fixedTerm checkEach verdict onSuccess outside
-    short termsChecks recordChecks badReturn listChecks ratesChecks inputChecks productOf livingOf answer behaviourNumber behaviourOf
-    tableSize lentChecks valuingChecks valuingVerdict valuingAnswer badDate pathChecks walkChecks walkVerdict walkCashes packed P-three
-    P-tight returnsP unless-refused valued valuedWith recordVerdict zeroRates tell row excess-rows
+    paidBy deathPayment deathShare deathBy meanOf expectOver startOf processOf layerSize layoutOf fixedTerm checkEach verdict onSuccess
+    outside short termsChecks recordChecks badReturn listChecks ratesChecks inputChecks productOf livingOf answer behaviourNumber
+    behaviourOf tableSize lentChecks valuingChecks valuingVerdict valuingAnswer badDate pathChecks walkChecks walkVerdict walkCashes
+    packed P-three P-tight returnsP unless-refused valued valuedWith recordVerdict zeroRates tell row excess-rows
 excess-cases = refl
 
 -- ---- document 02 (v): contract P with death rates, also of three and four periods, of a discount, and of top 12, where a death
@@ -326,7 +326,7 @@ pub death-cases : map (λ r. tell (r .asked)) death-rows ≡ map (λ r. r .told)
 unfolding sum first firstFrom largest smallestBest reached worth valueOver value startValue word long bytesOf termsOf returnsOf ratesOf
     freeAmount largestAmount surrenders admits rateOn penalty cash guaranteeAfter balanceAfter liftedAccount nextAccount excess excessPaid
     maturityValue deathPayment deathShare discounted margin contractValue freeIn admissibleIn limitIn cashIn afterIn reachBy paidBy
-    deathBy expectOver startOf processOf layerSize layoutOf fixedTerm checkEach verdict numberOf placeOf onSuccess outside short
+    deathBy meanOf expectOver startOf processOf layerSize layoutOf fixedTerm checkEach verdict numberOf placeOf onSuccess outside short
     termsChecks recordChecks badReturn listChecks ratesChecks inputChecks productOf answer behaviourNumber behaviourOf tableSize
     lentChecks valuingChecks valuingVerdict valuingAnswer packed packedRates P P-three P-four P-discounted P-tight returnsP unless-refused
     valued valuedWith recordVerdict zeroRates tell row death-rows
@@ -342,10 +342,10 @@ pub printed-P : printed (packed P) returnsP
 unfolding sum first firstFrom largest smallestBest reached worth valueOver value recorded startValue word long bytesOf termsOf returnsOf
     ratesOf freeAmount largestAmount surrenders admits rateOn penalty cash guaranteeAfter balanceAfter liftedAccount nextAccount excess
     excessPaid maturityValue discounted stateValue recordedAmount contractValue freeIn admissibleIn limitIn cashIn afterIn reachBy paidBy
-    deathPayment deathShare deathBy expectOver startOf processOf layerSize layoutOf fixedTerm checkEach verdict outside short termsChecks
-    recordChecks badReturn listChecks ratesChecks inputChecks productOf behaviourNumber tableSize lentChecks valuingChecks valuingVerdict
-    digits decimal numbered line nameOf linesOf valueLine returnLine lineCount valuesText textOf recordVerdict onSuccess zeroRates
-    programVerdict printed packed P returnsP
+    deathPayment deathShare deathBy meanOf expectOver startOf processOf layerSize layoutOf fixedTerm checkEach verdict outside short
+    termsChecks recordChecks badReturn listChecks ratesChecks inputChecks productOf behaviourNumber tableSize lentChecks valuingChecks
+    valuingVerdict digits decimal numbered line nameOf linesOf valueLine returnLine lineCount valuesText textOf recordVerdict onSuccess
+    zeroRates programVerdict printed packed P returnsP
 printed-P = refl
 
 -- "the program lends 4,096 working numbers, refusing by 11 what needs more": two layers of 64 × 32 entries, and of 683 × 3

@@ -63,11 +63,14 @@ deathBy c rs h k =
     let s = reachBy c rs h k in
     deathPayment (s .account) (s .guarantee) (excess (c .fee) (c .top) (h .balance) (rs .factor k))
 
--- "discount × (sum of weight × value reached) / 10,000,000,000", where (v) "Each reached value becomes" its share with the death
--- payment, by the rate of the period that begins on date i, "before weights are applied"
+-- "discount × (sum of weight × value reached) / 10,000,000,000, rounded down once"
+unfoldable pub meanOf : Terms → Returns → (ℕ → ℕ) → ℕ
+meanOf c rs reached = discounted (c .discount) (sum (λ k. rs .weight k * reached k) (rs .count))
+
+-- .. where (v) "Each reached value becomes" its share with the death payment, by the rate of the period that begins on date i,
+-- "before weights are applied"
 unfoldable pub expectOver : Terms → Returns → Rates → ℕ → Held → (ℕ → ℕ) → ℕ
-expectOver c rs ds i h reached =
-    discounted (c .discount) (sum (λ k. rs .weight k * deathShare (ds i) (reached k) (deathBy c rs h k)) (rs .count))
+expectOver c rs ds i h reached = meanOf c rs (λ k. deathShare (ds i) (reached k) (deathBy c rs h k))
 
 -- "Start: balance U and guarantee U, then the first return."
 unfoldable pub startOf : Terms → Held

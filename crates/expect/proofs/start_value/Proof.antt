@@ -9,9 +9,10 @@ use Rattle.laws.specs.Bounds.{entryMost}
 use Rattle.laws.specs.Date.{shared}
 use Rattle.rules.specs.Contract.{Terms, returnsOf, weightMost}
 use Rattle.rules.specs.Date.{discounted}
+use Rattle.rules.specs.FixedTerm.{meanOf}
 use Rattle.contract.specs.Reading.{termsIn}
 use Rattle.slices.specs.Rows.{cells}
-use Rattle.expect.specs.Expected.{reachedFrom, reachedSum, expected}
+use Rattle.expect.specs.Expected.{reachedFrom, expected}
 use Rattle.expect.proofs.Laws.{start-le, return-in, return-number, weight-is, weight-small}
 use Rattle.expect.proofs.start_value.Statement.{statement}
 use Rattle.expect.proofs.start_value.Tie as tie
@@ -97,7 +98,7 @@ discounted-requires c κs =
     (pre .first .layers .valid .discount, omega (arith, c .before .loop .inv .2))
 
 returns : tie.Need-returns Inv-loop μ-loop
-unfolding expected reachedSum
+unfolding expected meanOf
 returns c =
     let start = c .before .before .before .before .before .before in
     let is =
