@@ -7,6 +7,7 @@ use native.Mathlib.Nat.{le-trans, le-of-eq, zero-add, mul-assoc, mul-comm, mul-a
 use native.Mathlib.Decide.{decLe}
 use native.Mathlib.Omega.{arith}
 use lib.ListN.{length, getD}
+use Rattle.rules.specs.Contract.{topMost, rateMost}
 use Rattle.rules.specs.Date.{deathPayment, deathShare}
 use Rattle.laws.specs.Date.{share-living, share-whole, shared}
 use Rattle.laws.specs.Narrow.{lowMost}
@@ -69,7 +70,7 @@ module _ {work : List ℕ} {rate high low stride w : ℕ} (r : Row work rate hig
   cell-at : (a : ℕ) → getD work (w * stride + a) 0 ≡ cells work 0 stride w a
   cell-at a = ap (λ (i : ℕ). getD work i 0) (sym (zero-add (w * stride + a)))
 
-  paid-most : (n : ℕ) → n ≤ 4001 → rate * n ≤ 40010000
+  paid-most : (n : ℕ) → n ≤ topMost + 1 → rate * n ≤ rateMost * (topMost + 1)
   paid-most n l = mul-le-mul (r .halves .rate-is) l
 
   -- the states up to guarantee w, and those from there on

@@ -17,8 +17,8 @@ pub record Halves (rate high low : ℕ) : Type 0 where
 -- n states that are to be shared, from index `from` on
 pub record Run (work : List ℕ) (rate high low from n paid step : ℕ) : Type 0 where
   pub halves : Halves rate high low
-  pub few : n ≤ 4001
-  pub paid-small : paid ≤ 40010000
+  pub few : n ≤ topMost + 1
+  pub paid-small : paid ≤ rateMost * (topMost + 1)
   pub step-small : step ≤ rateMost
   pub room : from + n ≤ length work
   pub small : (j : ℕ) → j < n → getD work (from + j) 0 ≤ lowMost
@@ -27,14 +27,14 @@ pub record Run (work : List ℕ) (rate high low from n paid step : ℕ) : Type 0
 pub record Row (work : List ℕ) (rate high low stride w : ℕ) : Type 0 where
   pub halves : Halves rate high low
   pub account : w ≤ topMost
-  pub width : stride ≤ 4001
+  pub width : stride ≤ topMost + 1
   pub room : w * stride + stride ≤ length work
   pub small : (a : ℕ) → a < stride → cells work 0 stride w a ≤ lowMost
 
 -- .. and the rows below n
 pub record Rows (work : List ℕ) (rate stride n : ℕ) : Type 0 where
   pub rate-is : rate ≤ rateMost
-  pub few : n ≤ 4001
-  pub width : stride ≤ 4001
+  pub few : n ≤ topMost + 1
+  pub width : stride ≤ topMost + 1
   pub room : n * stride ≤ length work
   pub small : (w a : ℕ) → w < n → a < stride → cells work 0 stride w a ≤ lowMost

@@ -5,6 +5,7 @@ use mathlib.Core.Path.{_≡_, refl, ap, _∙_}
 use native.Mathlib.Nat.{le-trans, le-of-eq, mul-le-mul}
 use native.Mathlib.Omega.{arith}
 use Rattle.slices.specs.Stored.{stored, stored-more, length-stored}
+use Rattle.rules.specs.Contract.{topMost, rateMost}
 use Rattle.death.proofs.Laws.{sharedRun, entry-kept}
 use Rattle.death.proofs.share_run.Statement.{statement}
 use Rattle.death.proofs.share_run.Tie as tie
@@ -19,10 +20,10 @@ abbrev μ-loop : tie.MeasureT-loop
 long : (c : tie.In-loop Inv-loop μ-loop) → length (c .before .loop .work) ≡ length (c .before .before .before .args .work .now)
 long c = ap length (c .before .loop .inv .1) ∙ length-stored _ _ _ _
 
-steps : (c : tie.In-loop Inv-loop μ-loop) → c .before .before .before .args .step * c .before .loop .j ≤ 10000 * 4001
+steps : (c : tie.In-loop Inv-loop μ-loop) → c .before .before .before .args .step * c .before .loop .j ≤ rateMost * (topMost + 1)
 steps c =
     let c3 = c .before .before .before in
-    let pre = c3 .pre in mul-le-mul {m₂ = 4001} (pre .step-small) (omega (arith, pre .few, c .loop-test .taken))
+    let pre = c3 .pre in mul-le-mul {m₂ = topMost + 1} (pre .step-small) (omega (arith, pre .few, c .loop-test .taken))
 
 loop-holds : tie.Need-loop-holds Inv-loop μ-loop
 unfolding stored
