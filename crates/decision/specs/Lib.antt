@@ -7,3 +7,5 @@ pub mod Optimal
 pub mod Layers
 pub mod Bounds
 pub mod Arrivals
+pub mod Compare
+pub mod Bisection

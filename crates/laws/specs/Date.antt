@@ -22,7 +22,7 @@ or-right : (a b : Bool) → T b → T (a || b)
 or-right true b p = tt
 or-right false b p = p
 
-or-elim : (a b : Bool) → T (a || b) → T a ⊎ T b
+pub or-elim : (a b : Bool) → T (a || b) → T a ⊎ T b
 or-elim true b p = inl tt
 or-elim false b p = inr p
 
@@ -126,10 +126,13 @@ unfolding admits surrenders
 admits-surrender m w h = or-right (eqb w m) (ltb m w && eqb w w) (and-intro (ltb m w) (eqb w w) (lt→ltb m w h) (eqb-refl w))
 
 -- ---- shares at death
--- more reached is never a smaller share
-pub share-mono : (rate payment : ℕ) {v w : ℕ} → v ≤ w → deathShare rate v payment ≤ deathShare rate w payment
+-- more reached, or more paid at death, is never a smaller share
+pub share-mono : (rate : ℕ) {v w p q : ℕ} → v ≤ w → p ≤ q → deathShare rate v p ≤ deathShare rate w q
 unfolding deathShare
-share-mono rate payment l = let m = mul-le-mul-left (10000 - rate) l in omega arith
+share-mono rate l m =
+    let lives = mul-le-mul-left (10000 - rate) l in
+    let dies = mul-le-mul-left rate m in
+    omega arith
 
 -- rate and complement are 10,000
 whole : (rate x : ℕ) → rate ≤ rateMost → (10000 - rate) * x + rate * x ≡ 10000 * x

@@ -24,11 +24,14 @@ pub mean-same : (c : Terms) (rs : Returns) {f g : ℕ → ℕ} → ((k : ℕ) �
 unfolding meanOf
 mean-same c rs h = ap (discounted (c .discount)) (sum-eq _ _ (rs .count) (λ k l. ap (λ (x : ℕ). rs .weight k * x) (h k l)))
 
+-- .. and more reached is never a smaller mean
+pub mean-mono : (c : Terms) (rs : Returns) {f g : ℕ → ℕ} → ((k : ℕ) → k < rs .count → f k ≤ g k) → meanOf c rs f ≤ meanOf c rs g
+unfolding meanOf
+mean-mono c rs h = discounted-le (c .discount) _ _ (sum-le _ _ (rs .count) (λ k l. mul-le-mul-left (rs .weight k) (h k l)))
+
 pub monotone : (c : Terms) (rs : Returns) (ds : Rates) → Monotone (processOf c rs ds)
-unfolding processOf meanOf expectOver
-monotone c rs ds i h v w g =
-    discounted-le (c .discount) _ _
-    (sum-le _ _ (rs .count) (λ k l. mul-le-mul-left (rs .weight k) (share-mono (ds i) (deathBy c rs h k) (g k l))))
+unfolding processOf expectOver
+monotone c rs ds i h v w g = mean-mono c rs (λ k l. share-mono (ds i) (g k l) (le-refl (deathBy c rs h k)))
 
 pub opened : (c : Terms) (rs : Returns) (ds : Rates) (b : Behaviour) → Open (processOf c rs ds) (admissibleIn c b)
 unfolding processOf admissibleIn limitIn largestAmount

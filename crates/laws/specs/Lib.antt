@@ -15,3 +15,4 @@ pub mod Excess
 pub mod Death
 pub mod Map
 pub mod Narrow
+pub mod Rising

@@ -1,5 +1,5 @@
 -- A slice of which a run of entries is stored in order: what a loop that counts up leaves. Assumes nothing.
-use mathlib.Core.List.{List, [], _∷_, _++_, append-assoc}
+use mathlib.Core.List.{List, _++_, append-assoc}
 use mathlib.Core.Logic.{_⊎_, inl, inr}
 use mathlib.Core.Path.{_≡_, refl, ap, ap₂, sym, _∙_}
 use Prim.Native.Nat.{ℕ, zero, suc, _+_, _-_, _*_, _≤_, _<_}
@@ -9,7 +9,7 @@ use native.Mathlib.Numerals.{add-one}
 use native.Mathlib.Omega.{arith}
 use lib.ListN.{length, getD, set, drop, replicate, length-set, length-append, length-drop, length-replicate, getD-replicate, List·getD-append}
 use lib.Seq.{getD-set-same, getD-set-other, getD-append-add, getD-drop, ext-getD}
-use Rattle.decision.specs.Index.{tabulate, length-tabulate, getD-tabulate}
+use Rattle.decision.specs.Index.{tabulate, length-tabulate, getD-tabulate, tabulate-zeros}
 
 -- l with f 0, f 1, .. f (n - 1) from index `at` on
 unfoldable pub stored : List ℕ → ℕ → (ℕ → ℕ) → ℕ → List ℕ
@@ -155,3 +155,23 @@ stored-zeros l l' f n same fits run rest =
         ∙ getD-append-add (replicate n 0) (drop (2 * n) l) (j - 2 * n) 0
         ∙ getD-drop (2 * n) l (j - 2 * n) 0
         ∙ ap (λ (x : ℕ). getD l x 0) back)
+
+-- .. and zeros from the start: what stood there plays no part
+pub stored-clear : (l l' : List ℕ) (n : ℕ) → length l' ≡ length l → n ≤ length l → ((j : ℕ) → n ≤ j → getD l' j 0 ≡ getD l j 0)
+    → stored l' 0 (λ (i : ℕ). 0) n ≡ replicate n 0 ++ drop n l
+stored-clear l l' n same fits rest =
+    is-stored l (stored l' 0 (λ (i : ℕ). 0) n) 0 (λ (i : ℕ). 0) n (length-stored l' 0 (λ (i : ℕ). 0) n ∙ same) (omega arith)
+    (λ k h. stored-in l' 0 (λ (i : ℕ). 0) n k (omega arith) h) outside
+    ∙ stored-front l (λ (i : ℕ). 0) n fits
+    ∙ ap (λ (xs : List ℕ). xs ++ drop n l) (tabulate-zeros n (λ (i : ℕ). 0) (λ k h. refl))
+  where
+    outside : (j : ℕ) → (j < 0) ⊎ (0 + n ≤ j) → getD (stored l' 0 (λ (i : ℕ). 0) n) j 0 ≡ getD l j 0
+    outside j (inl h) = absurd (omega arith)
+    outside j (inr h) = stored-out l' 0 (λ (i : ℕ). 0) n j (inr h) ∙ rest j (omega arith)
+
+-- two runs from the start, the second of zeros, as one list
+pub stored-two : (l : List ℕ) (f : ℕ → ℕ) (n : ℕ) → n + n ≤ length l
+    → stored (stored l 0 f n) n (λ (i : ℕ). 0) n ≡ tabulate n f ++ replicate n 0 ++ drop (2 * n) l
+stored-two l f n fits =
+    stored-zeros l (stored l 0 f n) f n (length-stored l 0 f n) fits (λ k h. stored-first l f n k (omega arith) h)
+    (λ j h. stored-out l 0 f n j (inr (omega arith)))
