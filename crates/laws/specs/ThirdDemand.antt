@@ -1,20 +1,20 @@
 -- The third demand of what the valuing calls report and leave. Assumes nothing.
 use mathlib.Core.List.{List, _++_}
-use mathlib.Core.Path.{_≡_, refl, ap, sym, _∙_, subst, fun-ext}
+use mathlib.Core.Path.{_≡_, refl, ap, sym, _∙_, subst, subst₂, fun-ext}
 use Prim.Native.Nat.{ℕ}
 use native.Mathlib.Omega.{arith}
 use lib.ListN.{drop}
-use Rattle.decision.specs.Process.{Attained}
-use Rattle.decision.specs.Layers.{lookup}
-use Rattle.rules.specs.Contract.{termsOf, returnsOf, ratesOf}
+use Rattle.rules.specs.Contract.{Terms, Returns, Rates, termsOf, returnsOf, ratesOf}
 use Rattle.rules.specs.Date.{Behaviour, static, mixed, dynamic}
 use Rattle.rules.specs.Product.{contractValue, amountLayers, ThirdDemand, Claim}
+use Rattle.rules.specs.FixedTerm.{fixedTerm}
 use Rattle.rules.specs.Refusals.{accepted, onSuccess}
-use Rattle.rules.specs.Operations.{productOf, answer, behaviourNumber, behaviourOf, tableSize, valuingChecks, valuingVerdict, valuingAnswer, valuingTable}
-use Rattle.laws.specs.Accepted.{ValidInput, Positive, zero-accepts, then-earlier, input-valid}
+use Rattle.rules.specs.Operations.{productOf, answer, behaviourNumber, behaviourOf, tableSize, valuingChecks, valuingVerdict}
+use Rattle.rules.specs.Operations.{valuingAnswer, valuingTable, aloneChecks, aloneVerdict, aloneAnswer}
+use Rattle.laws.specs.Accepted.{Valid, ValidInput, Positive, zero-accepts, then-earlier, input-valid}
 use Rattle.laws.specs.Demand.{table-attains, demand}
 use Rattle.laws.specs.FixedTerm.{sound}
-use Rattle.rules.specs.Facts.{valuing-order}
+use Rattle.rules.specs.Facts.{valuing-order, alone-order}
 
 -- the number of a behaviour is its own
 pub behaviour-number : (b : Behaviour) → behaviourOf (behaviourNumber b) ≡ b
@@ -22,6 +22,11 @@ unfolding behaviourOf behaviourNumber
 behaviour-number static = refl
 behaviour-number mixed = refl
 behaviour-number dynamic = refl
+
+-- the claim of a contract's value and of any table that starts with its recorded amounts
+pub product-claim : (c : Terms) (rs : Returns) (ds : Rates) → Valid c → (b : Behaviour) (rest : List ℕ)
+    → Claim (fixedTerm c rs ds) b (contractValue (fixedTerm c rs ds) b) (amountLayers (fixedTerm c rs ds) b ++ rest)
+product-claim c rs ds v b rest = record { value = refl; attained = table-attains (fixedTerm c rs ds) (sound c rs ds v) b rest }
 
 module _ (bytes list rates : List ℕ) (behaviour : ℕ) (work table : List ℕ) where
   -- a valuing call that answers number 0 has accepted its input
@@ -55,14 +60,25 @@ module _ (bytes list rates : List ℕ) (behaviour : ℕ) (work table : List ℕ)
   unfolding productOf
   valuing-claim zero-number =
       let yes-to = valuing-accepts zero-number in
-      let X = productOf bytes list rates in
-      let b = behaviourOf behaviour in record {
-        value = valuing-reports yes-to;
-        attained =
-            subst (λ (t : List ℕ). Attained (X .process) (X .admissible b) (X .layout .InRange) (lookup (X .layout) t)) (sym (valuing-leaves yes-to))
-            (table-attains X (sound (termsOf bytes) (returnsOf list) (ratesOf rates) (valuing-valid yes-to .terms)) b
-            (drop (tableSize (termsOf bytes)) table));
-      }
+      subst₂ (Claim (productOf bytes list rates) (behaviourOf behaviour)) (sym (valuing-reports yes-to)) (sym (valuing-leaves yes-to))
+      (product-claim (termsOf bytes) (returnsOf list) (ratesOf rates) (valuing-valid yes-to .terms) (behaviourOf behaviour)
+      (drop (tableSize (termsOf bytes)) table))
+
+-- .. and of the call with no table, for any table that starts with the recorded amounts
+module _ (bytes list rates : List ℕ) (behaviour : ℕ) (work : List ℕ) where
+  alone-accepts : aloneAnswer bytes list rates behaviour work .number ≡ 0 → aloneVerdict bytes list rates behaviour work ≡ accepted
+  unfolding aloneAnswer answer aloneVerdict Positive
+  alone-accepts e = zero-accepts (aloneChecks bytes list rates behaviour work) (rw alone-order (omega arith)) e
+
+  pub alone-claim : aloneAnswer bytes list rates behaviour work .number ≡ 0 → (rest : List ℕ)
+      → Claim (productOf bytes list rates) (behaviourOf behaviour) (aloneAnswer bytes list rates behaviour work .value)
+      (amountLayers (productOf bytes list rates) (behaviourOf behaviour) ++ rest)
+  unfolding productOf aloneAnswer aloneVerdict aloneChecks answer onSuccess
+  alone-claim zero-number rest =
+      let yes-to = alone-accepts zero-number in
+      rw yes-to
+      (product-claim (termsOf bytes) (returnsOf list) (ratesOf rates) (input-valid bytes list rates (then-earlier _ _ yes-to) .terms)
+      (behaviourOf behaviour) rest)
 
 -- THE THIRD DEMAND, whatever terms, returns and death rates are accepted. Where the valuing calls of the three behaviours answer
 -- number 0, whatever slices each was lent: the value each reports is its behaviour's, and of the tables that they leave the whole

@@ -26,7 +26,7 @@ use Rattle.laws.specs.Accepted.{Valid, then-earlier, input-both, refusal-keeps}
 use Rattle.laws.specs.Date.{account-le}
 use Rattle.laws.specs.Demand.{table-filled}
 use Rattle.laws.specs.FixedTerm.{sound}
-use Rattle.laws.specs.Valuing.{valuing-room}
+use Rattle.laws.specs.Valuing.{valuing-alone}
 use Rattle.laws.specs.ThirdDemand.{valuing-accepts, valuing-valid, valuing-reports, valuing-leaves}
 use Rattle.contract.specs.declared.Contract.{Contract}
 use Rattle.contract.specs.Reading.{termsIn}
@@ -127,7 +127,7 @@ module _ (bytes list : List ℕ) where
       let work = replicate {A = ℕ} 4096 0 in
       let table = replicate {A = ℕ} 16384 0 in
       let c = termsOf bytes in
-      let within = valuing-room bytes list (zeroRates bytes) 0 work table a .entries in
+      let within = valuing-alone bytes list (zeroRates bytes) 0 work table a .1 in
       let room = subst (λ (n : ℕ). tableSize c ≤ n) (length-replicate {A = ℕ} 16384 0) within in
       record {
         accepts = input-both bytes list (zeroRates bytes) (then-earlier _ _ a);

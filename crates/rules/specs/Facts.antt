@@ -17,7 +17,7 @@ use Rattle.rules.specs.Date.{liftedAccount, nextAccount, excess, deathSh
 use Rattle.rules.specs.Refusals.{checkEach, numbers, termsChecks, recordChecks, listChecks, ratesChecks, inputChecks}
 use Rattle.rules.specs.Printed.{digits, decimal}
 use Rattle.rules.specs.Operations.{lentChecks, valuingChecks, tableChecks, suppliedChecks, amountChecks, bookingChecks}
-use Rattle.rules.specs.Operations.{pathChecks, walkChecks}
+use Rattle.rules.specs.Operations.{pathChecks, walkChecks, workChecks, aloneChecks}
 use Rattle.rules.specs.Map.{mapChecks, mappingChecks}
 
 -- ---- "Checks run in the order of the table; an operation makes those for which it has the input."
@@ -36,6 +36,12 @@ pub mapping-order : (bytes list rates : List ℕ) (behaviour : ℕ) (work table 
     ≡ 1 ∷ 2 ∷ 3 ∷ 4 ∷ 5 ∷ 6 ∷ 15 ∷ 7 ∷ 8 ∷ 9 ∷ 17 ∷ 18 ∷ 10 ∷ 11 ∷ 16 ∷ []
 unfolding numbers termsChecks recordChecks listChecks ratesChecks inputChecks lentChecks valuingChecks checkEach mapChecks mappingChecks
 mapping-order bytes list rates behaviour work table map = refl
+
+pub alone-order : (bytes list rates : List ℕ) (behaviour : ℕ) (work : List ℕ)
+    → numbers (aloneChecks bytes list rates behaviour work)
+    ≡ 1 ∷ 2 ∷ 3 ∷ 4 ∷ 5 ∷ 6 ∷ 15 ∷ 7 ∷ 8 ∷ 9 ∷ 17 ∷ 18 ∷ 10 ∷ 11 ∷ []
+unfolding numbers termsChecks recordChecks listChecks ratesChecks inputChecks workChecks aloneChecks checkEach
+alone-order bytes list rates behaviour work = refl
 
 pub supplied-order : (bytes list rates work table : List ℕ)
     → numbers (suppliedChecks bytes list rates work table)

@@ -100,6 +100,24 @@ unfoldable pub valuingTable : List ℕ → List ℕ → List ℕ → ℕ → Lis
 valuingTable bytes list rates behaviour work table =
     valuedTable (valuingVerdict bytes list rates behaviour work table) bytes list rates behaviour table
 
+-- ---- valuing a contract with no table: the checks that need none, and the values' half of what valuing reports and leaves
+unfoldable pub workChecks : Terms → ℕ → List ℕ → List Check
+workChecks c behaviour work = check 10 0 (ltb 2 behaviour) ∷ check 11 0 (short (2 * layerSize c) work) ∷ []
+
+unfoldable pub aloneChecks : List ℕ → List ℕ → List ℕ → ℕ → List ℕ → List Check
+aloneChecks bytes list rates behaviour work = inputChecks bytes list rates ++ workChecks (termsOf bytes) behaviour work
+
+unfoldable pub aloneVerdict : List ℕ → List ℕ → List ℕ → ℕ → List ℕ → Verdict
+aloneVerdict bytes list rates behaviour work = verdict (aloneChecks bytes list rates behaviour work)
+
+unfoldable pub aloneAnswer : List ℕ → List ℕ → List ℕ → ℕ → List ℕ → Answer
+aloneAnswer bytes list rates behaviour work =
+    valuedAnswer (aloneVerdict bytes list rates behaviour work) bytes list rates behaviour
+
+unfoldable pub aloneWork : List ℕ → List ℕ → List ℕ → ℕ → List ℕ → List ℕ
+aloneWork bytes list rates behaviour work =
+    valuedWork (aloneVerdict bytes list rates behaviour work) bytes list rates behaviour work
+
 -- ---- valuing a supplied table
 -- "checked in every entry, reachable or not, against the dynamic set": amount t at entry e of a layer, and entry e of a table
 unfoldable pub badAt : Terms → ℕ → ℕ → Bool

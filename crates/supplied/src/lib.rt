@@ -1,5 +1,6 @@
 // Valuing a supplied table: every entry checked, then followed date by date.
 ghost use mathlib.Core.Path.{_≡_};
+ghost use mathlib.Core.Bool.{_||_};
 ghost use Prim.Native.Nat.{ℕ, _+_, _*_, _≤_, _<_, max};
 ghost use lib.ListN.{length, getD};
 ghost use Rattle.decision.specs.Index.{first};
@@ -7,7 +8,8 @@ ghost use Rattle.slices.specs.Stored.{stored};
 ghost use Rattle.slices.specs.Rows.{flat};
 ghost use Rattle.rules.specs.Contract.{returnsOf, ratesOf};
 ghost use Rattle.rules.specs.Date.{freeAmount};
-ghost use Rattle.rules.specs.Refusals.{verdict};
+ghost use Rattle.rules.specs.FixedTerm.{layerSize};
+ghost use Rattle.rules.specs.Refusals.{verdict, short};
 ghost use Rattle.rules.specs.Operations.{tableSize, badAt, badEntry, tableChecks};
 ghost use Rattle.laws.specs.Accepted.{Valid};
 ghost use Rattle.contract.specs.Reading.{termsIn};
@@ -143,6 +145,17 @@ fn follow_dates(work: &mut [u64], table: &[u16], list: &[u8], rates: &[u8], c: C
     }
 }
 
+// Refusal 11.
+fn too_short(c: Contract, work: &[u64], table: &[u16]) -> bool
+    requires { ⌜ Valid (termsIn c) ⌝ }
+    ensures { λ r. ⌜ r ≡ (short (2 * layerSize (termsIn c)) (now (work .entry)) || short (tableSize (termsIn c)) (now (table .entry))) ⌝ }
+{
+    if work.len() < 2 * c.layer_size() {
+        return true;
+    }
+    table.len() < c.table_size()
+}
+
 // Values a table under terms, returns and rates that were read.
 fn valued(c: Contract, list: &[u8], rates: &[u8], work: &mut [u64], table: &[u16]) -> Answer
     requires { ⌜ Given (termsIn c) (now list) (now rates) ⌝ }
@@ -152,7 +165,7 @@ fn valued(c: Contract, list: &[u8], rates: &[u8], work: &mut [u64], table: &[u16
         (now (work .entry)) (now (table .entry)) r (now (work .exit))
         ⌝ }
 {
-    if valuing::too_short(c, &work[..], table) {
+    if too_short(c, &work[..], table) {
         return valuing::refused(Outcome {
             number: 11,
             place: 0,

@@ -1,5 +1,5 @@
 -- The margin's arithmetic, and the layers as the rules write them. Assumes nothing.
-use mathlib.Core.Bool.{Bool, true, false, cond, _||_}
+use mathlib.Core.Bool.{Bool, true, false, cond}
 use mathlib.Core.List.{List, _++_}
 use mathlib.Core.Logic.{inl, inr, _⊎_}
 use mathlib.Core.Path.{_≡_, refl, ap, ap₂, sym, _∙_, subst}
@@ -15,28 +15,29 @@ use Rattle.decision.specs.Process.{startValue, Attained}
 use Rattle.decision.specs.Layers.{lookup, layer, layers}
 use Rattle.slices.specs.Stored.{stored, length-stored, is-stored, stored-front}
 use Rattle.slices.specs.Rows.{cells, flat}
-use Rattle.rules.specs.Contract.{Terms, Returns, Rates, rateMost}
+use Rattle.rules.specs.Contract.{Terms, Returns, Rates, termsOf, returnsOf, ratesOf, rateMost}
 use Rattle.rules.specs.Date.{Behaviour, maturityValue, margin}
 use Rattle.rules.specs.Product.{contractValue, valueLayer, amountLayers, stateValue, recordedAmount}
 use Rattle.rules.specs.FixedTerm.{fixedTerm, processOf, startOf, layoutOf, layerSize}
-use Rattle.rules.specs.Refusals.{refused, verdict, numberOf, placeOf, onSuccess, short, inputChecks}
-use Rattle.rules.specs.Operations.{productOf, answer, workAfter, behaviourOf, tableSize, lentChecks, valuingChecks}
-use Rattle.rules.specs.Operations.{valuingVerdict, valuingAnswer, valuingWork, valuingTable}
+use Rattle.rules.specs.Refusals.{accepted, refused, verdict, numberOf, placeOf, onSuccess, short, inputChecks}
+use Rattle.rules.specs.Operations.{productOf, answer, workAfter, behaviourOf, tableSize, valuingVerdict, valuingAnswer, valuingWork}
+use Rattle.rules.specs.Operations.{valuingTable, workChecks, aloneChecks, aloneVerdict, aloneAnswer, aloneWork}
 use Rattle.laws.specs.Date.{shared}
-use Rattle.laws.specs.Accepted.{Valid, then-accepted, then-refused, input-valid}
+use Rattle.laws.specs.Accepted.{Valid, andThen, then-accepted, then-refused, input-valid}
 use Rattle.laws.specs.FixedTerm.{size-some}
-use Rattle.laws.specs.ThirdDemand.{valuing-claim}
-use Rattle.laws.specs.Valuing.{behaviour-refused, lent-refused, lent-accepted}
+use Rattle.laws.specs.ThirdDemand.{valuing-claim, alone-claim}
+use Rattle.laws.specs.Valuing.{behaviour-refused, work-refused, work-accepted, tableCheck, table-last}
 use Rattle.contract.specs.declared.Agreement.the-variants as agreement
 use Rattle.contract.specs.declared.Contract.{Contract}
 use Rattle.contract.specs.declared.Outcome.{Outcome}
 use Rattle.contract.specs.declared.Returns as listed
-use Rattle.contract.specs.Accepted.{Agreed, input-not-read}
+use Rattle.contract.specs.Accepted.{Agreed, disagreed, input-not-read}
 use Rattle.contract.specs.Reading.{termsIn, contractOf, outcomeAt, inputRead}
 use Rattle.expect.specs.Expected.{expected, shared-same}
 use Rattle.dates.specs.Back.{at, valuesOn, shared-expects, Valued, Starting}
 use Rattle.valuing.specs.declared.Answer as declared
-use Rattle.valuing.specs.Answered.{valuingAgreed, Alone, Settled, Answered, Reported, Valuing}
+use Rattle.valuing.specs.Answered.{answerOf, refusal, aloneAgreed, valuingAgreed, Alone, Settled, Worked, Answered}
+use Rattle.valuing.specs.Answered.{Reported, Valuing, ValuingAlone}
 use Rattle.valuing.specs.First.{First, first-layer, first-from, first-mature}
 
 pub diff : (a b : ℕ) → pos a -ℤ pos b ≡ subℕ a b
@@ -142,39 +143,65 @@ answered {b} {c} {rs} {ds} r work'' room small d s =
       table-is = λ all. table-layers d all (size-some c);
     }
 
--- ---- the checks of a valuation, one after the other
-module _ (bytes list rates : List ℕ) (behaviour : ℕ) (work table : List ℕ) where
-  check-refused : (n p : ℕ) → valuingVerdict bytes list rates behaviour work table ≡ refused n p
-      → agreement.Refused (outcomeAt n p) ≡ valuingAgreed bytes list rates behaviour work table
+-- ---- the checks of a valuation, one after the other: those that need no table ..
+module _ (bytes list rates : List ℕ) (behaviour : ℕ) (work : List ℕ) where
+  check-refused : (n p : ℕ) → aloneVerdict bytes list rates behaviour work ≡ refused n p
+      → agreement.Refused (outcomeAt n p) ≡ aloneAgreed bytes list rates behaviour work
   check-refused n p e = rw e
 
   pub check-read : (o : Outcome) → inputRead bytes list rates ≡ agreement.Refused o
-      → agreement.Refused o ≡ valuingAgreed bytes list rates behaviour work table
-  unfolding valuingVerdict valuingChecks
+      → agreement.Refused o ≡ aloneAgreed bytes list rates behaviour work
+  unfolding aloneVerdict aloneChecks
   check-read o e =
       check-refused (o .number) (o .place) (then-refused (inputChecks bytes list rates) _ (input-not-read bytes list rates o e))
 
   module _ {c : Contract} {rs : listed.Returns} (known : Agreed (verdict (inputChecks bytes list rates)) bytes list c rs) where
-    lently : valuingVerdict bytes list rates behaviour work table ≡ verdict (lentChecks (termsIn c) behaviour work table)
-    unfolding valuingVerdict valuingChecks
-    lently = rw (known .terms) (then-accepted (inputChecks bytes list rates) _ (known .accepts))
+    working : aloneVerdict bytes list rates behaviour work ≡ verdict (workChecks (termsIn c) behaviour work)
+    unfolding aloneVerdict aloneChecks
+    working = rw (known .terms) (then-accepted (inputChecks bytes list rates) _ (known .accepts))
 
     pub check-valid : Valid (termsIn c)
     check-valid = rw (known .terms) (input-valid bytes list rates (known .accepts) .terms)
 
-    pub check-behaviour : ltb 2 behaviour ≡ true
-        → agreement.Refused (outcomeAt 10 0) ≡ valuingAgreed bytes list rates behaviour work table
-    check-behaviour e = check-refused 10 0 (lently ∙ behaviour-refused (termsIn c) behaviour work table e)
+    pub check-behaviour : ltb 2 behaviour ≡ true → agreement.Refused (outcomeAt 10 0) ≡ aloneAgreed bytes list rates behaviour work
+    check-behaviour e = check-refused 10 0 (working ∙ behaviour-refused (termsIn c) behaviour work e)
 
-    pub check-short : ltb 2 behaviour ≡ false → (short (2 * layerSize (termsIn c)) work || short (tableSize (termsIn c)) table) ≡ true
-        → agreement.Refused (outcomeAt 11 0) ≡ valuingAgreed bytes list rates behaviour work table
-    check-short e f = check-refused 11 0 (lently ∙ lent-refused (termsIn c) behaviour work table e f)
+    pub check-work : ltb 2 behaviour ≡ false → short (2 * layerSize (termsIn c)) work ≡ true
+        → agreement.Refused (outcomeAt 11 0) ≡ aloneAgreed bytes list rates behaviour work
+    check-work e f = check-refused 11 0 (working ∙ work-refused (termsIn c) behaviour work e f)
 
-    pub check-passed : ltb 2 behaviour ≡ false → (short (2 * layerSize (termsIn c)) work || short (tableSize (termsIn c)) table) ≡ false
-        → agreement.Accepted c rs ≡ valuingAgreed bytes list rates behaviour work table
+    pub check-passed : ltb 2 behaviour ≡ false → short (2 * layerSize (termsIn c)) work ≡ false
+        → agreement.Accepted c rs ≡ aloneAgreed bytes list rates behaviour work
     check-passed e f =
-        rw (lently ∙ lent-accepted (termsIn c) behaviour work table e f)
+        rw (working ∙ work-accepted (termsIn c) behaviour work e f)
         (ap₂ agreement.Accepted (ap contractOf (known .terms)) (ap (λ (n : ℕ). record { count = n }) (known .count)))
+
+-- .. and that of the table
+module _ (bytes list rates : List ℕ) (behaviour : ℕ) (work table : List ℕ) where
+  pub table-refused : (o : Outcome) → aloneAgreed bytes list rates behaviour work ≡ agreement.Refused o
+      → agreement.Refused o ≡ valuingAgreed bytes list rates behaviour work table
+  table-refused o e =
+      rw (table-last bytes list rates behaviour work table, disagreed (aloneVerdict bytes list rates behaviour work) bytes list o e)
+
+  module _ {c : Contract} {rs : listed.Returns}
+      (told : Agreed (aloneVerdict bytes list rates behaviour work) bytes list c rs)
+    where
+      last : valuingVerdict bytes list rates behaviour work table ≡ verdict (tableCheck (termsIn c) table)
+      last =
+          table-last bytes list rates behaviour work table
+          ∙ (λ i. andThen (told .accepts i) (verdict (tableCheck (sym (told .terms) i) table)))
+
+      pub table-short : short (tableSize (termsIn c)) table ≡ true
+          → agreement.Refused (outcomeAt 11 0) ≡ valuingAgreed bytes list rates behaviour work table
+      unfolding verdict
+      table-short e = rw (last, e)
+
+      pub table-passed : short (tableSize (termsIn c)) table ≡ false
+          → agreement.Accepted c rs ≡ valuingAgreed bytes list rates behaviour work table
+      unfolding verdict
+      table-passed e =
+          rw (last, e)
+          (ap₂ agreement.Accepted (ap contractOf (told .terms)) (ap (λ (n : ℕ). record { count = n }) (told .count)))
 
 -- ---- what a call answers, on any input: the claim follows from the equations
 pub valuing : (bytes list rates : List ℕ) (behaviour : ℕ) (work table : List ℕ) {r : declared.Answer} {work' table' : List ℕ}
@@ -197,3 +224,28 @@ valuing bytes list rates behaviour work table w = record {
             (sym (w .table-is)) (told .attained);
       };
 }
+
+-- .. and with no table
+module _ (bytes list rates : List ℕ) (behaviour : ℕ) (work : List ℕ) {r : declared.Answer} where
+  alone : {work' : List ℕ} → r ≡ answerOf (aloneAnswer bytes list rates behaviour work) → work' ≡ aloneWork bytes list rates behaviour work
+      → ValuingAlone bytes list rates behaviour work r work'
+  alone is left = record {
+    answer-is = is;
+    work-is = left;
+    claim = λ zero-number rest.
+        let number = ap (λ (x : declared.Answer). x .number) (sym is) ∙ zero-number in
+        rw (ap (λ (x : declared.Answer). x .value) is) (alone-claim bytes list rates behaviour work number rest);
+  }
+
+  pub alone-refused : (n p : ℕ) → aloneVerdict bytes list rates behaviour work ≡ refused n p → r ≡ refusal n p
+      → ValuingAlone bytes list rates behaviour work r work
+  unfolding aloneAnswer aloneWork answer workAfter onSuccess numberOf placeOf
+  alone-refused n p e f = alone (rw e f) (rw e)
+
+  pub alone-valued : {work' : List ℕ} {c : Terms} → aloneVerdict bytes list rates behaviour work ≡ accepted → c ≡ termsOf bytes
+      → Worked (behaviourOf behaviour) c (returnsOf list) (ratesOf rates) work r work'
+      → ValuingAlone bytes list rates behaviour work r work'
+  unfolding aloneAnswer aloneWork productOf
+  alone-valued {work' = work'} e same w =
+      let v = subst (λ (x : Terms). Worked (behaviourOf behaviour) x (returnsOf list) (ratesOf rates) work r work') same w in
+      alone (rw e (v .answer-is)) (rw e (v .work-is))

@@ -12,7 +12,7 @@ use Rattle.rules.specs.Product.{contractValue, valueLayer, amountLayers, Claim}
 use Rattle.rules.specs.FixedTerm.{fixedTerm, layerSize}
 use Rattle.rules.specs.Refusals.{Verdict, accepted, refused, numberOf, placeOf, onSuccess}
 use Rattle.rules.specs.Operations.{productOf, Answer, answer, workAfter, behaviourOf, tableSize, valuingVerdict, valuedAnswer}
-use Rattle.rules.specs.Operations.{valuedWork, valuedTable, valuingAnswer, valuingWork, valuingTable}
+use Rattle.rules.specs.Operations.{valuedWork, valuedTable, valuingAnswer, valuingWork, valuingTable, aloneVerdict, aloneAnswer, aloneWork}
 use Rattle.laws.specs.Date.{shared}
 use Rattle.expect.specs.Expected.{expected, Values}
 use Rattle.contract.specs.Accepted.{Given}
@@ -31,6 +31,11 @@ refusal n p = record { number = n; place = p; value = 0; margin = pos 0 }
 abbrev pub valuingAgreed : List ℕ → List ℕ → List ℕ → ℕ → List ℕ → List ℕ → Agreement
 valuingAgreed bytes list rates behaviour work table =
     agreementOf (valuingVerdict bytes list rates behaviour work table) (termsOf bytes) (returnsOf list .count)
+
+-- .. without a table
+abbrev pub aloneAgreed : List ℕ → List ℕ → List ℕ → ℕ → List ℕ → Agreement
+aloneAgreed bytes list rates behaviour work =
+    agreementOf (aloneVerdict bytes list rates behaviour work) (termsOf bytes) (returnsOf list .count)
 
 -- terms, returns and rates that were read, and a working slice that is long enough, under a behaviour
 pub record Alone (behaviour : ℕ) (c : Terms) (list rates work : List ℕ) : Type 0 where
@@ -85,6 +90,15 @@ pub record Valuing (bytes list rates : List ℕ) (behaviour : ℕ) (work table :
     pub work-is : work' ≡ valuingWork bytes list rates behaviour work table
     pub table-is : table' ≡ valuingTable bytes list rates behaviour work table
     pub claim : r .number ≡ 0 → Claim (productOf bytes list rates) (behaviourOf behaviour) (r .value) table'
+
+-- WHAT VALUING WITH NO TABLE ANSWERS AND LEAVES: the values' half of the same, and the claim of the value that it reports and of any
+-- table that starts with the recorded amounts
+pub record ValuingAlone (bytes list rates : List ℕ) (behaviour : ℕ) (work : List ℕ) (r : declared.Answer) (work' : List ℕ) : Type 0 where
+  pub answer-is : r ≡ answerOf (aloneAnswer bytes list rates behaviour work)
+  pub work-is : work' ≡ aloneWork bytes list rates behaviour work
+  pub claim : r .number ≡ 0 → (rest : List ℕ)
+      → Claim (productOf bytes list rates) (behaviourOf behaviour) (r .value)
+      (amountLayers (productOf bytes list rates) (behaviourOf behaviour) ++ rest)
 
 module _ {v : Verdict} {bytes list rates : List ℕ} {behaviour : ℕ} {work table : List ℕ} {r : declared.Answer} where
   pub reported-refused : (n p : ℕ) → v ≡ refused n p → r ≡ refusal n p → Reported v bytes list rates behaviour work table r work table

@@ -2,28 +2,28 @@
 use mathlib.Core.List.{List, _++_}
 use mathlib.Core.Logic.{inr}
 use mathlib.Core.Path.{_≡_, ap, sym, _∙_}
-use Prim.Native.Nat.{ℕ, _+_, _-_, _*_, _/_, _%_, _≤_, _<_}
+use Prim.Native.Nat.{ℕ, _+_, _*_, _/_, _%_, _≤_, _<_}
 use native.Mathlib.Nat.{le-trans, le-of-eq, mod-lt, div-add-mod', div-lt-iff-lt-mul}
 use native.Mathlib.Omega.{arith}
 use lib.ListN.{length, getD, drop, replicate}
 use Rattle.decision.specs.Index.{tabulate}
 use Rattle.slices.specs.Stored.{stored, length-stored, stored-out, stored-zeros}
 use Rattle.slices.specs.Rows.{cells, flat, layer-stored}
-use Rattle.rules.specs.Contract.{Terms}
+use Rattle.rules.specs.Contract.{Terms, termsOf}
 use Rattle.rules.specs.Date.{maturityValue}
 use Rattle.rules.specs.FixedTerm.{layerSize}
-use Rattle.rules.specs.Refusals.{inputChecks}
-use Rattle.rules.specs.Operations.{valuingChecks, valuingVerdict}
+use Rattle.rules.specs.Refusals.{accepted, inputChecks}
+use Rattle.rules.specs.Operations.{valuingVerdict, aloneChecks, aloneVerdict}
 use Rattle.laws.specs.Accepted.{then-earlier}
 use Rattle.laws.specs.Bounds.{stateMost}
-use Rattle.laws.specs.Valuing.{valuing-room}
+use Rattle.laws.specs.Valuing.{alone-room, valuing-alone}
 use Rattle.contract.specs.declared.Outcome.{Outcome}
 use Rattle.contract.specs.declared.Contract.{Contract}
 use Rattle.contract.specs.declared.Returns.{Returns}
 use Rattle.contract.specs.Reading.{termsIn}
 use Rattle.contract.specs.Accepted.{Agreed, Given, given}
 use Rattle.valuing.specs.declared.Answer as declared
-use Rattle.valuing.specs.Answered.{refusal, Lent, Settling}
+use Rattle.valuing.specs.Answered.{refusal, Alone, Lent, Settling}
 
 -- the first layer holds f, and what stands behind both layers is kept
 pub record First (f : ℕ → ℕ → ℕ) (c : Terms) (work work' : List ℕ) : Type 0 where
@@ -80,17 +80,23 @@ settling given room v most = record {
 abbrev pub refused-by : Outcome → declared.Answer
 refused-by o = refusal (o .number) (o .place)
 
--- what a valuation that is accepted was given
+-- what a valuation that is accepted was given: without a table ..
+pub lent-alone : (bytes list rates : List ℕ) (behaviour : ℕ) (work : List ℕ) {c : Contract}
+    → aloneVerdict bytes list rates behaviour work ≡ accepted → termsIn c ≡ termsOf bytes → Alone behaviour (termsIn c) list rates work
+unfolding aloneVerdict aloneChecks
+lent-alone bytes list rates behaviour work accepts terms =
+    let room = alone-room bytes list rates behaviour work accepts in record {
+      known = room .known;
+      given = given bytes list rates (then-earlier (inputChecks bytes list rates) _ accepts) terms;
+      room = rw terms (room .layers);
+    }
+
+-- .. and with one
 pub lent : (bytes list rates : List ℕ) (behaviour : ℕ) (work table : List ℕ) {c : Contract} {rs : Returns}
     → Agreed (valuingVerdict bytes list rates behaviour work table) bytes list c rs
     → Lent behaviour (termsIn c) list rates work table
-unfolding valuingVerdict valuingChecks
 lent bytes list rates behaviour work table told =
-    let room = valuing-room bytes list rates behaviour work table (told .accepts) in record {
-      alone = record {
-        known = room .known;
-        given = given bytes list rates (then-earlier (inputChecks bytes list rates) _ (told .accepts)) (told .terms);
-        room = rw (told .terms) (room .layers);
-      };
-      room-table = rw (told .terms) (room .entries);
+    let both = valuing-alone bytes list rates behaviour work table (told .accepts) in record {
+      alone = lent-alone bytes list rates behaviour work (both .0) (told .terms);
+      room-table = rw (told .terms) (both .1);
     }

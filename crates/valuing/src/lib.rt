@@ -1,16 +1,13 @@
 // Valuing a contract under one of the three behaviours.
 ghost use mathlib.Core.Path.{_≡_};
-ghost use mathlib.Core.Bool.{_||_};
-ghost use Prim.Native.Nat.{_*_, _≤_};
+ghost use Prim.Native.Nat.{_≤_};
 ghost use Rattle.rules.specs.Contract.{topMost, returnsOf, ratesOf};
 ghost use Rattle.laws.specs.Bounds.{entryMost};
 ghost use Rattle.rules.specs.Date.{margin};
-ghost use Rattle.rules.specs.FixedTerm.{layerSize};
-ghost use Rattle.rules.specs.Refusals.{short};
-ghost use Rattle.rules.specs.Operations.{behaviourOf, tableSize};
-ghost use Rattle.laws.specs.Accepted.{Valid};
+ghost use Rattle.rules.specs.Operations.{behaviourOf};
 ghost use Rattle.contract.specs.Reading.{termsIn};
-ghost use Rattle.valuing.specs.Answered.{refusal, valuingAgreed, Alone, Settling, Settled, Worked, Answered, Valuing};
+ghost use Rattle.valuing.specs.Answered.{refusal, aloneAgreed, valuingAgreed, Alone, Settling, Settled, Worked};
+ghost use Rattle.valuing.specs.Answered.{Answered, Valuing, ValuingAlone};
 use contract::Agreement;
 use contract::Contract;
 use contract::Outcome;
@@ -40,17 +37,6 @@ pub fn refused(outcome: Outcome) -> Answer
     }
 }
 
-// Refusal 11.
-pub fn too_short(c: Contract, work: &[u64], table: &[u16]) -> bool
-    requires { ⌜ Valid (termsIn c) ⌝ }
-    ensures { λ r. ⌜ r ≡ (short (2 * layerSize (termsIn c)) (now (work .entry)) || short (tableSize (termsIn c)) (now (table .entry))) ⌝ }
-{
-    if work.len() < 2 * c.layer_size() {
-        return true;
-    }
-    table.len() < c.table_size()
-}
-
 // The answer and the working slice, once the first layer holds the values of date 1.
 pub fn settle(work: &mut [u64], list: &[u8], rates: &[u8], c: Contract) -> Answer
     requires { ⌜ Settling (termsIn c) (now work) (now list) (now rates) ⌝ }
@@ -70,7 +56,36 @@ pub fn settle(work: &mut [u64], list: &[u8], rates: &[u8], c: Contract) -> Answe
     }
 }
 
-// What a valuation is given, checked in order: record, list, rates, behaviour, the lengths of the slices.
+// What a valuation is given, checked in order: record, list, rates, behaviour, the length of the working slice.
+pub fn check_alone(
+    bytes: &[u8],
+    list: &[u8],
+    rates: &[u8],
+    behaviour: usize,
+    work: &[u64],
+) -> Agreement
+    ensures { λ r. ⌜ r ≡ aloneAgreed (now (bytes .entry)) (now (list .entry)) (now (rates .entry)) behaviour (now (work .entry)) ⌝ }
+{
+    let agreement = contract::read_all(bytes, list, rates);
+    let Agreement::Accepted(c, _) = agreement else {
+        return agreement;
+    };
+    if 2 < behaviour {
+        return Agreement::Refused(Outcome {
+            number: 10,
+            place: 0,
+        });
+    }
+    if work.len() < 2 * c.layer_size() {
+        return Agreement::Refused(Outcome {
+            number: 11,
+            place: 0,
+        });
+    }
+    agreement
+}
+
+// .. and then the length of the table.
 pub fn check(
     bytes: &[u8],
     list: &[u8],
@@ -85,17 +100,11 @@ pub fn check(
         (now (table .entry))
         ⌝ }
 {
-    let agreement = contract::read_all(bytes, list, rates);
+    let agreement = check_alone(bytes, list, rates, behaviour, work);
     let Agreement::Accepted(c, _) = agreement else {
         return agreement;
     };
-    if 2 < behaviour {
-        return Agreement::Refused(Outcome {
-            number: 10,
-            place: 0,
-        });
-    }
-    if too_short(c, work, table) {
+    if table.len() < c.table_size() {
         return Agreement::Refused(Outcome {
             number: 11,
             place: 0,
@@ -161,4 +170,24 @@ pub fn value(
         return refused(agreement.outcome());
     };
     valued(c, list, rates, behaviour, work, table)
+}
+
+// .. with no table: answers number, place, value and margin.
+pub fn value_alone(
+    bytes: &[u8],
+    list: &[u8],
+    rates: &[u8],
+    behaviour: usize,
+    work: &mut [u64],
+) -> Answer
+    ensures { λ r. ⌜
+        ValuingAlone (now (bytes .entry)) (now (list .entry)) (now (rates .entry)) behaviour (now (work .entry)) r
+        (now (work .exit))
+        ⌝ }
+{
+    let agreement = check_alone(bytes, list, rates, behaviour, &work[..]);
+    let Agreement::Accepted(c, _) = agreement else {
+        return refused(agreement.outcome());
+    };
+    valued_alone(c, list, rates, behaviour, work)
 }

@@ -40,7 +40,7 @@ first-bad-requires c κs =
     let args = c7 .args in
     let pre = c7 .pre in (
       pre .valid .terms,
-      lent-room (termsIn (args .c)) 0 (args .work .now) (args .table .now)
+      lent-room (termsIn (args .c)) (args .work .now) (args .table .now)
           (sym (c .before .too-short .ensures) ∙ c .if1 .left) .1,
     )
 
@@ -106,7 +106,7 @@ fill-maturity-requires c κs =
     let too-short = c9 .too-short in
     let if1 = c8 .if1 in
     let v = pre .valid .terms in
-    let r = lent-room (termsIn (args .c)) 0 (args .work .now) (args .table .now) (sym (too-short .ensures) ∙ if1 .left) in
+    let r = lent-room (termsIn (args .c)) (args .work .now) (args .table .now) (sym (too-short .ensures) ∙ if1 .left) in
     (omega (arith, v .top), omega (arith, v .top, v .premium), omega (arith, r .0))
 
 follow-dates-requires : tie.Need-follow-dates-requires
@@ -126,7 +126,7 @@ follow-dates-requires c κs =
     let first-bad = c11 .first-bad in
     let if2 = c7 .if2 in
     let fill-maturity = c3 .fill-maturity in
-    let r = lent-room (termsIn (args .c)) 0 work₀ (args .table .now) (sym (too-short .ensures) ∙ if1 .left) in
+    let r = lent-room (termsIn (args .c)) work₀ (args .table .now) (sym (too-short .ensures) ∙ if1 .left) in
     starting work₀ pre (r .0) (r .1) (rw (sym (first-bad .ensures)) (if2 .left)) (fill-maturity .ensures)
 
 settle-requires : tie.Need-settle-requires
@@ -149,7 +149,7 @@ settle-requires c κs =
     let fill-maturity = c7 .fill-maturity in
     let follow-dates = c3 .follow-dates in
     let d = first-from _ (fill-maturity .ensures) (follow-dates .ensures) in
-    let r = lent-room (termsIn (args .c)) 0 work₀ (args .table .now) (sym (too-short .ensures) ∙ if1 .left) in
+    let r = lent-room (termsIn (args .c)) work₀ (args .table .now) (sym (too-short .ensures) ∙ if1 .left) in
     let c₀ = termsIn (args .c) in
     let none : tableSize c₀ ≤ first (badEntry c₀ (args .table .now)) (tableSize c₀) = rw (sym (first-bad .ensures)) (if2 .left) in
     settling pre (r .0) d
@@ -184,7 +184,7 @@ returns-3 c =
     let none =
     sym (ap (λ (x : ℕ). ltb x ((args .c .dates - 1) * ((args .c .top + 1) * (args .c .premium + 1)))) (first-bad .ensures))
     ∙ le-ltb _ _ (if2 .left) in
-    answered-accepted _ _ (table-accepted (termsIn c₀) work₀ table₀ long none) (lent-room (termsIn c₀) 0 work₀ table₀ long .0)
+    answered-accepted _ _ (table-accepted (termsIn c₀) work₀ table₀ long none) (lent-room (termsIn c₀) work₀ table₀ long .0)
     (c26 .pre .valid .rates .rate 0) d (settle .ensures)
 
 pub valued-spec : {M : Type 1} → statement M

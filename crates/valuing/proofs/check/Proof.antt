@@ -2,13 +2,15 @@
 use borrow.Author.Needs.{needs}
 use borrow.Author.Tests.{lt-ltb, le-ltb}
 use mathlib.Core.Path.{sym, _∙_}
-use Rattle.contract.specs.Accepted.{input-read}
-use Rattle.valuing.proofs.Laws.{check-read, check-valid, check-behaviour, check-short, check-passed}
+use Rattle.contract.specs.Accepted.{agreed}
+use Rattle.rules.specs.Refusals.{short}
+use Rattle.valuing.specs.First.{lent-alone}
+use Rattle.valuing.proofs.Laws.{table-refused, table-short, table-passed}
 use Rattle.valuing.proofs.check.Statement.{statement}
 use Rattle.valuing.proofs.check.Tie as tie
 
-read-all-requires : tie.Need-read-all-requires
-read-all-requires c κs = search needs
+check-alone-requires : tie.Need-check-alone-requires
+check-alone-requires c κs = search needs
 
 enum-known-agreement : tie.Need-enum-known-agreement
 enum-known-agreement c = search needs
@@ -19,45 +21,31 @@ enum-told c = search needs
 returns : tie.Need-returns
 returns c =
     let told = c .enum-told .given .1 in
-    told ∙ check-read _ _ _ _ _ _ _ (sym (c .before .before .read-all .ensures) ∙ told)
+    told ∙ table-refused _ _ _ _ _ _ _ (sym (c .before .before .check-alone .ensures) ∙ told)
+
+table-size-requires : tie.Need-table-size-requires
+table-size-requires c κs =
+    let c3 = c .before .before .before in
+    let told = agreed _ _ _ _ _ (sym (c3 .check-alone .ensures) ∙ c .before .agreement .given .1) in
+    lent-alone _ _ _ _ _ (told .accepts) (told .terms) .given .valid .terms
 
 returns-2 : tie.Need-returns-2
+unfolding short
 returns-2 c =
-    let c4 = c .before .before .before .before in
-    let known = input-read _ _ _ _ _ (sym (c4 .read-all .ensures) ∙ c .before .before .agreement .given .1) in
-    check-behaviour _ _ _ _ _ _ known (lt-ltb _ _ (c .if1 .taken))
-
-too-short-requires : tie.Need-too-short-requires
-too-short-requires c κs =
-    let c4 = c .before .before .before .before in
-    let c10 = c4 .before .before .before .before .before .before in
-    let args = c10 .args in
-    let known = input-read _ _ _ _ _ (sym (c4 .read-all .ensures) ∙ c .before .before .agreement .given .1) in
-    check-valid _ _ _ (args .behaviour) (args .work .now) (args .table .now) known
+    let c3 = c .before .before .before in
+    let c5 = c3 .before .before in
+    let told = agreed _ _ _ _ _ (sym (c5 .check-alone .ensures) ∙ c3 .agreement .given .1) in
+    table-short _ _ _ _ _ _ told (lt-ltb _ _ (rw (c .before .table-size .ensures .0) at (c .if1 .taken)))
 
 returns-3 : tie.Need-returns-3
+unfolding short
 returns-3 c =
-    let c4 = c .before .before .before .before in
-    let c6 = c4 .before .before in
-    let known = input-read _ _ _ _ _ (sym (c6 .read-all .ensures) ∙ c4 .agreement .given .1) in
-    check-short _ _ _ _ _ _ known (le-ltb _ _ (c .before .before .if1 .left)) (sym (c .before .too-short .ensures) ∙ c .if2 .taken)
-
-returns-4 : tie.Need-returns-4
-returns-4 c =
-    let c4 = c .before .before .before .before in
-    let c6 = c4 .before .before in
-    let known = input-read _ _ _ _ _ (sym (c6 .read-all .ensures) ∙ c4 .agreement .given .1) in
-    check-passed _ _ _ _ _ _ known (le-ltb _ _ (c .before .before .if1 .left)) (sym (c .before .too-short .ensures) ∙ c .if2 .left)
+    let c3 = c .before .before .before in
+    let c5 = c3 .before .before in
+    let told = agreed _ _ _ _ _ (sym (c5 .check-alone .ensures) ∙ c3 .agreement .given .1) in
+    table-passed _ _ _ _ _ _ told (le-ltb _ _ (rw (c .before .table-size .ensures .0) at (c .if1 .left)))
 
 pub check-spec : {M : Type 1} → statement M
 check-spec =
     tie.close
-    (tie.spec
-    read-all-requires
-    enum-known-agreement
-    enum-told
-    returns
-    returns-2
-    too-short-requires
-    returns-3
-    returns-4)
+    (tie.spec check-alone-requires enum-known-agreement enum-told returns table-size-requires returns-2 returns-3)

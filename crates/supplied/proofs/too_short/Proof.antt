@@ -1,4 +1,4 @@
--- `valuing::too_short` meets its contract. Assumes nothing.
+-- `supplied::too_short` meets its contract. Assumes nothing.
 use Prim.Native.Nat.{ℕ}
 use borrow.Author.Needs.{needs}
 use borrow.Author.Tests.{lt-ltb, le-ltb}
@@ -6,8 +6,8 @@ use lib.Dec.{ltb}
 use lib.ListN.{length}
 use mathlib.Core.Path.{ap}
 use Rattle.rules.specs.Refusals.{short}
-use Rattle.valuing.proofs.too_short.Statement.{statement}
-use Rattle.valuing.proofs.too_short.Tie as tie
+use Rattle.supplied.proofs.too_short.Statement.{statement}
+use Rattle.supplied.proofs.too_short.Tie as tie
 
 layer-size-requires : tie.Need-layer-size-requires
 layer-size-requires c κs = search needs
