@@ -1,9 +1,11 @@
 //! `check`: all programs against the plain one on random small contracts, with ties frequent,
 //! many with returns that lift accounts above top, most with death rates, some spoilt so that they
-//! are refused; without a map of surrender and with one.
+//! are refused; without a map of surrender and with one, the engine also without a table. Engine
+//! and tuned search for fees on all of them, the plain program on some small ones.
 
 use crate::inputs::{Input, Return, Terms, DYNAMIC, SPARE};
-use crate::programs::{Program, ENGINE, ENGINE_MAP, PLAIN, PLAIN_MAP, TUNED, TUNED_MAP};
+use crate::programs::{Program, ENGINE, ENGINE_ALONE, ENGINE_FEE, ENGINE_MAP};
+use crate::programs::{PLAIN, PLAIN_FEE, PLAIN_MAP, TUNED, TUNED_FEE, TUNED_MAP};
 
 const CONTRACTS: u64 = 600;
 
@@ -131,16 +133,95 @@ fn large_values(rate: u16, behaviour: u64) -> Input {
 
 /// The plain program, then the others, without a map and with one.
 const ALIKE: [[Program; 3]; 2] = [[PLAIN, TUNED, ENGINE], [PLAIN_MAP, TUNED_MAP, ENGINE_MAP]];
+const WITHOUT_TABLE: [Program; 2] = [PLAIN, ENGINE_ALONE];
+const SEARCHING: [Program; 3] = [PLAIN_FEE, TUNED_FEE, ENGINE_FEE];
 
-/// Gives the number told, and whether the other programs agree with the plain one.
-fn agree(name: &str, input: &Input, [plain, others @ ..]: [Program; 3]) -> (u64, bool) {
-    let (outcome, _) = plain.run(input);
+/// The ends of 64 bits, of them as a signed number, and around the value at some fee.
+fn some_wanted(draw: &mut Draw, input: &Input) -> [u64; 7] {
+    let fee = draw.one_of(&[0, 1, 9_999, 10_000], 0, 10_000);
+    let value = TUNED.run(&input.at_fee(fee as u16)).0.told.value;
+    let signed = i64::MAX as u64;
+    [
+        0,
+        value.saturating_sub(1),
+        value,
+        value + 1,
+        signed,
+        signed + 1,
+        u64::MAX,
+    ]
+}
+
+/// How many comparisons there were, by the answer.
+#[derive(Default)]
+struct Count {
+    accepted: u64,
+    refused: u64,
+    differing: u64,
+}
+
+impl Count {
+    fn compare(&mut self, name: &str, input: &Input, programs: &[Program]) {
+        let (number, equal) = agree(name, input, programs);
+        self.accepted += u64::from(number == 0);
+        self.refused += u64::from(number != 0);
+        self.differing += u64::from(!equal);
+    }
+}
+
+#[derive(Default)]
+struct Counts {
+    valued: Count,
+    without_table: Count,
+    found: Count,
+}
+
+impl Counts {
+    fn compare_valuing(&mut self, name: &str, input: &Input) {
+        for programs in ALIKE {
+            self.valued.compare(name, input, &programs);
+        }
+    }
+
+    fn compare_searching(&mut self, name: &str, input: &Input, all: &[u64], programs: &[Program]) {
+        for wanted in all {
+            let input = Input {
+                wanted: *wanted,
+                ..input.clone()
+            };
+            let name = format!("{name}, wanted {wanted}");
+            self.found.compare(&name, &input, programs);
+        }
+    }
+
+    /// Prints the counts and gives whether all programs agree.
+    fn tell(&self) -> bool {
+        let counts = [
+            ("valued", &self.valued),
+            ("valued without a table", &self.without_table),
+            ("fees found", &self.found),
+        ];
+        for (what, count) in counts {
+            let (refused, differing) = (count.refused, count.differing);
+            println!(
+                "check: {} {what}, {refused} refused, {differing} differ",
+                count.accepted
+            );
+        }
+        counts.iter().all(|(_, count)| count.differing == 0)
+    }
+}
+
+/// Gives the number told, and whether the other programs agree with the first one.
+fn agree(name: &str, input: &Input, programs: &[Program]) -> (u64, bool) {
+    let (first, others) = (programs[0], &programs[1..]);
+    let (outcome, _) = first.run(input);
     let differs = |program: &Program| {
         let difference = program.run(input).0.difference(&outcome);
         if let Some(what) = &difference {
             eprintln!(
                 "differ: {name}: {} from {}: {what}",
-                program.name, plain.name
+                program.name, first.name
             );
         }
         difference.is_some()
@@ -152,34 +233,42 @@ fn agree(name: &str, input: &Input, [plain, others @ ..]: [Program; 3]) -> (u64,
 /// Makes all comparisons, prints how many and gives whether all programs agree.
 pub fn run() -> bool {
     let mut draw = Draw(20_240_601);
-    let (mut valued, mut refused, mut differing) = (0, 0, 0);
-    let mut compare = |name: String, input: &Input| {
-        for programs in ALIKE {
-            let (number, equal) = agree(&name, input, programs);
-            valued += u64::from(number == 0);
-            refused += u64::from(number != 0);
-            differing += u64::from(!equal);
-        }
-    };
+    let mut counts = Counts::default();
     for k in 0..CONTRACTS {
-        let mut terms = random_terms(&mut draw, if k % 10 == 0 { 60 } else { 16 });
+        // Plain tries fees in order, so it searches few contracts, and small ones.
+        let (most_top, searching) = match k % 10 {
+            0 => (60, &SEARCHING[1..]),
+            5 => (5, &SEARCHING[..]),
+            _ => (16, &SEARCHING[1..]),
+        };
+        let mut terms = random_terms(&mut draw, most_top);
         let mut returns = random_returns(&mut draw);
         if k % 3 == 0 {
             lift(&mut draw, &mut terms, &mut returns);
         }
         let rates = random_rates(&mut draw, terms.dates);
         for behaviour in 0..=DYNAMIC {
-            let mut input = terms.input(&returns, &rates, behaviour);
+            let input = terms.input(&returns, &rates, behaviour);
+            let wanted = some_wanted(&mut draw, &input);
+            let mut spoilt = input.clone();
+            spoil(&mut draw, &mut spoilt);
             let name = format!("contract {k}, behaviour {behaviour}");
-            compare(name.clone(), &input);
-            spoil(&mut draw, &mut input);
-            compare(format!("spoilt {name}"), &input);
+            let table_len = input.table_len;
+            for (name, input) in [(name.clone(), input), (format!("spoilt {name}"), spoilt)] {
+                counts.compare_valuing(&name, &input);
+                counts.compare_searching(&name, &input, &wanted, searching);
+                // Only plain would refuse a table that is too short.
+                let lent = Input { table_len, ..input };
+                counts.without_table.compare(&name, &lent, &WITHOUT_TABLE);
+            }
         }
     }
     for (rate, behaviour) in [(0, 0), (0, 1), (0, DYNAMIC), (1, 0), (1, 1), (1, DYNAMIC)] {
         let name = format!("large values, rates {rate}, behaviour {behaviour}");
-        compare(name, &large_values(rate, behaviour));
+        let input = large_values(rate, behaviour);
+        let wanted = some_wanted(&mut draw, &input);
+        counts.compare_valuing(&name, &input);
+        counts.compare_searching(&name, &input, &wanted, &SEARCHING[1..]);
     }
-    println!("check: {valued} valued, {refused} refused, {differing} differ");
-    differing == 0
+    counts.tell()
 }

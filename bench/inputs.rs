@@ -23,7 +23,7 @@ pub struct Terms {
 /// Factor and weight.
 pub type Return = (u16, u16);
 
-/// What a valuing call is given.
+/// What a call is given.
 #[derive(Clone)]
 pub struct Input {
     pub record: Vec<u8>,
@@ -34,6 +34,17 @@ pub struct Input {
     pub table_len: usize,
     /// Lent where the call takes a map.
     pub map_len: usize,
+    /// Given where the call searches for a fee. At first the premium: what the contract costs.
+    pub wanted: u64,
+}
+
+impl Input {
+    /// With another fee in the record.
+    pub fn at_fee(&self, fee: u16) -> Input {
+        let mut other = self.clone();
+        other.record[8..10].copy_from_slice(&fee.to_le_bytes());
+        other
+    }
 }
 
 impl Terms {
@@ -66,6 +77,7 @@ impl Terms {
             work_len: 2 * layer + SPARE,
             table_len: entries + SPARE,
             map_len: entries.div_ceil(64) + SPARE,
+            wanted: 10_000 * u64::from(self.premium),
         }
     }
 }

@@ -1,5 +1,5 @@
 //! Times the proved engine against the plain program and the tuned one, in one process and on
-//! the same inputs. Exit status 1 if their answers, tables, working slices or maps differ.
+//! the same inputs. Exit status 1 if their answers, tables, working slices, maps or fees differ.
 //! With the word `check` it times nothing and compares them on random small contracts.
 
 mod check;
@@ -10,7 +10,8 @@ mod programs;
 mod tuned;
 
 use inputs::{size, Input, Size, DYNAMIC, MIXED, STATIC};
-use programs::{Outcome, Program, ENGINE, ENGINE_MAP, PLAIN, TUNED, TUNED_MAP};
+use programs::{Outcome, Program, ENGINE, ENGINE_ALONE, ENGINE_FEE, ENGINE_MAP};
+use programs::{PLAIN, TUNED, TUNED_FEE, TUNED_MAP};
 use std::process::ExitCode;
 use std::thread;
 
@@ -108,6 +109,16 @@ const TIMED: [(&str, u64, Size); 15] = [
     ),
     ("static, deaths", STATIC, dying(size(400, 200, 10, 20, 32))),
     ("mixed, deaths", MIXED, dying(size(400, 200, 10, 20, 32))),
+];
+
+/// Where a fee is searched for, and the tenths of the premium wanted. Even without a fee these
+/// contracts are worth less than their premium, so that fee 0 gives it; nine tenths need a fee.
+const SEARCHED: [(&str, u64, Size, u64); 5] = [
+    ("dynamic", DYNAMIC, at_penalty(500), 10),
+    ("dynamic", DYNAMIC, at_penalty(500), 9),
+    ("static", STATIC, at_penalty(500), 9),
+    ("mixed", MIXED, at_penalty(500), 9),
+    ("dynamic, deaths", DYNAMIC, dying(at_penalty(500)), 9),
 ];
 
 /// Tables of growth: a heading, and sizes of which each doubles one thing.
@@ -368,6 +379,57 @@ fn time_deaths() -> bool {
     right
 }
 
+/// Engine and tuned searching for a fee, beside the engine's valuations at the fee found. Medians,
+/// as with death rates.
+fn time_fees() -> bool {
+    println!("\nsearch for a fee (top 400, U 200, G 10, N 20, 32 returns)");
+    println!("seconds, median of several runs; valuations are the engine's at the fee found, without a table and with one");
+    println!("every fee: what trying the fees in order from 0 to the one found would take. It was not run: it is their number");
+    println!("times the mean of the engine's valuations without a table at 0, at half the fee found and at the fee found");
+    println!("                          valuation                           search");
+    println!("behaviour         wanted    without       with  without/with     engine  engine/without      tuned  tuned/engine   fee  every fee");
+    let mut right = true;
+    for (name, behaviour, size, tenths) in &SEARCHED {
+        let mut input = size.input(*behaviour);
+        input.wanted = input.wanted / 10 * tenths;
+        let fee = ENGINE_FEE.run(&input).0.told.fee.unwrap_or(0);
+        let tried = [0, fee / 2, fee].map(|fee| input.at_fee(fee as u16));
+        let pairs = [
+            (ENGINE_FEE, &input),
+            (TUNED_FEE, &input),
+            (ENGINE, &tried[2]),
+            (ENGINE_ALONE, &tried[0]),
+            (ENGINE_ALONE, &tried[1]),
+            (ENGINE_ALONE, &tried[2]),
+        ];
+        let (timings, equal) = run_in_turn(&pairs);
+        right &= equal && is_value_found(&timings[0], &timings[2]);
+        let medians: Vec<f64> = timings.iter().map(Timing::median).collect();
+        let [engine, tuned, with, at_zero, at_half, without] = medians[..] else {
+            return false;
+        };
+        let mean = (at_zero + at_half + without) / 3.0;
+        println!(
+            "{name:<15}{:>9}{without:>11.5}{with:>11.5}{:>14.3}{engine:>11.5}{:>16.2}{tuned:>11.5}{:>14.3}{fee:>6}{:>11.3}",
+            input.wanted,
+            without / with,
+            engine / without,
+            tuned / engine,
+            mean * (fee + 1) as f64
+        );
+    }
+    right
+}
+
+/// Whether a search tells the value of the fee it found.
+fn is_value_found(search: &Timing, at_found: &Timing) -> bool {
+    let (told, value) = (&search.outcome.told, at_found.outcome.told.value);
+    if told.value != value {
+        eprintln!("differ: {}: {told:?} and {value}", search.program.name);
+    }
+    told.value == value
+}
+
 fn time_all() -> bool {
     let cores = thread::available_parallelism().map_or(0, |n| n.get());
     println!("cores   {cores}; each program uses one");
@@ -381,9 +443,10 @@ fn time_all() -> bool {
     right &= time_rates("steps from penalty 2,000", "step", &STEPS, |s| s.step);
     right &= time_maps();
     right &= time_deaths();
+    right &= time_fees();
     if right {
         println!(
-            "\nnumbers, values, margins, tables, working slices, maps and counts are equal among all that ran"
+            "\nnumbers, values, margins, tables, working slices, maps, counts and fees are equal among all that ran"
         );
     }
     right

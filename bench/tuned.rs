@@ -20,9 +20,12 @@
 //! is at hand. Date 1's are left as they are, and of them only those that the first return reaches
 //! are shared. At maturity there is nothing to share, since death pays what maturity does.
 //!
+//! A search for a fee reads its contract once and values it without a table, so that no amount is
+//! stored; the layers are cleared once, at its end.
+//!
 //! A value reached is at most 81 × 10,000 × 4,000 = 3,240,000,000, below 2^32; a key is below 2^45.
 
-use crate::gmwb::{Mapped, Valued};
+use crate::gmwb::{Found, Mapped, Valued};
 
 const UNIT: u64 = 10_000;
 
@@ -272,6 +275,26 @@ struct Contract {
     rates: Vec<u64>,
 }
 
+fn read_contract(
+    record: &[u8],
+    list: &[u8],
+    rates: &[u8],
+    behaviour: u64,
+    work: &[u64],
+) -> Result<Contract, Refusal> {
+    let terms = read_terms(record)?;
+    let returns = read_returns(list)?;
+    let rates = read_rates(&terms, rates)?;
+    refuse_if(behaviour > 2, 10, 0)?;
+    refuse_if(work.len() < 2 * terms.layer(), 11, 0)?;
+    Ok(Contract {
+        terms,
+        returns,
+        rates,
+    })
+}
+
+/// The same where a table is lent.
 fn read_valuing(
     record: &[u8],
     list: &[u8],
@@ -280,21 +303,27 @@ fn read_valuing(
     work: &[u64],
     table: &[u16],
 ) -> Result<Contract, Refusal> {
-    let terms = read_terms(record)?;
-    let returns = read_returns(list)?;
-    let rates = read_rates(&terms, rates)?;
-    refuse_if(behaviour > 2, 10, 0)?;
-    let short = work.len() < 2 * terms.layer() || table.len() < terms.entries();
-    refuse_if(short, 11, 0)?;
-    Ok(Contract {
-        terms,
-        returns,
-        rates,
-    })
+    let contract = read_contract(record, list, rates, behaviour, work)?;
+    refuse_if(table.len() < contract.terms.entries(), 11, 0)?;
+    Ok(contract)
 }
 
 /// Fills working slice and table; gives value and margin.
 fn fill_table(
+    contract: &Contract,
+    behaviour: u64,
+    work: &mut [u64],
+    table: &mut [u16],
+) -> (u64, i64) {
+    let layer = contract.terms.layer();
+    let figures = fill_dates(contract, behaviour, work, table);
+    work[layer..2 * layer].fill(0);
+    figures
+}
+
+/// Values all dates, with a table or, where it is empty, without one; gives value and margin. The
+/// second layer is left as it comes.
+fn fill_dates(
     contract: &Contract,
     behaviour: u64,
     work: &mut [u64],
@@ -308,8 +337,8 @@ fn fill_table(
     let layer = terms.layer();
     let (values, expected) = work[..2 * layer].split_at_mut(layer);
     fill_maturity(terms, values);
-    let layers = table[..terms.entries()].chunks_exact_mut(layer).enumerate();
-    for (index, amounts) in layers.rev() {
+    for index in (0..terms.dates - 1).rev() {
+        let amounts = part(table, index, layer);
         let net = terms.net(index + 1);
         let most = terms.most(terms.dates - 2 - index);
         expect_layer(terms, returns, most, values, expected);
@@ -325,8 +354,16 @@ fn fill_table(
             _ => decide_dynamic(terms, net, values, expected, amounts, decided),
         }
     }
-    expected.fill(0);
     value_at_start(contract, values)
+}
+
+/// The part of that index among parts of a length: the layer of a date, the row of an account.
+/// Empty where no table is lent.
+fn part(amounts: &mut [u16], index: usize, length: usize) -> &mut [u16] {
+    if amounts.is_empty() {
+        return amounts;
+    }
+    &mut amounts[index * length..][..length]
 }
 
 /// Shared already, whatever the rate: death pays the same.
@@ -465,8 +502,14 @@ fn offer(states: &mut [u64], sums: &[u64], key: u64) {
     }
 }
 
-/// Leaves the values of a row of keys and stores their amounts.
+/// Leaves the values of a row of keys and stores their amounts, if there is a place for them.
 fn take_apart(row: &mut [u64], amounts: &mut [u16]) {
+    if amounts.is_empty() {
+        for key in row {
+            *key /= SPAN;
+        }
+        return;
+    }
     for (key, amount) in row.iter_mut().zip(amounts) {
         // SPAN - 1 less the remainder, by bits.
         *amount = !(*key as u16) % SPAN as u16;
@@ -506,14 +549,15 @@ fn decide_static(
     decided: impl Fn(usize, &mut [u64]),
 ) {
     let (stride, level) = (terms.stride(), terms.level);
-    let rows = values.chunks_exact_mut(stride);
-    for (account, (row, drawn)) in rows.zip(amounts.chunks_exact_mut(stride)).enumerate() {
+    for (account, row) in values.chunks_exact_mut(stride).enumerate() {
         let value = |m, e| UNIT * m as u64 + e / SPAN;
         fill_by_m(terms, expected, account, row, value);
-        for (m, amount) in drawn[..level].iter_mut().enumerate() {
+        let drawn = part(amounts, account, stride);
+        let (below, from_level) = drawn.split_at_mut(level.min(drawn.len()));
+        for (m, amount) in below.iter_mut().enumerate() {
             *amount = m as u16;
         }
-        drawn[level..].fill(level as u16);
+        from_level.fill(level as u16);
         decided(account, row);
     }
 }
@@ -532,8 +576,7 @@ fn decide_mixed(
         let cash = UNIT * m as u64 + net * (account - m) as u64;
         key(cash, account) + expected[0]
     };
-    let rows = values.chunks_exact_mut(stride);
-    for (account, (row, drawn)) in rows.zip(amounts.chunks_exact_mut(stride)).enumerate() {
+    for (account, row) in values.chunks_exact_mut(stride).enumerate() {
         let withdrawal = |m, e| key(UNIT * m as u64, m) + e;
         fill_by_m(terms, expected, account, row, withdrawal);
         for m in 0..account.min(level) {
@@ -545,7 +588,7 @@ fn decide_mixed(
                 *held = larger(*held, other);
             }
         }
-        take_apart(row, drawn);
+        take_apart(row, part(amounts, account, stride));
         decided(account, row);
     }
 }
@@ -571,7 +614,7 @@ fn decide_dynamic(
         try_up_to_level(terms, expected, account, row);
         try_above_level(terms, net, below, account, row);
         try_above_level_reset(terms, net, expected, account, rising, row);
-        take_apart(row, &mut amounts[account * stride..][..stride]);
+        take_apart(row, part(amounts, account, stride));
         decided(account, row);
     }
 }
@@ -727,6 +770,64 @@ fn offer_shares(states: &mut [u64], kept: &[u64], key: u64, low: u64, share: u64
         }
         product += share;
     }
+}
+
+// ---------------------------------------------------- The search for a fee
+
+/// Searches for the smallest fee whose value is at most the one wanted; the checks and the answer
+/// are those of second/gmwb.rs.
+pub fn fee(
+    record: &[u8],
+    list: &[u8],
+    rates: &[u8],
+    behaviour: u64,
+    wanted: u64,
+    work: &mut [u64],
+) -> Found {
+    let result = try_fee(record, list, rates, behaviour, wanted, work);
+    Found {
+        valued: told(result.map(|(_, figures)| figures)),
+        fee: result.map_or(0, |(fee, _)| fee),
+    }
+}
+
+/// Gives fee, value and margin.
+fn try_fee(
+    record: &[u8],
+    list: &[u8],
+    rates: &[u8],
+    behaviour: u64,
+    wanted: u64,
+    work: &mut [u64],
+) -> Result<(u64, (u64, i64)), Refusal> {
+    let mut contract = read_contract(record, list, rates, behaviour, work)?;
+    let found = smallest_fee(&mut contract, behaviour, wanted, work);
+    work[..2 * contract.terms.layer()].fill(0);
+    found.ok_or((19, 0))
+}
+
+/// By halves, since a larger fee never gives a larger value: below `low` every fee gives more than
+/// wanted, and from `high` on none does. What is left is cut by a power of two from the top: at most
+/// 14 valuations, and fewer for small fees, whose valuations also take less.
+fn smallest_fee(
+    contract: &mut Contract,
+    behaviour: u64,
+    wanted: u64,
+    work: &mut [u64],
+) -> Option<(u64, (u64, i64))> {
+    let (mut low, mut high, mut found) = (0, UNIT + 1, None);
+    while low < high {
+        let fee = high - (1 << (high - low).ilog2());
+        contract.terms.fee = fee;
+        let figures = fill_dates(contract, behaviour, work, &mut []);
+        if figures.0 <= wanted {
+            high = fee;
+            found = Some((fee, figures));
+        } else {
+            low = fee + 1;
+        }
+    }
+    found
 }
 
 // ---------------------------------------------------- The map of surrender

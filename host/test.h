@@ -36,6 +36,12 @@ uint32_t second_value_map(const uint8_t *record, size_t record_len,
                           uint16_t *table, size_t table_len,
                           uint64_t *map, size_t map_len,
                           uint64_t *place, uint64_t *value, int64_t *margin, uint64_t *count);
+uint32_t second_fee(const uint8_t *record, size_t record_len,
+                    const uint8_t *list, size_t list_len,
+                    const uint8_t *rates, size_t rates_len,
+                    uint64_t behaviour, uint64_t wanted,
+                    uint64_t *work, size_t work_len,
+                    uint64_t *place, uint64_t *fee, uint64_t *value, int64_t *margin);
 uint32_t second_value_table(const uint8_t *record, size_t record_len,
                             const uint8_t *list, size_t list_len,
                             const uint8_t *rates, size_t rates_len,
@@ -117,7 +123,7 @@ static inline int verdict(const char *name)
 }
 
 /* Numbers that calls answer, for counting them; any other counts as 0. */
-enum { NUMBERS = GMWB_REFUSED_DEATH_RATE + 1 };
+enum { NUMBERS = GMWB_REFUSED_WANTED + 1 };
 
 static inline void tally(uint64_t *came, uint32_t number)
 {
@@ -240,7 +246,7 @@ static inline void same_slice(const char *name, struct lent got, struct lent exp
 struct told {
     uint64_t before, place, between, value, after_value;
     int64_t margin;
-    uint64_t after_margin, count, after;
+    uint64_t after_margin, count, after_count, fee, after;
 };
 
 /* Above 2^32 all over, so that half a number written is seen. */
@@ -257,10 +263,12 @@ static inline void same_told(struct told got, struct told expected)
     same("value against the second program", got.value, expected.value);
     same_signed("margin against the second program", got.margin, expected.margin);
     same("count against the second program", got.count, expected.count);
+    same("fee against the second program", got.fee, expected.fee);
     struct told u = untold();
-    holds("only place, value, margin and count written",
+    holds("only place, value, margin, count and fee written",
           got.before == u.before && got.between == u.between && got.after_value == u.after_value &&
-              got.after_margin == u.after_margin && got.after == u.after);
+              got.after_margin == u.after_margin && got.after_count == u.after_count &&
+              got.after == u.after);
 }
 
 /* ---- Random numbers --------------------------------------------------------------------------- */

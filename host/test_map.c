@@ -122,13 +122,9 @@ static void beside_value(const struct valuing *v, struct lending lending, uint32
  */
 static uint32_t value(const struct valuing *v, struct told *told, struct left *left)
 {
-    struct lent record = lend_record(&v->in), list = lend_list(&v->in), rates = lend_rates(&v->in);
     struct left l = lend_both(v);
     struct told t = untold();
-    uint32_t number =
-        gmwb_value(start(record), v->in.record_len, start(list), v->in.list_len,
-                   start(rates), v->in.rates_len, v->behaviour, start(l.work), v->work_len,
-                   start(l.table), v->table_len, &t.place, &t.value, &t.margin);
+    uint32_t number = value_by(gmwb_value, v, &t, l);
     size_t needed = number == 0 ? map_of(terms_in(&v->in)) : (size_t)upto(4);
     struct lending enough = {needed + (size_t)(one_in(2) ? 0 : upto(9)), one_in(2)};
     beside_value(v, enough, number, t, l);
@@ -136,9 +132,6 @@ static uint32_t value(const struct valuing *v, struct told *told, struct left *l
         struct lending less = {one_in(2) ? needed - 1 : (size_t)upto(needed - 1), one_in(2)};
         beside_value(v, less, number == 0 ? GMWB_REFUSED_MAP : number, t, l);
     }
-    take_back(record);
-    take_back(list);
-    take_back(rates);
     *told = t;
     *left = l;
     return number;

@@ -23,6 +23,7 @@ struct given {
     size_t rates_len;
     uint64_t behaviour, date, account, guarantee, amount;
     size_t out_len, work_len, cash_len, map_len;
+    uint64_t wanted;
 };
 
 /* What a call tells and leaves; a slice that it does not take is empty. */
@@ -60,6 +61,14 @@ static void value_map(const struct given *g, struct answer *a)
                                &a->told.place, &a->told.value, &a->told.margin, &a->told.count);
 }
 
+static void fee(const struct given *g, struct answer *a)
+{
+    a->number = gmwb_fee(start(g->record), g->record.bytes, start(g->list), g->list.bytes,
+                         g->rates, g->rates_len, g->behaviour, g->wanted,
+                         start(a->left[0]), g->work_len,
+                         &a->told.place, &a->told.fee, &a->told.value, &a->told.margin);
+}
+
 static void value_table(const struct given *g, struct answer *a)
 {
     a->number = gmwb_value_table(start(g->record), g->record.bytes, start(g->list), g->list.bytes,
@@ -84,6 +93,7 @@ static const struct {
     {"book", book},
     {"value", value},
     {"value_map", value_map},
+    {"fee", fee},
     {"value_table", value_table},
     {"walk", walk},
 };
@@ -96,7 +106,7 @@ static struct answer lent_to(size_t kind, const struct given *g)
     size_t work = g->work_len * sizeof(uint64_t), cash = g->cash_len * sizeof(uint64_t);
     size_t table = g->table.bytes, map = g->map_len * sizeof(uint64_t);
     const size_t bytes[KINDS][LEFT] = {
-        {0}, {g->out_len}, {work, table}, {work, table, map}, {work}, {cash},
+        {0}, {g->out_len}, {work, table}, {work, table, map}, {work}, {work}, {cash},
     };
     struct answer a = {0, untold(), {{0}}};
     for (size_t i = 0; i < LEFT; i++)
@@ -182,7 +192,8 @@ static struct given random_given(void)
     struct given g = {lend_record(&in), lend_list(&in), random_table(c), random_path(c, count),
                       start(rates[damaged && one_in(4)]), GMWB_RATE_BYTES * (size_t)c.dates,
                       upto(damaged ? 3 : 2), between(1, larger(c.dates, 2) - 1), upto(c.top),
-                      upto(c.premium), 0, GMWB_BOOKING_BYTES, work_of(c), c.dates, map_of(c)};
+                      upto(c.premium), 0, GMWB_BOOKING_BYTES, work_of(c), c.dates, map_of(c),
+                      between(7000, 12000) * c.premium};
     g.amount = upto(larger(g.account, free_amount(c, g.guarantee)) + (damaged ? 1 : 0));
     if (damaged && one_in(4))
         g.rates_len += one_in(2) ? 1 : GMWB_RATE_BYTES;
@@ -198,15 +209,17 @@ static struct given random_given(void)
 /* Every call, one after the other. Both acceptance and refusal must have come of each kind. */
 static void prepare(void)
 {
-    uint64_t accepted[KINDS] = {0}, by_rates = 0;
+    uint64_t accepted[KINDS] = {0}, by_rates = 0, by_wanted = 0;
     lend_both_rates();
     for (size_t k = 0; k < CONTRACTS; k++) {
         given[k] = random_given();
         for (size_t kind = 0; kind < KINDS; kind++) {
             expected[k][kind] = lent_to(kind, &given[k]);
             CALLS[kind].make(&given[k], &expected[k][kind]);
-            accepted[kind] += expected[k][kind].number == 0;
-            by_rates += expected[k][kind].number >= GMWB_REFUSED_RATES_LENGTH;
+            uint32_t number = expected[k][kind].number;
+            accepted[kind] += number == 0;
+            by_rates += number == GMWB_REFUSED_RATES_LENGTH || number == GMWB_REFUSED_DEATH_RATE;
+            by_wanted += number == GMWB_REFUSED_WANTED;
         }
     }
     for (size_t kind = 0; kind < KINDS; kind++) {
@@ -216,6 +229,8 @@ static void prepare(void)
     }
     about("death rates");
     holds("some are refused", by_rates > 0);
+    about("wanted values");
+    holds("some have no fee", by_wanted > 0);
 }
 
 /* ---- Threads ---------------------------------------------------------------------------------- */

@@ -9,17 +9,10 @@
 
 static uint32_t value(const struct valuing *v, struct told *told, struct left *left)
 {
-    struct lent record = lend_record(&v->in), list = lend_list(&v->in), rates = lend_rates(&v->in);
     struct left l = lend_both(v), m = lend_both(v);
     struct told t = untold(), s = untold();
-    uint32_t number =
-        gmwb_value(start(record), v->in.record_len, start(list), v->in.list_len,
-                   start(rates), v->in.rates_len, v->behaviour, start(l.work), v->work_len,
-                   start(l.table), v->table_len, &t.place, &t.value, &t.margin);
-    uint32_t expected =
-        second_value(start(record), v->in.record_len, start(list), v->in.list_len,
-                     start(rates), v->in.rates_len, v->behaviour, start(m.work), v->work_len,
-                     start(m.table), v->table_len, &s.place, &s.value, &s.margin);
+    uint32_t number = value_by(gmwb_value, v, &t, l);
+    uint32_t expected = value_by(second_value, v, &s, m);
     same("number against the second program", number, expected);
     same_told(t, s);
     same_left(l, m);
@@ -27,9 +20,6 @@ static uint32_t value(const struct valuing *v, struct told *told, struct left *l
         after_refusal(t, l);
     else if (expected == 0)
         after_success(terms_in(&v->in), t, l);
-    take_back(record);
-    take_back(list);
-    take_back(rates);
     take_back_left(m);
     *told = t;
     *left = l;
@@ -265,10 +255,7 @@ static void largest_payouts(uint16_t first_rate)
         struct valuing v = exact(in, behaviour);
         if (behaviour == GMWB_DYNAMIC) {
             l = lend_both(&v);
-            same("number", gmwb_value(v.in.record, v.in.record_len, v.in.list, v.in.list_len,
-                                      v.in.rates, v.in.rates_len, behaviour, start(l.work),
-                                      v.work_len, start(l.table), v.table_len,
-                                      &t.place, &t.value, &t.margin), GMWB_SUCCESS);
+            same("number", value_by(gmwb_value, &v, &t, l), GMWB_SUCCESS);
             after_success(c, t, l);
         } else
             same("number", value(&v, &t, &l), GMWB_SUCCESS);

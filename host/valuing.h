@@ -1,6 +1,7 @@
 /*
  * The tests that gmwb_value and gmwb_value_map share: every refusal on both sides of its boundary,
- * the order of the checks, and random contracts. The test that includes this file makes the call.
+ * the order of the checks, and random contracts; gmwb_fee shares the refusals. The test that
+ * includes this file makes the call.
  */
 #ifndef HOST_VALUING_H
 #define HOST_VALUING_H
@@ -34,6 +35,22 @@ static inline struct left lend_both(const struct valuing *v)
 {
     struct left l = {lend(v->work_len, sizeof(uint64_t)), lend(v->table_len, sizeof(uint16_t))};
     return l;
+}
+
+/* gmwb_value or second_value */
+typedef __typeof__(gmwb_value) value_call;
+
+static inline uint32_t value_by(value_call *call, const struct valuing *v, struct told *t,
+                                struct left l)
+{
+    struct lent record = lend_record(&v->in), list = lend_list(&v->in), rates = lend_rates(&v->in);
+    uint32_t number = call(start(record), v->in.record_len, start(list), v->in.list_len,
+                           start(rates), v->in.rates_len, v->behaviour, start(l.work), v->work_len,
+                           start(l.table), v->table_len, &t->place, &t->value, &t->margin);
+    take_back(record);
+    take_back(list);
+    take_back(rates);
+    return number;
 }
 
 static inline void take_back_left(struct left l)
@@ -157,20 +174,25 @@ static inline size_t random_length(size_t needed)
     return one_in(16) && needed > 0 ? needed - 1 : needed + (size_t)(one_in(2) ? 0 : upto(9));
 }
 
+static inline void about_call(const char *name, uint64_t round, const struct valuing *v)
+{
+    char record[HEX_ROOM], list[HEX_ROOM], rates[HEX_ROOM];
+    about("%s %" PRIu64 ", behaviour %" PRIu64 ": record %s of %lu bytes, list %s of %lu, "
+          "rates %s of %lu, working slice of %lu, table of %lu",
+          name, round, v->behaviour, hex(record, v->in.record, sizeof v->in.record),
+          (unsigned long)v->in.record_len, hex(list, v->in.list, v->in.list_len),
+          (unsigned long)v->in.list_len, hex(rates, v->in.rates, v->in.rates_len),
+          (unsigned long)v->in.rates_len, (unsigned long)v->work_len, (unsigned long)v->table_len);
+}
+
 /* Under each behaviour; the value never falls from one to the next. */
 static inline void all_behaviours(const char *name, uint64_t round, struct valuing v,
                                   uint64_t *came)
 {
-    char record[HEX_ROOM], list[HEX_ROOM], rates[HEX_ROOM];
     uint64_t before = 0;
     bool other = one_in(16);
     for (v.behaviour = 0; v.behaviour <= (other ? 3 : 2); v.behaviour++) {
-        about("%s %" PRIu64 ", behaviour %" PRIu64 ": record %s of %lu bytes, list %s of %lu, "
-              "rates %s of %lu, working slice of %lu, table of %lu",
-              name, round, v.behaviour, hex(record, v.in.record, sizeof v.in.record),
-              (unsigned long)v.in.record_len, hex(list, v.in.list, v.in.list_len),
-              (unsigned long)v.in.list_len, hex(rates, v.in.rates, v.in.rates_len),
-              (unsigned long)v.in.rates_len, (unsigned long)v.work_len, (unsigned long)v.table_len);
+        about_call(name, round, &v);
         struct told t;
         struct left l;
         uint32_t number = value(&v, &t, &l);
@@ -203,7 +225,8 @@ static inline void larger_contract(uint64_t round, uint64_t *came)
 
 /* ---- All of it -------------------------------------------------------------------------------- */
 
-static inline void shared_tests(uint64_t rounds)
+/* All but those of slices that are short. */
+static inline void shared_refusals(void)
 {
     each_record(input_answered);
     each_list(input_answered);
@@ -214,6 +237,11 @@ static inline void shared_tests(uint64_t rounds)
     rates_faults_in_order(ordered_case);
     later_checks_in_order();
     behaviours();
+}
+
+static inline void shared_tests(uint64_t rounds)
+{
+    shared_refusals();
     slice_lengths();
     uint64_t came[NUMBERS] = {0};
     for (uint64_t round = 0; round < rounds; round++)

@@ -4,8 +4,9 @@
  * Answers. Each call returns 0 on success, else the number of a refusal (enum gmwb_refusal). Checks
  * run in the order of the numbers, save that 15 comes right after 6, 17 and 18 right after 9, and
  * 16 right after 11; each call makes those for which it has the input, and the first that fails is
- * returned. A refusal changes no slice. What place, value, margin and count point to is always
- * written: place is 0 on success, the others are 0 on refusal.
+ * returned. A refusal changes no slice, save 19, which leaves gmwb_fee's working slice as success
+ * does. What place, fee, value, margin and count point to is always written: place is 0 on success,
+ * the others are 0 on refusal.
  *
  * Units. Accounts, guarantees and withdrawals are whole money units; values, margins, cash and
  * penalties are ten-thousandths of a unit. Fields of records and buffers are unsigned, low byte
@@ -18,10 +19,10 @@
  *
  * Slices. A slice is a pointer, aligned for its type, and the number of entries behind it (bytes
  * for a record, a return list, death rates and a booking buffer). Nothing is read or written
- * through a pointer whose length is 0: it may be NULL. The pointers place, value, margin and count
- * must not be NULL. Slices passed as const are only read and may share memory with one another.
- * Each slice that is not const, and each object that place, value, margin or count points to, must
- * be apart from all others of the call.
+ * through a pointer whose length is 0: it may be NULL. The pointers place, fee, value, margin and
+ * count must not be NULL. Slices passed as const are only read and may share memory with one
+ * another. Each slice that is not const, and each object that place, fee, value, margin or count
+ * points to, must be apart from all others of the call.
  *
  * Threads. A call allocates nothing and keeps no state. Calls may run at the same time where none
  * writes what another reads or writes.
@@ -30,8 +31,8 @@
  * contract or a supplied table makes (N - 1) x (top + 1) x (U + 1) x returns products, and looks at
  * one amount of each state of each decision date; mixed looks at two, dynamic, on each date, at
  * about top x U x G amounts up to m and at most U^3 / 6 above it. A death rate above 0 adds one
- * pass over a layer on its date. A map adds a look at each entry of the table. docs/BENCHMARK.md
- * has times.
+ * pass over a layer on its date. A map adds a look at each entry of the table. A search for a fee
+ * makes at most 14 valuations. docs/BENCHMARK.md has times.
  *
  * The archive is for x86-64: size_t has 64 bits.
  */
@@ -72,8 +73,10 @@ enum gmwb_refusal {
     GMWB_REFUSED_MAP = 16,          /* map shorter than needed; checked right after 11 */
     GMWB_REFUSED_RATES_LENGTH = 17, /* list of death rates not of 2 x N bytes; checked
                                        right after 9 */
-    GMWB_REFUSED_DEATH_RATE = 18    /* death rate above 10,000; place: the index of the first such
+    GMWB_REFUSED_DEATH_RATE = 18,   /* death rate above 10,000; place: the index of the first such
                                        rate; checked right after 17 */
+    GMWB_REFUSED_WANTED = 19        /* search for a fee: every fee from 0 to 10,000 gives more than
+                                       wanted; found last */
 };
 
 /* ---- Checking a record, booking a withdrawal -------------------------------------------------
@@ -219,6 +222,24 @@ uint32_t gmwb_value_map(const uint8_t *record, size_t record_len,
                         uint16_t *table, size_t table_len,
                         uint64_t *map, size_t map_len,
                         uint64_t *place, uint64_t *value, int64_t *margin, uint64_t *count);
+
+/* ---- Searching for the fee that gives a price ------------------------------------------------
+ *
+ * Finds the smallest fee from 0 to 10,000 with which the contract's value does not exceed wanted,
+ * any number of 64 bits; values are those of gmwb_value, each excess and each death payment
+ * counted. The record's own fee is checked and otherwise unused. Record, list, rates and work as
+ * above; no table is lent. Returns 0 with that fee, its value, the margin and place 0. Else a
+ * refusal (1 to 6, 15, 7 to 9, 17, 18, 10, 11, 19) and its place, with fee 0, value 0 and margin 0.
+ *
+ * After the search, found (0) or not (19), the two layers of the working slice hold zeros; entries
+ * beyond them are untouched. Any other refusal leaves work untouched.
+ */
+uint32_t gmwb_fee(const uint8_t *record, size_t record_len,
+                  const uint8_t *list, size_t list_len,
+                  const uint8_t *rates, size_t rates_len,
+                  uint64_t behaviour, uint64_t wanted,
+                  uint64_t *work, size_t work_len,
+                  uint64_t *place, uint64_t *fee, uint64_t *value, int64_t *margin);
 
 /* ---- Valuing a supplied table ----------------------------------------------------------------
  *

@@ -107,6 +107,30 @@ unsafe extern "C" fn second_value_map(
 }
 
 #[no_mangle]
+unsafe extern "C" fn second_fee(
+    record: *const u8,
+    record_len: usize,
+    list: *const u8,
+    list_len: usize,
+    rates: *const u8,
+    rates_len: usize,
+    behaviour: u64,
+    wanted: u64,
+    work: *mut u64,
+    work_len: usize,
+    place: *mut u64,
+    fee: *mut u64,
+    value: *mut u64,
+    margin: *mut i64,
+) -> u32 {
+    let (record, list) = (lent(record, record_len), lent(list, list_len));
+    let (rates, work) = (lent(rates, rates_len), lent_mut(work, work_len));
+    let told = gmwb::fee(record, list, rates, behaviour, wanted, work);
+    *fee = told.fee;
+    tell(told.valued, place, value, margin)
+}
+
+#[no_mangle]
 unsafe extern "C" fn second_value_table(
     record: *const u8,
     record_len: usize,

@@ -5,14 +5,18 @@
 //! with the checks behind it failing too, every count of dates, slices of every length
 //! that matters, and random contracts, whole and damaged. Maps of surrender follow, in
 //! parts of the same kinds, then returns that lift an account above top, then payment at
-//! death. Random contracts have death rates of every kind; where a part is about something
-//! else, the rates are zero.
+//! death, then searches for a fee. Random contracts have death rates of every kind; where a
+//! part is about something else, the rates are zero.
+//!
+//! The second program tries fee after fee, so the contracts searched are small, or a small fee
+//! is found.
 //!
 //! The test program has room for records of 64 bytes, lists of 512, rates of 128, 64 return
 //! numbers, 64 bytes of a buffer, 65,536 numbers of a working slice or of cash, 65,536
 //! amounts of a table, and 2,048 words of a map (65,536 amounts need 1,024). Nothing here
 //! asks for more.
 
+use crate::gmwb;
 use crate::script::MOD_64;
 use crate::terms::{list, rate_list, Return, Terms, P, P_RETURNS, Q};
 use std::fmt::Write;
@@ -197,6 +201,12 @@ impl Draw {
         rates
     }
 
+    /// Up to `most` returns, and death rates for so many dates.
+    fn lists(&mut self, most: usize, dates: u16) -> (Vec<Return>, Vec<u16>) {
+        let count = 1 + self.upto(most - 1);
+        (self.returns(count), self.rates(dates))
+    }
+
     /// A path: N return numbers, each of a list of `count`.
     fn path(&mut self, dates: u16, count: usize) -> String {
         let numbers: Vec<u16> = (0..dates).map(|_| self.upto(count - 1) as u16).collect();
@@ -271,6 +281,11 @@ impl Script {
             "value_map {bytes} {behaviour} {work} {table} {map}"
         )
         .unwrap();
+    }
+
+    fn fee(&mut self, terms: Terms, returns: &[Return], behaviour: u64, wanted: u64, work: usize) {
+        let (bytes, work) = (self.bytes(terms, returns), self.draw.filled_64(work));
+        writeln!(self.text, "fee {bytes} {behaviour} {wanted} {work}").unwrap();
     }
 
     fn value_table(&mut self, terms: Terms, returns: &[Return], work: usize, table: &str) {
@@ -453,8 +468,8 @@ fn rates_at_zero(s: &mut Script) {
 
 // ------------------------------------------------------------ Ends of ranges
 
-fn ends_of_fields(s: &mut Script) {
-    s.part("Each field of the record at the ends of its range and beyond.");
+/// P with each field in turn at the ends of its range and beyond.
+fn fields_at_ends() -> Vec<Terms> {
     let mut all = Vec::new();
     all.extend([0, 1, 19, 20, 21, 65_535].map(|premium| Terms {
         premium,
@@ -475,7 +490,12 @@ fn ends_of_fields(s: &mut Script) {
         ..P
     }));
     all.extend([1, 255, 256, 257, 65_535].map(|spare| Terms { spare, ..P }));
-    for terms in all {
+    all
+}
+
+fn ends_of_fields(s: &mut Script) {
+    s.part("Each field of the record at the ends of its range and beyond.");
+    for terms in fields_at_ends() {
         s.check(&terms.record());
         s.book(terms, [1, 15, 10, 6], 16);
         let room = terms.work() <= 65_536 && terms.table() <= 65_536;
@@ -560,6 +580,7 @@ struct Parts {
     list: Vec<u8>,
     rates: Vec<u8>,
     behaviour: u64,
+    wanted: u64,
     work: usize,
     table: Vec<u16>,
     map: usize,
@@ -589,6 +610,7 @@ fn whole(draw: &mut Draw, most_top: usize, most_dates: usize) -> (Terms, Parts) 
         list: list(&returns),
         rates: rate_list(&draw.rates(terms.dates)),
         behaviour: draw.upto(2) as u64,
+        wanted: u64::MAX,
         work: terms.work() + draw.upto(2),
         table,
         map: terms.map(),
@@ -671,6 +693,7 @@ impl Parts {
     fn spoil_lent(&mut self, operation: &str, draw: &mut Draw) {
         match operation {
             "book" => self.buffer = draw.one(&[0, 1, 15, 17, 64]),
+            "fee" => self.work = draw.one(&[0, self.terms.layer(), self.terms.work() - 1]),
             "walk" if draw.upto(1) == 0 => self.cash = usize::from(self.terms.dates) - 1,
             "walk" => self.table.truncate(self.terms.table() - 1),
             _ if draw.upto(1) == 0 => self.work = self.terms.work() - 1,
@@ -687,6 +710,15 @@ impl Parts {
             2 => self.numbers[last] = count,
             _ => self.numbers[last] = draw.one(&[count + 1, 64, 65_535]),
         }
+    }
+
+    /// Below what every fee gives. The discount is put right, so that there is something below.
+    fn spoil_wanted(&mut self, draw: &mut Draw) {
+        self.terms.discount = 1_000_000;
+        self.record = self.terms.record();
+        let rates = &self.rates;
+        let least = worth_at(self.terms, &self.list, rates, self.behaviour, 10_000);
+        self.wanted = draw.one(&[0, least / 2, least - 1]);
     }
 
     /// Spoils what check `number` looks at, and no more than that where it can be helped.
@@ -706,6 +738,7 @@ impl Parts {
             13 => self.spoil_path(draw),
             17 | 18 => self.spoil_rates(number, draw),
             16 => self.map = draw.one(&[0, self.map - 1]),
+            19 => self.spoil_wanted(draw),
             _ if operation == "book" => {
                 let most = self.state[1].max(u64::from(self.terms.premium));
                 self.state[3] = draw.one(&[most + 1, 65_536, u64::MAX].map(|x| x.max(most)));
@@ -732,6 +765,10 @@ impl Parts {
                 format!("value_map {record} {list} {rates} {behaviour} {work} {table} {map}")
             }
             "value_table" => format!("value_table {record} {list} {rates} {work} {table}"),
+            "fee" => {
+                let wanted = self.wanted;
+                format!("fee {record} {list} {rates} {behaviour} {wanted} {work}")
+            }
             "book" => {
                 let [date, account, guarantee, amount] = self.state;
                 let buffer = draw.filled(self.buffer);
@@ -746,7 +783,7 @@ impl Parts {
 }
 
 /// The operations, each with the numbers of its checks in their order.
-pub const ORDERS: [(&str, &[u64]); 6] = [
+pub const ORDERS: [(&str, &[u64]); 7] = [
     ("check", &[1, 2, 3, 4, 5, 6, 15]),
     ("value", &[1, 2, 3, 4, 5, 6, 15, 7, 8, 9, 17, 18, 10, 11]),
     (
@@ -759,6 +796,7 @@ pub const ORDERS: [(&str, &[u64]); 6] = [
         "value_map",
         &[1, 2, 3, 4, 5, 6, 15, 7, 8, 9, 17, 18, 10, 11, 16],
     ),
+    ("fee", &[1, 2, 3, 4, 5, 6, 15, 7, 8, 9, 17, 18, 10, 11, 19]),
 ];
 
 /// For each check of each operation: input that fails it alone, with the next check, and
@@ -982,8 +1020,7 @@ fn random_bookings(s: &mut Script) {
 }
 
 fn random_contract(s: &mut Script, terms: Terms, most_returns: usize) {
-    let count = 1 + s.draw.upto(most_returns - 1);
-    let (returns, rates) = (s.draw.returns(count), s.draw.rates(terms.dates));
+    let (returns, rates) = s.draw.lists(most_returns, terms.dates);
     s.with_rates(&rates, |s| tried(s, terms, &returns));
 }
 
@@ -1173,8 +1210,7 @@ fn maps_of_every_date(s: &mut Script) {
 
 /// A map of at most two words more than are needed.
 fn random_map(s: &mut Script, terms: Terms, most_returns: usize) {
-    let count = 1 + s.draw.upto(most_returns - 1);
-    let (returns, rates) = (s.draw.returns(count), s.draw.rates(terms.dates));
+    let (returns, rates) = s.draw.lists(most_returns, terms.dates);
     let map = terms.map() + s.draw.upto(2);
     s.with_rates(&rates, |s| mapped(s, terms, &returns, map));
 }
@@ -1491,8 +1527,11 @@ fn rates_as_bytes(s: &mut Script, terms: Terms, rates: &[u8]) {
     writeln!(text, "value_table {bytes} {work} {table}:0:1").unwrap();
 }
 
+/// Writes lines with a contract's record, P's list and these bytes as rates.
+type WithRates = fn(&mut Script, Terms, &[u8]);
+
 /// Rates of 1,799, then of 65,535, which are refused where their count is right.
-fn lengths_of_rates(s: &mut Script) {
+fn lengths_of_rates(s: &mut Script, write: WithRates) {
     s.part("Death rates of every length around 2 x N bytes, also with rates above 10,000.");
     let longest = [0, 1, 2, 4, 40, 78, 79, 80, 81, 82, 84, 127, 128].to_vec();
     for (dates, lengths) in [
@@ -1507,13 +1546,13 @@ fn lengths_of_rates(s: &mut Script) {
                     top: 10,
                     ..P
                 };
-                rates_as_bytes(s, terms, &vec![byte; length]);
+                write(s, terms, &vec![byte; length]);
             }
         }
     }
 }
 
-fn rates_above_whole(s: &mut Script) {
+fn rates_above_whole(s: &mut Script, write: WithRates) {
     s.part("Death rates of 10,000 and above it, at each index and at two.");
     for (dates, rates) in [
         (1, &[10_000, 10_001, 10_240, 65_535][..]),
@@ -1530,7 +1569,7 @@ fn rates_above_whole(s: &mut Script) {
             for rate in rates {
                 let mut rates = s.draw.rates(dates);
                 rates[index] = *rate;
-                rates_as_bytes(s, terms, &rate_list(&rates));
+                write(s, terms, &rate_list(&rates));
             }
         }
     }
@@ -1543,14 +1582,14 @@ fn rates_above_whole(s: &mut Script) {
         let mut rates = s.draw.rates(40);
         rates[first] = s.draw.one(&[10_001, 65_535]);
         rates[second] = s.draw.one(&[10_001, 65_535]);
-        rates_as_bytes(s, terms, &rate_list(&rates));
+        write(s, terms, &rate_list(&rates));
     }
 }
 
 /// 18 is spoilt before 17, which may cut the rates.
-fn rates_refused_in_order(s: &mut Script) {
+fn rates_refused_in_order(s: &mut Script, orders: &[(&str, &[u64])]) {
     s.part("Refusals 17 and 18 beside each other check of the operation.");
-    for (operation, order) in ORDERS.iter().filter(|(_, order)| order.contains(&17)) {
+    for (operation, order) in orders.iter().filter(|(_, order)| order.contains(&17)) {
         let twice = order.iter().chain(*order);
         let pairs = twice.flat_map(|other| [(17, *other), (18, *other)]);
         for (number, other) in pairs.filter(|(number, other)| number != other) {
@@ -1616,8 +1655,7 @@ fn deaths_on_every_date(s: &mut Script) {
             dates,
             ..s.draw.terms(12, 1)
         };
-        let count = 1 + s.draw.upto(3);
-        let (returns, rates) = (s.draw.returns(count), s.draw.rates(dates));
+        let (returns, rates) = s.draw.lists(4, dates);
         let behaviour = s.draw.upto(2) as u64;
         s.with_rates(&rates, |s| s.valued_and_walked(terms, &returns, behaviour));
     }
@@ -1626,12 +1664,285 @@ fn deaths_on_every_date(s: &mut Script) {
 fn deaths(s: &mut Script) {
     deaths_worked_by_hand(s);
     one_period_only(s);
-    lengths_of_rates(s);
-    rates_above_whole(s);
-    rates_refused_in_order(s);
+    lengths_of_rates(s, rates_as_bytes);
+    rates_above_whole(s, rates_as_bytes);
+    rates_refused_in_order(s, &ORDERS[..6]);
     guarantee_or_account(s);
     deaths_past_top(s);
     deaths_on_every_date(s);
+}
+
+// ---------------------------- Document 02, request (vi): which fee gives this price
+
+/// What a contract is worth at a fee.
+fn worth_at(terms: Terms, list: &[u8], rates: &[u8], behaviour: u64, fee: u16) -> u64 {
+    let record = Terms { fee, ..terms }.record();
+    let (mut work, mut table) = (vec![0; terms.work()], vec![0; terms.table()]);
+    gmwb::value(&record, list, rates, behaviour, &mut work, &mut table).value
+}
+
+/// Wanted: what the contract is worth at a fee, one less and one more.
+fn around(s: &mut Script, terms: Terms, returns: &[Return], behaviour: u64, fee: u16) {
+    let rates = s.rates.clone().unwrap_or(terms.zero_rates());
+    let (list, rates) = (list(returns), rate_list(&rates));
+    let value = worth_at(terms, &list, &rates, behaviour, fee);
+    for wanted in [value.saturating_sub(1), value, value + 1] {
+        s.fee(terms, returns, behaviour, wanted, terms.work());
+    }
+}
+
+fn fees_worked_by_hand(s: &mut Script) {
+    s.part("Document 02, request (vi): the figures of P, each behaviour.");
+    let wanted = [
+        99_999, 100_000, 100_001, 109_999, 110_000, 110_001, 122_499, 122_500, 124_999, 125_000,
+        125_001, 129_999, 130_000, 130_001,
+    ];
+    for (behaviour, wanted) in (0..3).flat_map(|b| wanted.map(|w| (b, w))) {
+        s.fee(P, &P_RETURNS, behaviour, wanted, P.work());
+    }
+    s.part("P's record with other fees, which change nothing; above 10,000 they are refused.");
+    for fee in [
+        0, 1, 1_333, 1_334, 1_667, 5_000, 9_999, 10_000, 10_001, 65_535,
+    ] {
+        for behaviour in 0..3 {
+            s.fee(Terms { fee, ..P }, &P_RETURNS, behaviour, 110_000, P.work());
+        }
+    }
+    s.part("A table used again behind searches, which have none.");
+    for behaviour in 0..3 {
+        s.value(P, &P_RETURNS, behaviour, P.work(), P.table());
+        s.fee(P, &P_RETURNS, behaviour, 110_000, P.work());
+        s.value_table(P, &P_RETURNS, P.work(), "=");
+        s.fee(P, &P_RETURNS, behaviour, 0, P.work());
+        s.walk(P, &P_RETURNS, "=", "1,0", 2);
+    }
+}
+
+/// With 32 bits some would be what no fee gives; with a sign those from 2^63 on would be below 0.
+fn ends_of_wanted(s: &mut Script) {
+    s.part("Wanted values from 0 to 2^64 - 1; with a discount of 1, at which all is worth 0.");
+    let (narrow, signed) = (1 << 32, 1 << 63);
+    for wanted in [
+        0,
+        1,
+        65_535,
+        65_536 + 99_999,
+        narrow - 1,
+        narrow,
+        narrow + 99_999,
+        narrow + 110_000,
+        signed - 1,
+        signed,
+        signed + 110_000,
+        u64::MAX - 1,
+        u64::MAX,
+    ] {
+        for behaviour in 0..3 {
+            s.fee(P, &P_RETURNS, behaviour, wanted, P.work());
+        }
+        let (terms, behaviour) = (Terms { discount: 1, ..P }, s.draw.upto(2) as u64);
+        s.fee(terms, &P_RETURNS, behaviour, wanted, terms.work());
+    }
+}
+
+/// Contracts with zero rates, with returns that lift above top or none that does, with rates
+/// that fall; under the discount of the last all that is not drawn at once is worth little.
+fn searched() -> [(Terms, Vec<Return>, Vec<u16>); 9] {
+    let one = Terms { dates: 1, ..P };
+    let three = Terms {
+        top: 15,
+        dates: 3,
+        ..P
+    };
+    let falling = Terms {
+        top: 10,
+        dates: 4,
+        step: 300,
+        ..DISCOUNTED
+    };
+    let full = Terms {
+        top: 10,
+        dates: 3,
+        step: 500,
+        ..P
+    };
+    let hasty = Terms {
+        discount: 10_000,
+        level: 1,
+        ..three
+    };
+    let several = vec![(7_000, 1), (9_500, 4_999), (9_500, 3_000), (16_000, 2_000)];
+    [
+        (one, P_RETURNS.to_vec(), vec![0]),
+        (one, vec![(30_000, 10_000)], vec![5_000]),
+        (P, P_RETURNS.to_vec(), vec![2_500, 5_000]),
+        (Q, STILL_OR_TRIPLE.to_vec(), vec![0, 0]),
+        (three, several.clone(), vec![1, 200, 300]),
+        (falling, several, vec![500, 1, 9_999, 10_000]),
+        (full, STILL_OR_TRIPLE.to_vec(), vec![0, 0, 0]),
+        (full, vec![(0, 2_000), (20_000, 8_000)], vec![10_000, 0, 7]),
+        (hasty, vec![(13_000, 10_000)], vec![0, 700, 1]),
+    ]
+}
+
+fn around_values(s: &mut Script) {
+    s.part("Wanted: what a fee gives, one less and one more. N 1, steps, death rates, returns above top, each behaviour.");
+    for (terms, returns, rates) in searched() {
+        s.with_rates(&rates, |s| {
+            for behaviour in 0..3 {
+                for fee in [0, 1, 400, 1_700, 3_333, 6_000, 10_000] {
+                    around(s, terms, &returns, behaviour, fee);
+                }
+            }
+        });
+    }
+}
+
+/// A return that triples leads from U to 2 as long as 3 × U × (10,000 − fee) is 20,000 or more.
+/// Where later payments count for little, 2 are surrendered, beside a level of 1.
+fn high_fees(s: &mut Script) {
+    s.part("High fees: 2 units left of a premium count, 1 does not.");
+    for (premium, dates) in [(4, 2), (10, 2), (10, 3), (20, 3), (30, 2)] {
+        let terms = Terms {
+            premium,
+            level: 1,
+            top: premium,
+            dates,
+            discount: 20_000,
+            ..P
+        };
+        let last = 10_000 - 20_000_u16.div_ceil(3 * premium);
+        for behaviour in 0..3 {
+            around(s, terms, &[(30_000, 10_000)], behaviour, last);
+            around(s, terms, &[(30_000, 10_000)], behaviour, last + 1);
+        }
+    }
+}
+
+fn lengths_of_work(s: &mut Script) {
+    s.part("Working slices of no entry, of one layer, one short, just long enough and longer; a fee found or none.");
+    for _ in 0..12 {
+        let terms = s.draw.terms(8, 3);
+        let count = 1 + s.draw.upto(2);
+        let (returns, behaviour) = (s.draw.returns(count), s.draw.upto(2) as u64);
+        let work = terms.work();
+        for work in [0, work / 2, work - 1, work, work + 1, work + 77] {
+            for wanted in [0, u64::MAX] {
+                s.fee(terms, &returns, behaviour, wanted, work);
+            }
+        }
+    }
+    s.part("Top 4,000: working slices too short, then long enough for a premium of 1.");
+    let highest = Terms {
+        level: 1,
+        top: 4_000,
+        ..P
+    };
+    for premium in [1, 10, 4_000] {
+        s.fee(Terms { premium, ..highest }, &P_RETURNS, 0, 0, 16_003);
+    }
+    let least = Terms {
+        premium: 1,
+        ..highest
+    };
+    for behaviour in 0..2 {
+        for fee in [0, 20] {
+            around(s, least, &[(30_000, 10_000)], behaviour, fee);
+        }
+    }
+}
+
+fn fees_at_ends_of_fields(s: &mut Script) {
+    s.part("Each field of the record at the ends of its range and beyond: a fee searched, and one found at once.");
+    for terms in fields_at_ends() {
+        let fits = terms.work() <= 65_536;
+        let work = if fits { terms.work() } else { P.work() };
+        s.fee(terms, &P_RETURNS, 0, 110_000, work);
+        s.fee(terms, &P_RETURNS, 2, u64::MAX, work);
+    }
+}
+
+fn fee_with_rates(s: &mut Script, terms: Terms, rates: &[u8]) {
+    let (record, list, rates) = (hex(&terms.record()), hex(&list(&P_RETURNS)), hex(rates));
+    let (behaviour, work) = (s.draw.upto(2), s.draw.filled_64(terms.work()));
+    let line = format!("fee {record} {list} {rates} {behaviour} 110000 {work}");
+    writeln!(s.text, "{line}").unwrap();
+}
+
+fn fees_of_every_date(s: &mut Script) {
+    s.part("N from 1 to 40 with random death rates, a fee searched under each behaviour.");
+    for dates in 1..=40 {
+        let terms = Terms {
+            dates,
+            ..s.draw.terms(6, 1)
+        };
+        let (returns, rates) = s.draw.lists(3, dates);
+        let fee = s.draw.upto(3_000) as u16;
+        s.with_rates(&rates, |s| {
+            for behaviour in 0..3 {
+                around(s, terms, &returns, behaviour, fee);
+            }
+        });
+    }
+    s.part("N 40 with a working slice of 3,280 entries; 64 returns: small fees.");
+    let terms = Terms {
+        premium: 39,
+        top: 40,
+        dates: 40,
+        ..P
+    };
+    let many = s.draw.returns(64);
+    for behaviour in 0..3 {
+        around(s, terms, &P_RETURNS, behaviour, 2);
+        around(s, P, &many, behaviour, 30);
+    }
+}
+
+/// Under each behaviour, around what some fee gives, and any value up to twice the premium.
+fn random_fee(s: &mut Script, terms: Terms, returns: &[Return], rates: &[u16]) {
+    s.with_rates(rates, |s| {
+        for behaviour in 0..3 {
+            let some = s.draw.upto(10_000);
+            let fee = s.draw.one(&[0, some / 100, some / 10, some / 3, some]);
+            around(s, terms, returns, behaviour, fee as u16);
+            let wanted = s.draw.upto(20_000 * usize::from(terms.premium)) as u64;
+            let work = terms.work() + s.draw.upto(3);
+            s.fee(terms, returns, behaviour, wanted, work);
+        }
+    });
+}
+
+fn random_fees(s: &mut Script) {
+    s.part("Random contracts and wanted values.");
+    for _ in 0..40 {
+        let terms = s.draw.terms(8, 4);
+        let (returns, rates) = s.draw.lists(4, terms.dates);
+        random_fee(s, terms, &returns, &rates);
+    }
+    s.part("The same with penalty rates that fall, then with returns that lift above top.");
+    for _ in 0..12 {
+        let terms = s.draw.falling(8, 5);
+        let (returns, rates) = s.draw.lists(4, terms.dates);
+        random_fee(s, terms, &returns, &rates);
+        let terms = s.draw.near_top(8, 4);
+        let (returns, rates) = (s.draw.lifting(3), s.draw.rates(terms.dates));
+        random_fee(s, terms, &returns, &rates);
+    }
+}
+
+fn fees(s: &mut Script) {
+    fees_worked_by_hand(s);
+    ends_of_wanted(s);
+    around_values(s);
+    high_fees(s);
+    lengths_of_work(s);
+    fees_at_ends_of_fields(s);
+    refusals(s, &ORDERS[6..]);
+    lengths_of_rates(s, fee_with_rates);
+    rates_above_whole(s, fee_with_rates);
+    rates_refused_in_order(s, &ORDERS[6..]);
+    fees_of_every_date(s);
+    random_fees(s);
 }
 
 /// The whole script.
@@ -1649,8 +1960,7 @@ pub fn script() -> String {
     ends_of_fields(&mut s);
     lengths_of_bytes(&mut s);
     ends_of_returns(&mut s);
-    let (without_map, with_map) = ORDERS.split_at(5);
-    refusals(&mut s, without_map);
+    refusals(&mut s, &ORDERS[..5]);
     every_count_of_dates(&mut s);
     smallest(&mut s);
     largest(&mut s);
@@ -1663,12 +1973,13 @@ pub fn script() -> String {
     random_walks(&mut s);
     random_contracts(&mut s);
     maps_worked_by_hand(&mut s);
-    refusals(&mut s, with_map);
+    refusals(&mut s, &ORDERS[5..6]);
     ends_of_words(&mut s);
     lengths_of_maps(&mut s);
     maps_of_every_date(&mut s);
     random_maps(&mut s);
     payouts(&mut s);
     deaths(&mut s);
+    fees(&mut s);
     s.text
 }

@@ -8,7 +8,7 @@
 //! number that is answered.
 
 use crate::cases::ORDERS;
-use crate::script::{Operation, Session, Valuing};
+use crate::script::{digest, Operation, Session, Valuing};
 use std::collections::BTreeMap;
 
 const LEAST_OPERATIONS: u64 = 2_000;
@@ -18,13 +18,17 @@ const LEAST_FALLEN: u64 = 20;
 const LEAST_MARKED: u64 = 10;
 const LEAST_WIDE: u64 = 20;
 const LEAST_LIFTED: u64 = 50;
-
 const LEAST_DEATHS: u64 = 10;
+const LEAST_SEARCHED: u64 = 10;
 
 /// Tables up to here are also made by other versions of the rules.
 const MOST_COMPARED: u64 = 400;
 
+/// Contracts of up to so many states, of all dates, are valued for check 19.
+const MOST_SEARCHED: u64 = 100_000;
+
 /// The fields of a record.
+#[derive(Clone, Copy)]
 struct Fields {
     premium: u64,
     level: u64,
@@ -233,6 +237,7 @@ fn name_of(operation: &Operation) -> &'static str {
         Operation::Check { .. } => "check",
         Operation::Value(_) => "value",
         Operation::ValueMap(..) => "value_map",
+        Operation::Fee { .. } => "fee",
         Operation::ValueTable { .. } => "value_table",
         Operation::Book { .. } => "book",
         Operation::Walk { .. } => "walk",
@@ -243,6 +248,7 @@ fn record_of(operation: &Operation) -> &[u8] {
     match operation {
         Operation::Value(v) | Operation::ValueMap(v, _) => &v.record,
         Operation::Check { record }
+        | Operation::Fee { record, .. }
         | Operation::ValueTable { record, .. }
         | Operation::Book { record, .. }
         | Operation::Walk { record, .. } => record,
@@ -253,7 +259,9 @@ fn list_of(operation: &Operation) -> &[u8] {
     match operation {
         Operation::Check { .. } | Operation::Book { .. } => &[],
         Operation::Value(v) | Operation::ValueMap(v, _) => &v.list,
-        Operation::ValueTable { list, .. } | Operation::Walk { list, .. } => list,
+        Operation::Fee { list, .. }
+        | Operation::ValueTable { list, .. }
+        | Operation::Walk { list, .. } => list,
     }
 }
 
@@ -261,7 +269,7 @@ fn list_of(operation: &Operation) -> &[u8] {
 fn rates_of(operation: &Operation) -> Option<&[u8]> {
     match operation {
         Operation::Value(v) | Operation::ValueMap(v, _) => Some(&v.rates),
-        Operation::ValueTable { rates, .. } => Some(rates),
+        Operation::Fee { rates, .. } | Operation::ValueTable { rates, .. } => Some(rates),
         _ => None,
     }
 }
@@ -286,6 +294,7 @@ fn lent_fails(operation: &Operation) -> bool {
     match operation {
         Operation::Check { .. } => false,
         Operation::Value(v) | Operation::ValueMap(v, _) => valuing_fails(&v.work, &v.table),
+        Operation::Fee { work, .. } => short(work.len(), 2 * c.layer()),
         Operation::ValueTable { work, table, .. } => valuing_fails(work, table),
         Operation::Book { buffer, .. } => buffer.len() != 16,
         Operation::Walk { table, cash, .. } => {
@@ -294,13 +303,15 @@ fn lent_fails(operation: &Operation) -> bool {
     }
 }
 
-/// Checks 10, 12 to 14 and 16.
+/// Checks 10, 12 to 14, 16 and 19.
 fn other_fails(number: u64, operation: &Operation) -> bool {
     let c = Fields::of(record_of(operation));
     match operation {
         Operation::Check { .. } => false,
         Operation::ValueMap(_, map) if number == 16 => (map.len() as u64) < c.map(),
         Operation::Value(v) | Operation::ValueMap(v, _) => number == 10 && v.behaviour > 2,
+        Operation::Fee { behaviour, .. } if number == 10 => *behaviour > 2,
+        Operation::Fee { wanted, .. } => number == 19 && wanted_fails(&c, operation, *wanted),
         Operation::ValueTable { table, .. } => {
             number == 14 && drawn_in_table(&c, table).iter().any(|d| d.fails(&c))
         }
@@ -333,6 +344,14 @@ fn other_fails(number: u64, operation: &Operation) -> bool {
     }
 }
 
+/// Check 19. It has a meaning only for a contract that can be valued. The largest fee gives the
+/// least; a contract too large to be valued here is taken to have a fee.
+fn wanted_fails(c: &Fields, operation: &Operation, wanted: u64) -> bool {
+    let mut before = order_of("fee").iter().filter(|n| ![11, 19].contains(*n));
+    let valid = before.all(|n| !fails(*n, operation));
+    valid && c.layer() * c.dates <= MOST_SEARCHED && at_fee(c, operation, 10_000).0 > wanted
+}
+
 fn fails(number: u64, operation: &Operation) -> bool {
     match number {
         1..=6 | 15 => record_fails(number, record_of(operation)),
@@ -359,6 +378,13 @@ type Tally = BTreeMap<String, u64>;
 
 fn count(tally: &mut Tally, case: String) {
     *tally.entry(case).or_default() += 1;
+}
+
+/// Counts those of some cases that hold, each as `said`.
+fn count_held(tally: &mut Tally, cases: &[&str], holds: &[bool], said: impl Fn(&str) -> String) {
+    for (case, _) in cases.iter().zip(holds).filter(|(_, holds)| **holds) {
+        count(tally, said(case));
+    }
 }
 
 fn refusal(name: &str, number: u64) -> String {
@@ -437,7 +463,10 @@ fn fallen(name: &str, to: &str) -> String {
 /// has fallen, and to what.
 fn count_fallen(tally: &mut Tally, c: &Fields, operation: &Operation) {
     let drawn = match operation {
-        Operation::Check { .. } | Operation::Value(_) | Operation::ValueMap(..) => Vec::new(),
+        Operation::Check { .. }
+        | Operation::Value(_)
+        | Operation::ValueMap(..)
+        | Operation::Fee { .. } => Vec::new(),
         Operation::ValueTable { table, .. } => drawn_in_table(c, table),
         Operation::Book {
             date,
@@ -534,9 +563,9 @@ fn count_surrendered(tally: &mut Tally, c: &Fields, behaviour: u64, left: &[u16]
         marked.iter().any(|entry| entry % 64 == 63),
         marked.last().is_some_and(|entry| entry + 1 == drawn.len()),
     ];
-    for (how, _) in SURRENDERED.iter().zip(holds).filter(|(_, holds)| *holds) {
-        count(tally, surrendered(how, behaviour));
-    }
+    count_held(tally, &SURRENDERED, &holds, |how| {
+        surrendered(how, behaviour)
+    });
     if marked.is_empty() {
         count(tally, surrendered("nowhere", behaviour));
     }
@@ -772,6 +801,11 @@ impl Model<'_> {
     }
 }
 
+/// Whether a contract is small enough to be valued by other versions too.
+fn compared(c: &Fields) -> bool {
+    c.table() <= MOST_COMPARED && c.layer() <= MOST_COMPARED
+}
+
 /// A valuation by a version of the rules: value, values of date 1 and amounts. `left` is its
 /// table after the call.
 fn by_version(
@@ -787,17 +821,16 @@ fn by_version(
         rates: death_rates(rates_of(operation).unwrap_or(&[])),
         version,
     };
-    match operation {
-        Operation::Value(v) | Operation::ValueMap(v, _) => {
-            model.valued(&states, |state| open(c, v.behaviour, state))
-        }
-        _ => model.valued(&states, |state| vec![state.amount]),
+    match behaviour_of(operation) {
+        Some(behaviour) => model.valued(&states, |state| open(c, behaviour, state)),
+        None => model.valued(&states, |state| vec![state.amount]),
     }
 }
 
 fn behaviour_of(operation: &Operation) -> Option<u64> {
     match operation {
         Operation::Value(v) | Operation::ValueMap(v, _) => Some(v.behaviour),
+        Operation::Fee { behaviour, .. } => Some(*behaviour),
         _ => None,
     }
 }
@@ -837,7 +870,7 @@ const OTHERWISE: &str = "drawing otherwise than";
 fn count_lifted(tally: &mut Tally, c: &Fields, operation: &Operation, left: &[u16], answer: &str) {
     let (name, list) = (name_of(operation), list_of(operation));
     match operation {
-        Operation::Check { .. } => {}
+        Operation::Check { .. } | Operation::Fee { .. } => {}
         Operation::Book { account, .. } => {
             if *account == c.top {
                 count(tally, AT_TOP.to_string());
@@ -846,9 +879,7 @@ fn count_lifted(tally: &mut Tally, c: &Fields, operation: &Operation, left: &[u1
         Operation::Walk { table, numbers, .. } => {
             let met = drawn_on_walk(c, list, table, numbers);
             let holds = passed_holds(c, list, &met, numbers);
-            for (how, _) in PASSED.iter().zip(holds).filter(|(_, holds)| *holds) {
-                count(tally, passed(how));
-            }
+            count_held(tally, &PASSED, &holds, |how| passed(how));
             let lifted = lifted_on_walk(c, list, &met, numbers);
             if c.top == 4_000 && lifted.iter().any(|l| *l > c.top) {
                 count(tally, past_highest(name));
@@ -856,14 +887,12 @@ fn count_lifted(tally: &mut Tally, c: &Fields, operation: &Operation, left: &[u1
         }
         _ => {
             let holds = lifted_holds(c, list);
-            for (how, _) in LIFTED.iter().zip(holds).filter(|(_, holds)| *holds) {
-                count(tally, with(name, how));
-            }
+            count_held(tally, &LIFTED, &holds, |how| with(name, how));
             let above = returns(list).iter().any(|r| c.lifted(c.top, r.0) > c.top);
             if c.top == 4_000 && c.dates > 1 && above {
                 count(tally, past_highest(name));
             }
-            if let Some(value) = value_in(answer).filter(|_| above && c.table() <= MOST_COMPARED) {
+            if let Some(value) = figure_in(answer).filter(|_| above && c.table() <= MOST_COMPARED) {
                 count_beside_dropped(tally, c, operation, left, value);
             }
         }
@@ -892,9 +921,7 @@ fn count_rates(tally: &mut Tally, name: &str, rates: &[u64]) {
             part.iter().any(between),
             part.contains(&10_000),
         ];
-        for (rate, _) in RATES.iter().zip(holds).filter(|(_, holds)| *holds) {
-            count(tally, rate_in(name, rate, period));
-        }
+        count_held(tally, &RATES, &holds, |rate| rate_in(name, rate, period));
     }
 }
 
@@ -961,13 +988,10 @@ fn count_deaths(
     };
     let (name, list) = (name_of(operation), list_of(operation));
     count_rates(tally, name, &rates);
-    let small = c.table() <= MOST_COMPARED && c.layer() <= MOST_COMPARED;
-    let ruled = small.then(|| by_version(c, operation, left, Version::Rules));
+    let ruled = compared(c).then(|| by_version(c, operation, left, Version::Rules));
     let first = ruled.as_ref().map(|(_, first, _)| &first[..]);
     let holds = deaths_hold(c, list, &rates, first);
-    for (how, _) in DEATHS.iter().zip(holds).filter(|(_, holds)| *holds) {
-        count(tally, with(name, how));
-    }
+    count_held(tally, &DEATHS, &holds, |how| with(name, how));
     let Some((value, _, amounts)) = ruled else {
         return true;
     };
@@ -976,12 +1000,325 @@ fn count_deaths(
             count(tally, mistaken(name, how));
         }
     }
-    value_in(answer) == Some(value) && left[..amounts.len()] == amounts
+    figure_in(answer) == Some(value) && left[..amounts.len()] == amounts
 }
 
-/// The value in the answer of a valuation.
-fn value_in(answer: &str) -> Option<u64> {
+/// The first figure behind number and place: the value of a valuation, the fee of a search.
+fn figure_in(answer: &str) -> Option<u64> {
     answer.split(' ').nth(2).and_then(|word| word.parse().ok())
+}
+
+/// Fee and value that a search finds; none where it finds no fee.
+type Found = Option<(u64, u64)>;
+
+/// Value and values of date 1 of a contract at a fee.
+fn at_fee(c: &Fields, operation: &Operation, fee: u64) -> (u64, Vec<u64>) {
+    let c = Fields { fee, ..*c };
+    let undrawn = vec![0; c.table() as usize];
+    let (value, first, _) = by_version(&c, operation, &undrawn, Version::Rules);
+    (value, first)
+}
+
+/// The fees of a contract with their values. That a larger fee never gives more is relied on
+/// here; the second program, whose answers are compared, does not.
+struct Fees<'a> {
+    c: Fields,
+    operation: &'a Operation,
+    values: BTreeMap<u64, u64>,
+}
+
+impl Fees<'_> {
+    fn of(c: Fields, operation: &Operation) -> Fees<'_> {
+        let values = BTreeMap::new();
+        Fees {
+            c,
+            operation,
+            values,
+        }
+    }
+
+    fn value(&mut self, fee: u64) -> u64 {
+        let (c, operation) = (&self.c, self.operation);
+        let value = || at_fee(c, operation, fee).0;
+        *self.values.entry(fee).or_insert_with(value)
+    }
+
+    /// By halving the fees from `from` to 10,000, as long as `further` says of the steps made and
+    /// the fees left behind the first.
+    fn halved(&mut self, from: u64, wanted: u64, further: fn(u64, u64) -> bool) -> Found {
+        let (mut from, mut to) = (from, 10_000);
+        if self.value(to) > wanted {
+            return None;
+        }
+        let mut steps = 0;
+        while further(steps, to - from) {
+            let between = (from + to) / 2;
+            if self.value(between) <= wanted {
+                to = between;
+            } else {
+                from = between + 1;
+            }
+            steps += 1;
+        }
+        Some((to, self.value(to)))
+    }
+
+    /// The smallest fee, of those from `from` on, whose value is at most `wanted`.
+    fn smallest(&mut self, from: u64, wanted: u64) -> Found {
+        self.halved(from, wanted, |_, left| left > 0)
+    }
+}
+
+/// Searches otherwise than the rules have them. That fee 10,000 is never tried cannot be seen. At
+/// 9,999 no return leads to more than an account of 1 on date 1, and beside the premium's guarantee
+/// that is worth what 0 is: the two fees give one value.
+const MISLED: [(fn(&mut Fees, u64) -> Found, &str); 10] = [
+    (largest_above, "the largest fee that exceeds"),
+    (below, "below in place of at most"),
+    (first_left_out, "fee 0 never tried"),
+    (from_own, "the fees from the record's on"),
+    (own_for_all, "the record's fee in place of each"),
+    (value_before, "the value of the fee before"),
+    (one_left, "a bisection that stops one step early"),
+    (thirteen_steps, "a bisection of 13 steps"),
+    (narrow_wanted, "wanted cut to 32 bits"),
+    (signed_wanted, "wanted below 0 from 2^63 on"),
+];
+
+fn largest_above(fees: &mut Fees, wanted: u64) -> Found {
+    let smallest = fees.smallest(0, wanted).map_or(10_001, |(fee, _)| fee);
+    smallest.checked_sub(1).map(|fee| (fee, fees.value(fee)))
+}
+
+fn below(fees: &mut Fees, wanted: u64) -> Found {
+    wanted
+        .checked_sub(1)
+        .and_then(|most| fees.smallest(0, most))
+}
+
+fn first_left_out(fees: &mut Fees, wanted: u64) -> Found {
+    fees.smallest(1, wanted)
+}
+
+fn from_own(fees: &mut Fees, wanted: u64) -> Found {
+    fees.smallest(fees.c.fee, wanted)
+}
+
+fn own_for_all(fees: &mut Fees, wanted: u64) -> Found {
+    let value = fees.value(fees.c.fee);
+    (value <= wanted).then_some((0, value))
+}
+
+fn value_before(fees: &mut Fees, wanted: u64) -> Found {
+    let (fee, _) = fees.smallest(0, wanted)?;
+    Some((fee, fees.value(fee.saturating_sub(1))))
+}
+
+fn one_left(fees: &mut Fees, wanted: u64) -> Found {
+    fees.halved(0, wanted, |_, left| left > 1)
+}
+
+fn thirteen_steps(fees: &mut Fees, wanted: u64) -> Found {
+    fees.halved(0, wanted, |steps, left| steps < 13 && left > 0)
+}
+
+fn narrow_wanted(fees: &mut Fees, wanted: u64) -> Found {
+    fees.smallest(0, wanted % (1 << 32))
+}
+
+fn signed_wanted(fees: &mut Fees, wanted: u64) -> Found {
+    fees.smallest(0, wanted).filter(|_| wanted < 1 << 63)
+}
+
+/// What a search has of its input, taken for something else.
+const LEFT_OUT: [(fn(&mut Operation), &str); 3] = [
+    (without_rates, "zero death rates"),
+    (without_step, "no penalty step"),
+    (as_static, "static withdrawals"),
+];
+
+fn without_rates(operation: &mut Operation) {
+    if let Operation::Fee { rates, .. } = operation {
+        rates.fill(0);
+    }
+}
+
+fn without_step(operation: &mut Operation) {
+    if let Operation::Fee { record, .. } = operation {
+        record[16..18].fill(0);
+    }
+}
+
+fn as_static(operation: &mut Operation) {
+    if let Operation::Fee { behaviour, .. } = operation {
+        *behaviour = 0;
+    }
+}
+
+fn misled(how: &str) -> String {
+    format!("fee answered otherwise than with {how}")
+}
+
+/// The digest of the working slice after a search that finds `found`; and what it would be with
+/// the slice as the last valuation leaves it.
+fn digests_left(c: &Fields, operation: &Operation, work: &[u64], found: Found) -> (u64, u64) {
+    let (layer, mut left) = (c.layer() as usize, work.to_vec());
+    left[..2 * layer].fill(0);
+    let cleared = digest(&left);
+    let last = found.map_or(10_000, |(fee, _)| fee);
+    left[..layer].copy_from_slice(&at_fee(c, operation, last).1);
+    (cleared, digest(&left))
+}
+
+const LEFT_VALUED: [&str; 2] = [
+    "the working slice as a valuation leaves it, a fee found",
+    "the working slice as a valuation leaves it, no fee found",
+];
+
+/// A search by the rules, and by what they are not. Gives whether the rules have the answer.
+fn count_misled(
+    tally: &mut Tally,
+    fees: &mut Fees,
+    (wanted, work): (u64, &[u64]),
+    answer: &str,
+) -> bool {
+    let (c, operation) = (fees.c, fees.operation);
+    let found = fees.smallest(0, wanted);
+    for (_, how) in MISLED
+        .iter()
+        .filter(|(version, _)| version(fees, wanted) != found)
+    {
+        count(tally, misled(how));
+    }
+    for (leave_out, how) in LEFT_OUT {
+        let mut other = operation.clone();
+        leave_out(&mut other);
+        let c = Fields::of(record_of(&other));
+        if Fees::of(c, &other).smallest(0, wanted) != found {
+            count(tally, misled(how));
+        }
+    }
+    let (cleared, valued) = digests_left(&c, operation, work, found);
+    if cleared != valued {
+        count(tally, misled(LEFT_VALUED[usize::from(found.is_none())]));
+    }
+    let told = match found {
+        Some((fee, value)) => {
+            let margin = value as i64 - 10_000 * c.premium as i64;
+            format!("0 0 {fee} {value} {margin}")
+        }
+        None => "19 0 0 0 0".to_string(),
+    };
+    answer == format!("{told} {cleared}")
+}
+
+/// How a wanted value lies beside the values of fees, under each behaviour.
+const WANTED: [&str; 6] = [
+    "wanted at the value found",
+    "wanted one above the value found",
+    "wanted one below the value of the fee before",
+    "wanted one below the least value",
+    "fee 0 found",
+    "several fees of the value found",
+];
+
+fn wanted_case(how: &str, behaviour: u64) -> String {
+    format!("fee with {how} under behaviour {behaviour}")
+}
+
+fn wanted_holds(fees: &mut Fees, wanted: u64) -> [bool; 6] {
+    let Some((fee, value)) = fees.smallest(0, wanted) else {
+        let least = fees.value(10_000);
+        return [false, false, false, least == wanted + 1, false, false];
+    };
+    let before = fee.checked_sub(1).map(|fee| fees.value(fee));
+    [
+        value == wanted,
+        value.checked_add(1) == Some(wanted),
+        before.is_some_and(|before| before - 1 == wanted),
+        false,
+        fee == 0,
+        fee < 10_000 && fees.value(fee + 1) == value,
+    ]
+}
+
+/// What the input of a search has.
+const SEARCHED: [&str; 16] = [
+    "wanted 0",
+    "wanted 2^64 - 1",
+    "N 1",
+    "N 40",
+    "64 returns",
+    "equal factors",
+    "top 4,000",
+    "the record's fee 0",
+    "the record's fee 10,000",
+    "the record's fee below the one found",
+    "the record's fee the one found",
+    "the record's fee above the one found",
+    "a fee above 9,000 found",
+    "a working slice just long enough",
+    "a longer working slice, a fee found",
+    "a longer working slice, no fee found",
+];
+
+/// `found` is the fee found.
+fn searched_holds(c: &Fields, operation: &Operation, found: Option<u64>) -> [bool; 16] {
+    let Operation::Fee { wanted, work, .. } = operation else {
+        return [false; 16];
+    };
+    let mut factors: Vec<u64> = returns(list_of(operation)).iter().map(|r| r.0).collect();
+    factors.sort_unstable();
+    let longer = work.len() as u64 > 2 * c.layer();
+    [
+        *wanted == 0,
+        *wanted == u64::MAX,
+        c.dates == 1,
+        c.dates == 40,
+        factors.len() == 64,
+        factors.windows(2).any(|w| w[0] == w[1]),
+        c.top == 4_000,
+        c.fee == 0,
+        c.fee == 10_000,
+        found.is_some_and(|fee| c.fee < fee),
+        found == Some(c.fee),
+        found.is_some_and(|fee| c.fee > fee),
+        found.is_some_and(|fee| fee > 9_000),
+        !longer,
+        longer && found.is_some(),
+        longer && found.is_none(),
+    ]
+}
+
+/// The cases of a search that is made, a fee found or not. Gives whether the answer is that of
+/// the rules, where they are followed here.
+fn count_searched(tally: &mut Tally, c: &Fields, operation: &Operation, answer: &str) -> bool {
+    let Operation::Fee {
+        behaviour,
+        wanted,
+        work,
+        ..
+    } = operation
+    else {
+        return true;
+    };
+    let found = figure_in(answer).filter(|_| number_of(answer) == 0);
+    let holds = searched_holds(c, operation, found);
+    count_held(tally, &SEARCHED, &holds, |how| with("fee", how));
+    count(tally, dates_case("searched", c.dates, *behaviour));
+    let rates = death_rates(rates_of(operation).unwrap_or(&[]));
+    count_rates(tally, "fee", &rates);
+    if let Some(fee) = found {
+        let holds = lifted_holds(&Fields { fee, ..*c }, list_of(operation));
+        count_held(tally, &LIFTED, &holds, |how| with("fee", how));
+    }
+    if !compared(c) {
+        return true;
+    }
+    let mut fees = Fees::of(*c, operation);
+    let holds = wanted_holds(&mut fees, *wanted);
+    count_held(tally, &WANTED, &holds, |how| wanted_case(how, *behaviour));
+    count_misled(tally, &mut fees, (*wanted, work), answer)
 }
 
 const AT_TOP: &str = "book at an account of top";
@@ -995,7 +1332,9 @@ fn stored_in<'a>(c: &Fields, operation: &'a Operation) -> Option<(&'a [u64], u64
     match operation {
         Operation::Check { .. } | Operation::Book { .. } => None,
         Operation::Value(v) | Operation::ValueMap(v, _) => Some((&v.work, 2 * c.layer())),
-        Operation::ValueTable { work, .. } => Some((work, 2 * c.layer())),
+        Operation::Fee { work, .. } | Operation::ValueTable { work, .. } => {
+            Some((work, 2 * c.layer()))
+        }
         Operation::Walk { cash, .. } => Some((cash, c.dates)),
     }
 }
@@ -1007,13 +1346,13 @@ fn wide(name: &str, which: &str) -> String {
 }
 
 /// Where the working slice or the cash holds entries above 2^32 before the call: so that half
-/// an entry written or cleared is seen.
+/// an entry written or cleared is seen. 19 is "the one refusal that changes a working slice".
 fn count_wide(tally: &mut Tally, c: &Fields, operation: &Operation, number: u64) {
     let Some((entries, needed)) = stored_in(c, operation) else {
         return;
     };
     let parts = match number {
-        0 => {
+        0 | 19 => {
             let (overwritten, beyond) = entries.split_at(needed as usize);
             [overwritten, beyond, &[]]
         }
@@ -1043,7 +1382,18 @@ fn count_short(tally: &mut Tally, c: &Fields, operation: &Operation) {
             count(tally, "a table one entry short".to_string());
         }
     }
+    if let Operation::Fee { work, .. } = operation {
+        let lent = work.len() as u64;
+        let holds = [lent == 0, lent == c.layer(), lent + 1 == 2 * c.layer()];
+        count_held(tally, &SHORT_WORK, &holds, |how| with("fee", how));
+    }
 }
+
+const SHORT_WORK: [&str; 3] = [
+    "no working slice",
+    "a working slice of one layer",
+    "a working slice one entry short",
+];
 
 /// What a refusal by 16 has that the script is to have somewhere.
 fn count_short_map(tally: &mut Tally, c: &Fields, map: &[u64]) {
@@ -1086,6 +1436,9 @@ fn count_accepted(
     if c.step > 0 {
         count(tally, format!("{name} accepted with a step"));
     }
+    if let Operation::Fee { .. } = operation {
+        return count_searched(tally, c, operation, answer);
+    }
     match operation {
         Operation::Check { .. } if c.top == 4_000 => {
             count(tally, "top 4,000 passes".to_string());
@@ -1122,9 +1475,7 @@ fn count_lengths(tally: &mut Tally, c: &Fields, name: &str, rates: &[u8]) {
         length == needed + 2,
         length >= 2 * needed,
     ];
-    for (how, _) in LENGTHS.iter().zip(holds).filter(|(_, holds)| *holds) {
-        count(tally, with(name, how));
-    }
+    count_held(tally, &LENGTHS, &holds, |how| with(name, how));
 }
 
 const ABOVE: [&str; 7] = [
@@ -1152,9 +1503,7 @@ fn count_above(tally: &mut Tally, name: &str, rates: &[u8], answer: &str) -> boo
         rates.contains(&10_001),
         rates.contains(&65_535),
     ];
-    for (how, _) in ABOVE.iter().zip(holds).filter(|(_, holds)| *holds) {
-        count(tally, with(name, how));
-    }
+    count_held(tally, &ABOVE, &holds, |how| with(name, how));
     answer.split(' ').nth(1) == Some(&first.to_string())
 }
 
@@ -1177,6 +1526,7 @@ fn count_refused(
     let rates = rates_of(operation).unwrap_or(&[]);
     match (number, operation) {
         (2, _) if c.top == 4_001 => count(tally, "top 4,001 refused with 2".to_string()),
+        (5, _) if c.fee == 10_001 => count(tally, with(name, "the record's fee 10,001")),
         (8, _) if returns.iter().any(|r| r.0 == 30_001) => {
             count(tally, "factor 30,001 refused with 8".to_string())
         }
@@ -1185,6 +1535,7 @@ fn count_refused(
         (16, Operation::ValueMap(_, map)) => count_short_map(tally, c, map),
         (17, _) => count_lengths(tally, c, name, rates),
         (18, _) => return count_above(tally, name, rates, answer),
+        (19, _) => return count_searched(tally, c, operation, answer),
         _ => {}
     }
     true
@@ -1246,7 +1597,7 @@ fn wanted() -> Vec<(String, u64)> {
         wanted.extend(order.iter().map(|n| (refusal(name, *n), LEAST_REFUSALS)));
         wanted.extend(order.windows(2).map(|w| (beside(name, w[0], w[1]), 1)));
     }
-    for (dates, what) in (1..=40).flat_map(|dates| [(dates, "valued"), (dates, "mapped")]) {
+    for (dates, what) in (1..=40).flat_map(|n| ["valued", "mapped", "searched"].map(|w| (n, w))) {
         wanted.extend((0..3).map(|behaviour| (dates_case(what, dates, behaviour), 1)));
     }
     wanted.extend((0..3).map(|behaviour| (surrendered("nowhere", behaviour), 1)));
@@ -1259,14 +1610,15 @@ fn wanted() -> Vec<(String, u64)> {
     for name in ["value_table", "book", "walk"] {
         wanted.extend(["to zero", "not to zero"].map(|to| (fallen(name, to), LEAST_FALLEN)));
     }
-    for name in ["value", "value_table", "walk"] {
+    for name in ["value", "value_table", "walk", "fee"] {
         wanted.push((format!("top 4,000: {}", refusal(name, 11)), 1));
     }
-    for name in ["value", "value_map", "value_table", "walk"] {
+    for name in ["value", "value_map", "value_table", "walk", "fee"] {
         wanted.extend(WIDE.map(|which| (wide(name, which), LEAST_WIDE)));
     }
     wanted.extend(wanted_lifted());
     wanted.extend(wanted_deaths());
+    wanted.extend(wanted_fees());
     wanted.extend(SOMEWHERE.map(|case| (case.to_string(), 1)));
     wanted
 }
@@ -1295,20 +1647,39 @@ fn wanted_lifted() -> Vec<(String, u64)> {
 fn wanted_deaths() -> Vec<(String, u64)> {
     let mut wanted = Vec::new();
     for name in ["value", "value_map", "value_table"] {
-        let rates = RATES
-            .iter()
-            .flat_map(|r| PERIODS.map(|p| rate_in(name, r, p)));
-        let cases = rates
-            .chain(DEATHS.map(|how| with(name, how)))
-            .chain(MISTAKEN.map(|(_, how)| mistaken(name, how)));
+        let cases = DEATHS.map(|how| with(name, how)).into_iter();
+        let cases = cases.chain(MISTAKEN.map(|(_, how)| mistaken(name, how)));
+        wanted.extend(cases.map(|case| (case, LEAST_DEATHS)));
+    }
+    for name in ["value", "value_map", "value_table", "fee"] {
+        let periods = |rate: &str| PERIODS.map(|period| rate_in(name, rate, period));
+        let cases = RATES.into_iter().flat_map(periods);
         wanted.extend(cases.map(|case| (case, LEAST_DEATHS)));
         let refused = LENGTHS.iter().chain(&ABOVE).map(|how| with(name, how));
         wanted.extend(refused.map(|case| (case, 2)));
         for number in [17, 18] {
+            // 19 is not looked at where there are no rates to value by.
             let behind = order_of(name).iter().skip_while(|n| **n != number).skip(1);
+            let behind = behind.filter(|next| **next != 19);
             wanted.extend(behind.map(|next| (beside(name, number, *next), 1)));
         }
     }
+    wanted
+}
+
+/// The cases of a search for a fee.
+fn wanted_fees() -> Vec<(String, u64)> {
+    let mut cases: Vec<String> = MISLED.map(|(_, how)| misled(how)).into();
+    cases.extend(LEFT_OUT.map(|(_, how)| misled(how)));
+    cases.extend(LEFT_VALUED.map(misled));
+    cases.extend(LIFTED.map(|how| with("fee", how)));
+    for behaviour in 0..3 {
+        cases.extend(WANTED.map(|how| wanted_case(how, behaviour)));
+    }
+    let mut wanted: Vec<(String, u64)> = cases.into_iter().map(|c| (c, LEAST_SEARCHED)).collect();
+    let somewhere = SEARCHED.iter().chain(&SHORT_WORK);
+    wanted.extend(somewhere.map(|how| (with("fee", how), 1)));
+    wanted.push((with("fee", "the record's fee 10,001"), 1));
     wanted
 }
 

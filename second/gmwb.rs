@@ -1,4 +1,4 @@
-//! GMWB valuation: the rules of document 01 (01-scope.md), with requests (i) to (v)
+//! GMWB valuation: the rules of document 01 (01-scope.md), with requests (i) to (vi)
 //! of document 02 (02-change-requests.md), written plainly.
 //!
 //! The parts follow document 01: units and records, one date, values, lent
@@ -38,6 +38,14 @@ pub struct Valued {
 pub struct Mapped {
     pub valued: Valued,
     pub count: u64,
+}
+
+/// The answer of a search for a fee: "the smallest fee .. with that value". A refusal gives
+/// fee 0, as "other figures it would report are 0".
+#[derive(Clone, Copy, Debug, PartialEq, Eq)]
+pub struct Found {
+    pub valued: Valued,
+    pub fee: u64,
 }
 
 const SUCCESS: Answer = Answer {
@@ -560,6 +568,81 @@ fn fill_map(c: &Contract, table: &[u16], map: &mut [u64]) -> u64 {
         }
     }
     count
+}
+
+/// "Pricing staff name a wanted value and a behaviour": refusals 1 to 6, 15, 7 to 9, 17, 18,
+/// 10, 11 and 19.
+pub fn fee(
+    record: &[u8],
+    list: &[u8],
+    rates: &[u8],
+    behaviour: u64,
+    wanted: u64,
+    work: &mut [u64],
+) -> Found {
+    let result = try_fee(record, list, rates, behaviour, wanted, work);
+    Found {
+        valued: valued(result.map(|(_, figures)| figures)),
+        fee: result.map_or(0, |(fee, _)| fee),
+    }
+}
+
+/// "No table is lent." "After the search, found or not, the needed working entries are
+/// zero". "19, every fee from 0 to 10,000 gives more than wanted, found last."
+fn try_fee(
+    record: &[u8],
+    list: &[u8],
+    rates: &[u8],
+    behaviour: u64,
+    wanted: u64,
+    work: &mut [u64],
+) -> Result<(u64, (u64, i64)), Answer> {
+    let (c, lists) = read_lists(record, list, rates)?;
+    let behaviour = read_behaviour(behaviour)?;
+    refuse_if(work.len() < work_size(&c), 11, 0)?;
+    let found = smallest_fee(c, &lists, behaviour, wanted, work);
+    work[..work_size(&c)].fill(0);
+    found.ok_or(Answer {
+        number: 19,
+        place: 0,
+    })
+}
+
+/// "the smallest fee from 0 to 10,000 whose value does not exceed it": every fee is tried in
+/// its turn, and that the next one's value is no larger is not relied on. "The record's own
+/// fee is range-checked and otherwise unused." A fee has a part in a value only by where the
+/// returns lead; one that leads where the fee before it does is not valued anew.
+fn smallest_fee(
+    mut c: Contract,
+    lists: &Lists,
+    behaviour: Behaviour,
+    wanted: u64,
+    work: &mut [u64],
+) -> Option<(u64, (u64, i64))> {
+    let mut table = vec![0; table_size(&c)];
+    let mut last = None;
+    for fee in 0..=WHOLE {
+        c.fee = fee;
+        let led = all_lifted(&c, &lists.returns);
+        let figures = match last {
+            Some((before, figures)) if before == led => figures,
+            _ => fill_table(&c, lists, behaviour, work, &mut table),
+        };
+        if figures.0 <= wanted {
+            return Some((fee, figures));
+        }
+        last = Some((led, figures));
+    }
+    None
+}
+
+/// Where each return lifts each balance to.
+fn all_lifted(c: &Contract, returns: &[Return]) -> Vec<u64> {
+    let mut all = Vec::new();
+    for balance in 0..=c.top {
+        all.extend(returns.iter().map(|r| lifted_account(c, balance, r.factor)));
+    }
+    all
 }
 
 /// "valuing a supplied withdrawal table": refusals 1 to 6, 15, 7 to 9, 17, 18, 11 and 14.

@@ -7,13 +7,14 @@
 //! check RECORD
 //! value RECORD LIST RATES BEHAVIOUR WORK TABLE
 //! value_map RECORD LIST RATES BEHAVIOUR WORK TABLE MAP
+//! fee RECORD LIST RATES BEHAVIOUR WANTED WORK
 //! value_table RECORD LIST RATES WORK TABLE
 //! book RECORD DATE ACCOUNT GUARANTEE AMOUNT BUFFER
 //! walk RECORD LIST TABLE NUMBERS CASH
 //! ```
 //!
 //! RECORD, LIST, RATES: bytes as lowercase hex, `-` for none.
-//! BEHAVIOUR, DATE, ACCOUNT, GUARANTEE, AMOUNT: decimal, up to 64 bits.
+//! BEHAVIOUR, WANTED, DATE, ACCOUNT, GUARANTEE, AMOUNT: decimal, up to 64 bits.
 //! WORK, MAP, CASH (64-bit entries), TABLE, NUMBERS (16-bit), BUFFER (8-bit): a slice, as
 //! - `-`: no entries;
 //! - `5,0,12`: these entries, decimal;
@@ -26,7 +27,8 @@
 //! - `=`: the table as the last operation that had one left it, none before the first;
 //! - `=I:V`: the same with V in entry I, of those there are.
 //!
-//! A line that is not understood leaves no table.
+//! A check, a search for a fee and a booking have no table, so that `=` behind them is still
+//! the one before. A line that is not understood leaves no table.
 //!
 //! Answers:
 //!
@@ -34,6 +36,7 @@
 //! check        NUMBER PLACE
 //! value        NUMBER PLACE VALUE MARGIN D(WORK) D(TABLE)
 //! value_map    NUMBER PLACE VALUE MARGIN COUNT D(WORK) D(TABLE) D(MAP)
+//! fee          NUMBER PLACE FEE VALUE MARGIN D(WORK)
 //! value_table  NUMBER PLACE VALUE MARGIN D(WORK) D(TABLE)
 //! book         NUMBER PLACE D(BUFFER)
 //! walk         NUMBER PLACE D(TABLE) D(CASH)
@@ -174,6 +177,14 @@ pub enum Operation {
     },
     Value(Valuing),
     ValueMap(Valuing, Vec<u64>),
+    Fee {
+        record: Vec<u8>,
+        list: Vec<u8>,
+        rates: Vec<u8>,
+        behaviour: u64,
+        wanted: u64,
+        work: Vec<u64>,
+    },
     ValueTable {
         record: Vec<u8>,
         list: Vec<u8>,
@@ -225,6 +236,14 @@ fn operation(line: &str, last: &[u16]) -> Result<Operation, String> {
             let fields = [record, list, rates, behaviour, work, table];
             Operation::ValueMap(valuing_in(fields, last)?, slice_in(map, MOD_64)?)
         }
+        ["fee", record, list, rates, behaviour, wanted, work] => Operation::Fee {
+            record: bytes_in(record)?,
+            list: bytes_in(list)?,
+            rates: bytes_in(rates)?,
+            behaviour: number(behaviour)?,
+            wanted: number(wanted)?,
+            work: slice_in(work, MOD_64)?,
+        },
         ["value_table", record, list, rates, work, table] => Operation::ValueTable {
             record: bytes_in(record)?,
             list: bytes_in(list)?,
@@ -277,6 +296,16 @@ fn told_map(m: gmwb::Mapped, work: &[u64], table: &[u16], map: &[u64], full: boo
     line
 }
 
+fn told_fee(f: gmwb::Found, work: &[u64], full: bool) -> String {
+    let (v, fee) = (f.valued, f.fee);
+    let figures = format!("{} {} {fee} {} {}", v.number, v.place, v.value, v.margin);
+    let mut line = format!("{figures} {}", digest(work));
+    if full {
+        line += &format!(" {}", listed(work));
+    }
+    line
+}
+
 fn told_booking(a: gmwb::Answer, buffer: &[u8], full: bool) -> String {
     let mut line = format!("{} {}", told(a), digest(buffer));
     if full {
@@ -307,6 +336,17 @@ fn answered(operation: &mut Operation, full: bool) -> String {
             let (work, table) = (&mut v.work, &mut v.table);
             let answer = gmwb::value_map(record, list, rates, v.behaviour, work, table, map);
             told_map(answer, work, table, map, full)
+        }
+        Operation::Fee {
+            record,
+            list,
+            rates,
+            behaviour,
+            wanted,
+            work,
+        } => {
+            let answer = gmwb::fee(record, list, rates, *behaviour, *wanted, work);
+            told_fee(answer, work, full)
         }
         Operation::ValueTable {
             record,
@@ -347,7 +387,7 @@ fn table_of(operation: Operation) -> Option<Vec<u16>> {
     match operation {
         Operation::Value(v) | Operation::ValueMap(v, _) => Some(v.table),
         Operation::ValueTable { table, .. } | Operation::Walk { table, .. } => Some(table),
-        Operation::Check { .. } | Operation::Book { .. } => None,
+        Operation::Check { .. } | Operation::Fee { .. } | Operation::Book { .. } => None,
     }
 }
 

@@ -1,13 +1,13 @@
 //! `second self-check`: the figures of document 01's section "Contracts worked by
 //! hand", penalty rates that fall by document 02's request (i), maps of surrender by its request
 //! (ii), payments of what a return lifts above top by its request (iv), payment at death by
-//! its request (v), every refusal on both sides of its boundary, the order of the checks,
-//! what is left in the lent slices, whose entries are 64-bit by request (iii), and
-//! properties on random small contracts.
+//! its request (v), the fee that gives a price by its request (vi), every refusal on both sides
+//! of its boundary, the order of the checks, what is left in the lent slices, whose entries are
+//! 64-bit by request (iii), and properties on random small contracts.
 //!
 //! The operations are only called from outside here, as an engine's caller would.
 
-use crate::script::{answer, digest, fill, MOD_16, MOD_64, MOD_8};
+use crate::script::{answer, digest, fill, Session, MOD_16, MOD_64, MOD_8};
 use crate::terms::{list, rate_list, Terms, P, P_RETURNS, Q};
 use crate::{gmwb, text};
 use std::fmt::Debug;
@@ -44,6 +44,7 @@ pub fn run() -> (u64, u64) {
     map_lengths(&mut t);
     payouts(&mut t);
     deaths(&mut t);
+    fees(&mut t);
     printed(&mut t);
     printed_within_slices(&mut t);
     record_boundaries(&mut t);
@@ -59,6 +60,7 @@ pub fn run() -> (u64, u64) {
     rounded_once(&mut t);
     large_values(&mut t);
     script_lines(&mut t);
+    table_behind_search(&mut t);
     let mut draw = Draw(20_240_601);
     let mut apart = [0; MISTAKEN.len()];
     for k in 0..48 {
@@ -83,6 +85,12 @@ pub fn run() -> (u64, u64) {
     }
     for _ in 0..2_000 {
         random_bytes(&mut t, &mut draw);
+    }
+    for k in 0..12 {
+        every_fee(&mut t, &mut draw, k);
+    }
+    for k in 0..60 {
+        random_fee(&mut t, &mut draw, k);
     }
     (t.checks, t.failed)
 }
@@ -818,6 +826,193 @@ fn certain_death(t: &mut Tally) {
     }
 }
 
+// ------------------------------------------------ Which fee gives this price
+
+/// A search, and what it leaves in the working slice.
+type Searched = (gmwb::Found, Vec<u64>);
+
+/// A search with a working slice of exactly the needed length.
+fn searched(terms: &Terms, lists: Lists, behaviour: u64, wanted: u64) -> Searched {
+    let mut work = filled_64(2 * terms.layer());
+    let (record, list, rates) = (terms.record(), list(lists.0), rate_list(lists.1));
+    let found = gmwb::fee(&record, &list, &rates, behaviour, wanted, &mut work);
+    (found, work)
+}
+
+/// The answer of a valuation at a fee.
+fn at_fee(terms: &Terms, lists: Lists, behaviour: u64, fee: u64) -> gmwb::Valued {
+    let fee = fee as u16;
+    valued_with(&Terms { fee, ..*terms }, lists.0, lists.1, behaviour).0
+}
+
+/// P's returns, and zero death rates.
+const P_LISTS: Lists = (&P_RETURNS, &[0; 2]);
+
+/// A search for P with a fee in its record and zero death rates: number, place, fee, value and
+/// margin. "After the search, found or not, the needed working entries are zero".
+fn priced(t: &mut Tally, own: u16, behaviour: u64, wanted: u64) -> (u64, u64, u64, u64, i64) {
+    let (found, work) = searched(&Terms { fee: own, ..P }, P_LISTS, behaviour, wanted);
+    t.same("P: cleared", work.iter().all(|x| *x == 0), true);
+    let v = found.valued;
+    (v.number, v.place, found.fee, v.value, v.margin)
+}
+
+fn fees(t: &mut Tally) {
+    fee_figures(t);
+    fee_beside_value(t);
+    fee_slices(t);
+    highest_fees(t);
+}
+
+/// Static, the guarantee alone is worth 100,000. "The record's own fee is range-checked and
+/// otherwise unused."
+fn fee_figures(t: &mut Tally) {
+    for (behaviour, wanted, fee, value) in [
+        (0, 100_000, 2_667, 100_000),
+        (0, 110_000, 1_334, 110_000),
+        (0, 124_999, 1, 120_000),
+        (0, 125_000, 0, 125_000),
+        // 0 with 32 bits, below 0 with a sign
+        (0, 1 << 32, 0, 125_000),
+        (0, 1 << 63, 0, 125_000),
+        (0, u64::MAX, 0, 125_000),
+        (2, 110_000, 1_667, 110_000),
+        (2, 124_999, 477, 122_500),
+        (2, 125_000, 1, 125_000),
+        (2, 130_000, 0, 130_000),
+        (2, u64::MAX, 0, 130_000),
+    ] {
+        let expected = (0, 0, fee, value, value as i64 - 100_000);
+        for own in [0, 1, 1_334, 9_999, 10_000] {
+            let name = format!("P with fee {own}, behaviour {behaviour}, wanted {wanted}");
+            let got = priced(t, own, behaviour, wanted);
+            t.same(&name, got, expected);
+        }
+    }
+    for (behaviour, wanted) in (0..3).flat_map(|b| [0, 1, 99_999].map(|w| (b, w))) {
+        let name = format!("P, behaviour {behaviour}, wanted {wanted}");
+        let got = priced(t, 0, behaviour, wanted);
+        t.same(&name, got, (19, 0, 0, 0, 0));
+    }
+}
+
+/// A fee found gives the value found, the fee before it more than wanted.
+fn fee_beside_value(t: &mut Tally) {
+    for behaviour in 0..3 {
+        for wanted in (100_000..=130_000).step_by(500) {
+            let (number, _, fee, value, _) = priced(t, 0, behaviour, wanted);
+            let name = format!("P, behaviour {behaviour}, wanted {wanted}");
+            let at = |fee: u64| at_fee(&P, P_LISTS, behaviour, fee).value;
+            t.same(&name, (number, at(fee)), (0, value));
+            let before = fee.checked_sub(1).map_or(u64::MAX, at);
+            let first = value <= wanted && wanted < before;
+            t.same(&format!("{name}: smallest"), first, true);
+        }
+    }
+}
+
+/// "After the search, found or not, the needed working entries are zero", those beyond as before;
+/// a slice that is short is left as it was. 19 is "found last".
+fn fee_slices(t: &mut Tally) {
+    let (record, returns, needed) = (P.record(), list(&P_RETURNS), 2 * P.layer());
+    for lent in [0, needed / 2, needed - 1, needed, needed + 1, needed + 9] {
+        for (wanted, number) in [(0, 19), (99_999, 19), (100_000, 0), (u64::MAX, 0)] {
+            let mut work = filled_64(lent);
+            let found = gmwb::fee(&record, &returns, &[0; 4], 1, wanted, &mut work);
+            let mut expected = filled_64(lent);
+            if lent >= needed {
+                expected[..needed].fill(0);
+            }
+            let number = if lent < needed { 11 } else { number };
+            let name = format!("wanted {wanted}, working slice of {lent}");
+            t.same(&name, found.valued.number, number);
+            t.same(&format!("{name}: left"), work, expected);
+        }
+    }
+}
+
+/// A return that triples leads from 10 to 2 up to fee 9,333. Where later payments count for little,
+/// 2 are surrendered, and 1 is not. Static has a part only in what is above top, up to fee 6,333.
+fn highest_fees(t: &mut Tally) {
+    let terms = Terms {
+        level: 1,
+        top: 10,
+        discount: 20_000,
+        ..P
+    };
+    for (behaviour, fee) in [(0, 6_334), (1, 9_334), (2, 9_334)] {
+        let lists = (&[(30_000, 10_000)][..], &[0; 2][..]);
+        let least = at_fee(&terms, lists, behaviour, 10_000);
+        let (found, _) = searched(&terms, lists, behaviour, least.value);
+        let name = format!("highest fee, behaviour {behaviour}");
+        t.same(&name, (found.valued, found.fee), (least, fee));
+        let (found, _) = searched(&terms, lists, behaviour, least.value - 1);
+        t.same(&name, (found.valued.number, found.fee), (19, 0));
+    }
+}
+
+/// Every fee of a contract under a top of at most 4, each behaviour: none gives more than the one
+/// before, and a search gives the first whose value is at most wanted.
+fn every_fee(t: &mut Tally, draw: &mut Draw, k: u64) {
+    let top = 2 + draw.upto(2);
+    let terms = draw.under(top as u16, 1 + (k % 3) as u16);
+    let (returns, rates) = (draw.returns(), draw.rates(terms.dates));
+    let lists = (&returns[..], &rates[..]);
+    for behaviour in 0..3 {
+        let at = |fee: u64| at_fee(&terms, lists, behaviour, fee);
+        let all: Vec<gmwb::Valued> = (0..=10_000).map(at).collect();
+        let name = format!("every fee {k}: {terms:?} {returns:?} {rates:?}, {behaviour}");
+        let falling = all.windows(2).all(|v| v[0].value >= v[1].value);
+        t.same(&format!("{name}: falling"), falling, true);
+        for fee in [0, 1, draw.upto(1_000), draw.upto(10_000), 10_000] {
+            let value = all[fee as usize].value;
+            for wanted in [value.saturating_sub(1), value, value + 1] {
+                let expected = all.iter().position(|v| v.value <= wanted);
+                let (found, work) = searched(&terms, lists, behaviour, wanted);
+                let fee = (found.valued.number == 0).then_some(found.fee as usize);
+                t.same(&format!("{name}: wanted {wanted}"), fee, expected);
+                let told = expected.map_or(NO_FEE, |fee| all[fee]);
+                t.same(&format!("{name}: figures"), found.valued, told);
+                let cleared = work.iter().all(|x| *x == 0);
+                t.same(&format!("{name}: cleared"), cleared, true);
+            }
+        }
+    }
+}
+
+const NO_FEE: gmwb::Valued = gmwb::Valued {
+    number: 19,
+    place: 0,
+    value: 0,
+    margin: 0,
+};
+
+/// A contract at some fees, from the smallest, each behaviour: none gives more than the one before
+/// it. What a fee gives is found at it or before it, and the fee before that one gives more.
+fn random_fee(t: &mut Tally, draw: &mut Draw, k: u64) {
+    let (terms, returns) = (draw.terms(), draw.returns());
+    let rates = draw.rates(terms.dates);
+    let lists = (&returns[..], &rates[..]);
+    let mut fees = vec![0, 1, 2, 10_000];
+    fees.extend((0..12).map(|i| draw.upto([300, 3_000, 10_000][i % 3])));
+    fees.sort_unstable();
+    for behaviour in 0..3 {
+        let name = format!("random fee {k}: {terms:?} {returns:?} {rates:?}, {behaviour}");
+        let at = |fee: u64| at_fee(&terms, lists, behaviour, fee);
+        let values: Vec<u64> = fees.iter().map(|fee| at(*fee).value).collect();
+        let falling = values.windows(2).all(|v| v[0] >= v[1]);
+        t.same(&format!("{name}: falling"), falling, true);
+        let some = draw.upto(fees.len() as u64 - 1) as usize;
+        let (found, _) = searched(&terms, lists, behaviour, values[some]);
+        t.same(&format!("{name}: found"), found.fee <= fees[some], true);
+        t.same(&format!("{name}: value"), found.valued, at(found.fee));
+        t.same(&format!("{name}: wanted"), found.valued.value, values[some]);
+        let before = found.fee.checked_sub(1).map(|fee| at(fee).value);
+        let more = before.is_none_or(|before| before > values[some]);
+        t.same(&format!("{name}: smallest"), more, true);
+    }
+}
+
 // ------------------------------------------------------------ The program's text
 
 fn printed(t: &mut Tally) {
@@ -886,8 +1081,8 @@ fn printed_within_slices(t: &mut Tally) {
 
 // ------------------------------------------------------------------ Refusals
 
-/// The input of five operations; each takes its part. Valuing with a map is called beside
-/// each valuing, by `with_map`.
+/// The input of five operations; each takes its part. Valuing with a map and the search for a
+/// fee are called beside each valuing, by `with_map` and `with_fee`.
 #[derive(Clone)]
 struct Call {
     record: Vec<u8>,
@@ -1012,6 +1207,34 @@ impl Tally {
         }
     }
 
+    /// A search for a fee is refused as valuing is, but that no table is lent. Else fee 0 meets
+    /// the largest number wanted, and 0 is met by what is worth nothing or refused by 19.
+    fn with_fee(&mut self, name: &str, call: &Call, valued: (u64, u64)) {
+        let field = |at| u16::from_le_bytes([call.record[at], call.record[at + 1]]);
+        let needed = || 2 * (usize::from(field(0)) + 1) * (usize::from(field(4)) + 1);
+        let searches = valued == (0, 0) || valued == (11, 0) && call.work >= needed();
+        // Fee after fee is tried for what is not met, so only with small contracts.
+        let unmet = !searches || field(4) <= 20 && field(6) <= 4;
+        for wanted in [u64::MAX, 0].into_iter().filter(|w| *w > 0 || unmet) {
+            let name = format!("{name}: wanted {wanted}");
+            let (mut work, mut left) = (filled_64(call.work), filled_64(call.work));
+            let (list, rates) = (&call.list, &call.rates);
+            let found = gmwb::fee(&call.record, list, rates, call.behaviour, wanted, &mut work);
+            let v = found.valued;
+            if searches {
+                left[..needed()].fill(0);
+                let met = (v.number, v.place) == (0, 0) && v.value <= wanted;
+                let met = met && (wanted == 0 || found.fee == 0);
+                self.same(&name, met || (wanted == 0 && v == NO_FEE), true);
+            } else {
+                self.same(&name, (v.number, v.place), valued);
+                let figures = (found.fee, v.value, v.margin);
+                self.same(&format!("{name}: figures"), figures, (0, 0, 0));
+            }
+            self.same(&format!("{name}: left"), work, left);
+        }
+    }
+
     /// The five answers are those expected, and a refusal has changed nothing.
     fn five(&mut self, name: &str, call: &Call, expected: Five) {
         let got = self.refusals_change_nothing(name, call);
@@ -1026,6 +1249,7 @@ impl Tally {
             self.same(&name, sound, true);
         }
         self.with_map(name, call, got[1]);
+        self.with_fee(name, call, got[1]);
         got
     }
 
@@ -1489,6 +1713,8 @@ fn script_lines(t: &mut Tally) {
     let longer = "0 0 10000 0 3061567026 7 0,10000,10000,10000,0,0,0,0,4295030648 -";
     let with_map = "0 0 10000 0 0 3700988814 7 13592 0,10000,10000,10000,0,0,0,0 - \
                     18446744073709551556,7918";
+    let met = "0 0 0 10000 0 2892625099 0,0,0,0,0,0,0,0";
+    let unmet = "19 0 0 0 0 3772095607 0,0,0,0,0,0,0,0,4295030648";
     t.same("digest of nothing", digest::<u64>(&[]), 7);
     t.same("digest of 0, 5", digest(&[0u16, 5]), (7 * 31 + 1) * 31 + 6);
     // 2^32 is 5 more than the modulus, so 2^64 leaves 25.
@@ -1516,6 +1742,12 @@ fn script_lines(t: &mut Tally) {
             "value_table T 10271027 1127 2:5 -",
             "18 0 0 0 14838 7 5,7924 -",
         ),
+        ("fee T 10271027 0000 0 10000 8:5", met),
+        ("fee T 10271027 0000 2 18446744073709551615 8:5", met),
+        ("fee T 10271027 0000 0 9999 9:4294967296", unmet),
+        ("fee T 10271027 0000 3 9999 2:5", "10 0 0 0 0 14838 5,7924"),
+        ("fee T 10271027 0000 0 9999 2:5", "11 0 0 0 0 14838 5,7924"),
+        ("fee T 10271027 0000 0 9999 -", "11 0 0 0 0 7 -"),
         ("book P 1 15 10 6 3:250", "11 0 454051 fa8918"),
         ("book P 1 15 10 6 2:9:1", "11 0 6759 0000"),
         ("book P 1 15 10 6 -", "11 0 7 -"),
@@ -1542,10 +1774,32 @@ fn script_lines(t: &mut Tally) {
         "value - - 0g 0 1:5 -",
         "value_map - - 0 1:5 - -",
         "value_table - - 1:5 -",
+        "fee - - - 0 1:5",
+        "fee - - - 0 -1 1:5",
+        "fee - - - 0 18446744073709551616 1:5",
+        "fee - - - 0 0 =",
         "walk - - - - - -",
     ] {
         t.same("line not understood", answer(line, false).is_err(), true);
     }
+}
+
+/// A search has no table: the last one is still there behind it.
+fn table_behind_search(t: &mut Tally) {
+    let least = "01000100010002000000000040420f0000000000 10271027 00000000 0";
+    let mut session = Session::default();
+    let valued = session.answer(&format!("value {least} 8:5 4:5"), false);
+    let table = session.table().to_vec();
+    for wanted in [9_999, 10_000] {
+        let searched = session.answer(&format!("fee {least} {wanted} 8:5"), false);
+        t.same(
+            "understood",
+            (valued.is_ok(), searched.is_ok()),
+            (true, true),
+        );
+        t.same("the last table", session.table(), &table[..]);
+    }
+    t.same("a table of 4", table.len(), 4);
 }
 
 // --------------------------------------------------- Random small contracts
@@ -1576,6 +1830,18 @@ impl Draw {
             discount: 1_000_000 - self.upto(100_000) as u32,
             step: self.upto(steps) as u16,
             spare: 0,
+        }
+    }
+
+    /// A contract under some top, with some dates.
+    fn under(&mut self, top: u16, dates: u16) -> Terms {
+        let premium = 1 + self.upto(u64::from(top) - 1) as u16;
+        Terms {
+            premium,
+            level: 1 + self.upto(u64::from(premium) - 1) as u16,
+            top,
+            dates,
+            ..self.terms()
         }
     }
 
@@ -2019,14 +2285,7 @@ impl Strategy<'_> {
 /// decision dates: under each behaviour none earns more than the value, and some as much.
 fn every_strategy(t: &mut Tally, draw: &mut Draw, k: u64) {
     let top = 2 + draw.upto(1);
-    let premium = 1 + draw.upto(top - 1) as u16;
-    let terms = Terms {
-        premium,
-        level: 1 + draw.upto(u64::from(premium) - 1) as u16,
-        top: top as u16,
-        dates: 2 + (k % 2) as u16,
-        ..draw.terms()
-    };
+    let terms = draw.under(top as u16, 2 + (k % 2) as u16);
     let weight = 1 + draw.upto(9_998) as u16;
     let returns = [
         (draw.upto(12_000) as u16, weight),
@@ -2048,7 +2307,7 @@ fn every_strategy(t: &mut Tally, draw: &mut Draw, k: u64) {
                 behaviour,
                 amounts: &amounts,
             };
-            let premium = u64::from(premium);
+            let premium = u64::from(terms.premium);
             let earned = strategy.over_period(0, 0, (premium, premium));
             *most = earned.max(*most);
         }

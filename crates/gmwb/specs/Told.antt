@@ -1,11 +1,14 @@
 -- What the calls for a C host that value are given, return, write and leave. Assumes nothing.
-use mathlib.Core.List.{List}
+use mathlib.Core.List.{List, _++_}
 use mathlib.Core.Path.{_≡_}
 use Prim.Native.Nat.{ℕ}
 use lib.IntN.{ℤ}
-use Rattle.rules.specs.Product.{Claim}
+use Rattle.rules.specs.Contract.{termsOf, returnsOf, ratesOf}
+use Rattle.rules.specs.Product.{amountLayers, Claim}
+use Rattle.rules.specs.FixedTerm.{fixedTerm}
 use Rattle.rules.specs.Operations.{Answer, productOf, behaviourOf, valuingAnswer, valuingWork, valuingTable, suppliedAnswer, suppliedWork}
 use Rattle.rules.specs.Map.{mappingAnswer, mappingCount, mappingWork, mappingTable, mappingMap}
+use Rattle.rules.specs.Fee.{withFee, feeAnswer, feeFound, feeWork}
 
 -- number, place, value and margin of an answer
 pub record Told (a : Answer) (number place value : ℕ) (margin : ℤ) : Type 0 where
@@ -35,6 +38,18 @@ pub record MapTold (bytes list rates : List ℕ) (behaviour : ℕ) (work table m
     pub map-is : map' ≡ mappingMap bytes list rates behaviour work table map
     -- the third demand, on number 0
     pub claim : number ≡ 0 → Claim (productOf bytes list rates) (behaviourOf behaviour) value table'
+
+-- gmwb_fee
+pub record FeeTold (bytes list rates : List ℕ) (behaviour wanted : ℕ) (work : List ℕ)
+    (number place fee value : ℕ) (margin : ℤ) (work' : List ℕ) : Type 0
+  where
+    pub told : Told (feeAnswer bytes list rates behaviour wanted work) number place value margin
+    pub fee-is : fee ≡ feeFound bytes list rates behaviour wanted work
+    pub work-is : work' ≡ feeWork bytes list rates behaviour work
+    -- the third demand, on number 0, of the contract with the fee found and any table that starts with its recorded amounts
+    pub claim : number ≡ 0 → (rest : List ℕ)
+        → let X = fixedTerm (withFee (termsOf bytes) fee) (returnsOf list) (ratesOf rates) in
+        Claim X (behaviourOf behaviour) value (amountLayers X (behaviourOf behaviour) ++ rest)
 
 -- gmwb_value_table
 pub record TableTold (bytes list rates work table : List ℕ) (number place value : ℕ) (margin : ℤ) (work' : List ℕ) : Type 0 where

@@ -2,7 +2,7 @@
 ghost use mathlib.Core.Path.{_≡_};
 ghost use Rattle.rules.specs.Refusals.{numberOf, placeOf};
 ghost use Rattle.rules.specs.Operations.{recordVerdict, bookingVerdict, bookingBuffer, walkVerdict, walkCashes};
-ghost use Rattle.gmwb.specs.Told.{ValueTold, MapTold, TableTold};
+ghost use Rattle.gmwb.specs.Told.{ValueTold, MapTold, FeeTold, TableTold};
 use contract::Contract;
 
 // Checks a record. The place of each of its refusals is 0.
@@ -88,6 +88,34 @@ pub extern "C" fn gmwb_value_map(
     let mapped = mapping::value_map(bytes, list, rates, behaviour as usize, work, table, map);
     *count = mapped.count;
     let figures = mapped.answer;
+    *place = figures.place;
+    *value = figures.value;
+    let difference = figures.margin;
+    *margin = difference;
+    figures.number
+}
+
+// Finds the smallest fee whose value is at most `wanted`.
+#[no_mangle]
+pub extern "C" fn gmwb_fee(
+    bytes: &[u8],
+    list: &[u8],
+    rates: &[u8],
+    behaviour: u64,
+    wanted: u64,
+    work: &mut [u64],
+    place: &mut u64,
+    fee: &mut u64,
+    value: &mut u64,
+    margin: &mut i64,
+) -> u32
+    ensures { λ r. ⌜ FeeTold (now (bytes .entry)) (now (list .entry)) (now (rates .entry)) behaviour wanted
+        (now (work .entry))
+        r (now (place .exit)) (now (fee .exit)) (now (value .exit)) (now (margin .exit)) (now (work .exit)) ⌝ }
+{
+    let priced = pricing::find_fee(bytes, list, rates, behaviour as usize, wanted, work);
+    *fee = priced.fee;
+    let figures = priced.answer;
     *place = figures.place;
     *value = figures.value;
     let difference = figures.margin;

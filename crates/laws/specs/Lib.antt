@@ -16,3 +16,6 @@ pub mod Death
 pub mod Map
 pub mod Narrow
 pub mod Rising
+pub mod Fee
+pub mod Pricing
+pub mod FeeCases

@@ -3,7 +3,7 @@
 use mathlib.Core.Bool.{Bool, false}
 use mathlib.Core.List.{List, [], _∷_, _++_, map}
 use mathlib.Core.Path.{_≡_, refl}
-use Prim.Native.Nat.{ℕ, _+_, _-_, _*_}
+use Prim.Native.Nat.{ℕ, _+_, _*_}
 use lib.IntN.{ℤ, pos}
 use lib.ListN.{replicate}
 use Rattle.decision.specs.Index.{sum, tabulate, first, firstFrom}
@@ -24,9 +24,10 @@ use Rattle.rules.specs.Refusals.{short, termsChecks, recordChecks, badRe
 use Rattle.rules.specs.Operations.{productOf, livingOf, Answer, answer, behaviourNumber, behaviourOf, tableSize, lentChecks}
 use Rattle.rules.specs.Operations.{recordVerdict, valuingChecks, valuingVerdict, valuingAnswer, amountChecks, bookingChecks}
 use Rattle.rules.specs.Operations.{bookingVerdict, bookingBytes, bookingBuffer, badDate, pathChecks, walkChecks}
-use Rattle.rules.specs.Operations.{walkVerdict, walkCashes}
+use Rattle.rules.specs.Operations.{walkVerdict, walkCashes, workChecks, aloneChecks, aloneVerdict}
 use Rattle.rules.specs.Map.{surrendered, surrenderMap, surrenderCount, mapSize, mapChecks, mappingChecks, mappingVerdict}
 use Rattle.rules.specs.Map.{mappingTable, mappingMap, mappingCount}
+use Rattle.rules.specs.Fee.{feeValue, meets, smallestFee, wantedChecks, feeChecks, feeVerdict, feeFound, feeAnswer, feeWork}
 use Rattle.rules.specs.Printed.{digits, decimal, numbered, line, nameOf, linesOf, valueLine, returnLine, lineCount}
 use Rattle.rules.specs.Printed.{valuesText, textOf, zeroRates, programVerdict, printed}
 
@@ -104,6 +105,8 @@ pub data Question : Type 0 where
   mapOf : Terms → Behaviour → ℕ → ℕ → Question
   -- the cash of a walk along the table that valuing leaves, in a slice of a number more than it fills
   walkOf : Terms → Behaviour → List ℕ → Question
+  -- (vi) the fee of a wanted value, with zero rates, in a working slice of one entry more than is needed
+  feeOf : Terms → Behaviour → ℕ → Question
   -- booking an amount on a date, at (w, a)
   bookingOf : Terms → ℕ → ℕ → ℕ → ℕ → Question
 
@@ -113,6 +116,7 @@ pub data Told : Type 0 where
   allowed : Bool → Told
   cash-penalty-balance-guarantee : ℕ → ℕ → ℕ → ℕ → Told
   words-count : List ℕ → ℕ → Told
+  fee-value-margin : ℕ → ℕ → ℤ → Told
   cashes : List ℕ → Told
   number-place : ℕ → ℕ → Told
 
@@ -158,6 +162,13 @@ tell (walkOf c b path) =
     let table : List ℕ = amountLayers (livingOf (packed c) returnsP) b in
     let before : List ℕ = replicate (c .dates + 1) 7 in
     unless-refused (walkVerdict (packed c) returnsP table path before) (cashes (walkCashes (packed c) returnsP table path before))
+tell (feeOf c b wanted) =
+    let rates : List ℕ = zeroRates (packed c) in
+    let work : List ℕ = replicate (2 * layerSize c + 1) 7 in
+    let a = feeAnswer (packed c) returnsP rates (behaviourNumber b) wanted work in
+    unless-refused
+    (feeVerdict (packed c) returnsP rates (behaviourNumber b) wanted work)
+    (fee-value-margin (feeFound (packed c) returnsP rates (behaviourNumber b) wanted work) (a .value) (a .margin))
 tell (surrenderAt c w a) = allowed (surrenders (freeIn c (at w a)) w w)
 tell (recordOf c) = let v = recordVerdict (packed c) in number-place (numberOf v) (placeOf v)
 tell (bookingOf c i w a t) =
@@ -331,6 +342,40 @@ unfolding sum first firstFrom largest smallestBest reached worth valueOver value
     lentChecks valuingChecks valuingVerdict valuingAnswer packed packedRates P P-three P-four P-discounted P-tight returnsP unless-refused
     valued valuedWith recordVerdict zeroRates tell row death-rows
 death-cases = refl
+
+-- ---- document 02 (vi): contract P; Q, whose record has a fee; a contract of one unit. Fees further from 0, and a value that no fee
+-- gives: crates/laws/specs/FeeCases.antt
+pub tiny : Terms
+tiny = record { premium = 1; level = 1; top = 1; dates = 1; fee = 0; penalty = 0; discount = 1000000; step = 0; spare = 0 }
+
+pub fee-rows : List Row
+fee-rows =
+    row 1 (feeOf P static 124999) (fee-value-margin 1 120000 (pos 20000))
+    ∷ row 2 (feeOf P static 125000) (fee-value-margin 0 125000 (pos 25000))
+    ∷ row 3 (feeOf P dynamic 125000) (fee-value-margin 1 125000 (pos 25000))
+    ∷ row 4 (feeOf P dynamic 130000) (fee-value-margin 0 130000 (pos 30000))
+    ∷ row 5 (feeOf Q mixed 125000) (fee-value-margin 0 125000 (pos 25000))
+    ∷ row 6 (feeOf tiny static 10000) (fee-value-margin 0 10000 (pos 0))
+    ∷ []
+
+pub fee-cases : map (λ r. tell (r .asked)) fee-rows ≡ map (λ r. r .told) fee-rows
+unfolding sum first firstFrom largest smallestBest reached worth valueOver value startValue word long bytesOf termsOf returnsOf ratesOf
+    freeAmount largestAmount surrenders admits rateOn penalty cash guaranteeAfter balanceAfter liftedAccount nextAccount excess excessPaid
+    maturityValue deathPayment deathShare discounted margin contractValue freeIn admissibleIn limitIn cashIn afterIn reachBy paidBy
+    deathBy meanOf expectOver startOf processOf layerSize layoutOf fixedTerm checkEach verdict numberOf placeOf onSuccess outside short
+    termsChecks recordChecks badReturn listChecks ratesChecks inputChecks productOf answer behaviourNumber behaviourOf workChecks
+    aloneChecks feeValue meets smallestFee wantedChecks feeChecks feeVerdict feeFound feeAnswer packed P Q tiny returnsP unless-refused
+    recordVerdict zeroRates tell row fee-rows
+fee-cases = refl
+
+-- "After the search, found or not, the needed working entries are zero": both layers of four entries, and the one behind them as it
+-- was; a slice that is too short keeps what it held
+pub fee-leaves : (feeWork (packed tiny) returnsP (zeroRates (packed tiny)) 0 (replicate 9 7) ≡ 0 ∷ 0 ∷ 0 ∷ 0 ∷ 0 ∷ 0 ∷ 0 ∷ 0 ∷ 7 ∷ [])
+    × (feeWork (packed tiny) returnsP (zeroRates (packed tiny)) 0 (replicate 7 7) ≡ replicate 7 7)
+unfolding sum first firstFrom word long bytesOf termsOf returnsOf ratesOf layerSize checkEach verdict onSuccess outside short termsChecks
+    recordChecks badReturn listChecks ratesChecks inputChecks workChecks aloneChecks aloneVerdict feeWork packed tiny returnsP
+    recordVerdict zeroRates
+fee-leaves = (refl, refl)
 
 -- "The program .. prints exactly": the five lines for P, as ASCII codes
 pub printed-P : printed (packed P) returnsP

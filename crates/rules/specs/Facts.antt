@@ -19,6 +19,7 @@ use Rattle.rules.specs.Printed.{digits, decimal}
 use Rattle.rules.specs.Operations.{lentChecks, valuingChecks, tableChecks, suppliedChecks, amountChecks, bookingChecks}
 use Rattle.rules.specs.Operations.{pathChecks, walkChecks, workChecks, aloneChecks}
 use Rattle.rules.specs.Map.{mapChecks, mappingChecks}
+use Rattle.rules.specs.Fee.{wantedChecks, feeChecks}
 
 -- ---- "Checks run in the order of the table; an operation makes those for which it has the input."
 pub record-order : (bytes : List ℕ) → numbers (recordChecks bytes) ≡ 1 ∷ 2 ∷ 3 ∷ 4 ∷ 5 ∷ 6 ∷ 15 ∷ []
@@ -42,6 +43,12 @@ pub alone-order : (bytes list rates : List ℕ) (behaviour : ℕ) (work : List �
     ≡ 1 ∷ 2 ∷ 3 ∷ 4 ∷ 5 ∷ 6 ∷ 15 ∷ 7 ∷ 8 ∷ 9 ∷ 17 ∷ 18 ∷ 10 ∷ 11 ∷ []
 unfolding numbers termsChecks recordChecks listChecks ratesChecks inputChecks workChecks aloneChecks checkEach
 alone-order bytes list rates behaviour work = refl
+
+pub fee-order : (bytes list rates : List ℕ) (behaviour wanted : ℕ) (work : List ℕ)
+    → numbers (feeChecks bytes list rates behaviour wanted work)
+    ≡ 1 ∷ 2 ∷ 3 ∷ 4 ∷ 5 ∷ 6 ∷ 15 ∷ 7 ∷ 8 ∷ 9 ∷ 17 ∷ 18 ∷ 10 ∷ 11 ∷ 19 ∷ []
+unfolding numbers termsChecks recordChecks listChecks ratesChecks inputChecks workChecks aloneChecks checkEach wantedChecks feeChecks
+fee-order bytes list rates behaviour wanted work = refl
 
 pub supplied-order : (bytes list rates work table : List ℕ)
     → numbers (suppliedChecks bytes list rates work table)

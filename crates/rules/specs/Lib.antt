@@ -6,6 +6,7 @@ pub mod FixedTerm
 pub mod Refusals
 pub mod Operations
 pub mod Map
+pub mod Fee
 pub mod Printed
 pub mod Cases
 pub mod Facts

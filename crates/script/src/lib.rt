@@ -746,6 +746,12 @@ fn no_table(out: &mut [u8]) -> Done
     }
 }
 
+fn kept(text: usize, held: usize) -> Done
+    ensures { λ r. ⌜ (r .text ≡ text) × (r .table ≡ held) ⌝ }
+{
+    Done { text, table: held }
+}
+
 // Words i and j of a line: a working slice, which a walk puts its cash in, and a table.
 fn work_and_table(
     line: &[u8],
@@ -861,6 +867,53 @@ fn map_line(
     rated_map(record, list, &rates[0..i], line, held, work, table, out)
 }
 
+fn fee(
+    record: &[u8],
+    list: &[u8],
+    rates: &[u8],
+    behaviour: u64,
+    wanted: u64,
+    work: &mut [u64],
+    out: &mut [u8],
+) -> usize
+    ensures { λ r. ⌜ r ≤ length (now (out .entry)) ⌝ }
+{
+    let told = pricing::find_fee(record, list, rates, behaviour as usize, wanted, work);
+    let figures = told.answer;
+    let a = outcome(out, figures.number, figures.place);
+    let b = spaced(out, a, told.fee);
+    let c = spaced(out, b, figures.value);
+    let margin = figures.margin;
+    let d = signed(out, c, margin);
+    let e = spaced(out, d, digest64(work));
+    byte(out, e, NEW_LINE)
+}
+
+// RATES BEHAVIOUR WANTED WORK of a search for a fee.
+fn fee_line(record: &[u8], list: &[u8], line: &[u8], work: &mut [u64], out: &mut [u8]) -> usize
+    ensures { λ r. ⌜ r ≤ length (now (out .entry)) ⌝ }
+{
+    let mut rates = [0u8; 128];
+    let r = bytes(part(line, SPACE, 3), &mut rates);
+    let behaviour = decimal(part(line, SPACE, 4));
+    let wanted = decimal(part(line, SPACE, 5));
+    let s = slice64(part(line, SPACE, 6), work);
+    let i = r.n;
+    let k = s.n;
+    if !(r.known && behaviour.known && wanted.known && s.known) {
+        return error(out);
+    }
+    fee(
+        record,
+        list,
+        &rates[0..i],
+        behaviour.n,
+        wanted.n,
+        &mut work[0..k],
+        out,
+    )
+}
+
 fn value_of(
     record: &[u8],
     list: &[u8],
@@ -958,7 +1011,7 @@ fn walk_line(
     Done { text, table: n }
 }
 
-// Valuation 0, supplied table 1, walk 2, valuation with its map 3.
+// Valuation 0, supplied table 1, walk 2, valuation with its map 3, search for a fee 4, which keeps the last table.
 fn with_list(
     kind: usize,
     record: &[u8],
@@ -981,7 +1034,10 @@ fn with_list(
     if kind == 2 {
         return walk_line(record, list, line, held, work, table, out);
     }
-    map_line(record, list, line, held, work, table, out)
+    if kind == 3 {
+        return map_line(record, list, line, held, work, table, out);
+    }
+    kept(fee_line(record, list, line, work, out), held)
 }
 
 // The operations on a record and a list.
@@ -1017,12 +1073,6 @@ fn list_line(
     )
 }
 
-fn kept(text: usize, held: usize) -> Done
-    ensures { λ r. ⌜ (r .text ≡ text) × (r .table ≡ held) ⌝ }
-{
-    Done { text, table: held }
-}
-
 // Answers a line at the start of out. `held` entries of the table are the last table.
 pub fn answer(line: &[u8], held: usize, work: &mut [u64], table: &mut [u16], out: &mut [u8]) -> Done
     requires { ⌜ held ≤ length (now table) ⌝ }
@@ -1053,6 +1103,9 @@ pub fn answer(line: &[u8], held: usize, work: &mut [u64], table: &mut [u16], out
     }
     if fields == 7 && same(name, b"value_map") {
         return list_line(line, 3, held, work, table, out);
+    }
+    if fields == 6 && same(name, b"fee") {
+        return list_line(line, 4, held, work, table, out);
     }
     no_table(out)
 }

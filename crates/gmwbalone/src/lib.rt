@@ -1,0 +1,19 @@
+// The call for the benchmark: a valuation with no table. It is no part of the library for C hosts.
+ghost use Rattle.gmwbalone.specs.Told.{AloneTold};
+
+#[no_mangle]
+pub extern "C" fn gmwb_value_alone(
+    bytes: &[u8],
+    list: &[u8],
+    rates: &[u8],
+    behaviour: u64,
+    work: &mut [u64],
+    value: &mut u64,
+) -> u32
+    ensures { λ r. ⌜ AloneTold (now (bytes .entry)) (now (list .entry)) (now (rates .entry)) behaviour
+        (now (work .entry)) r (now (value .exit)) (now (work .exit)) ⌝ }
+{
+    let answer = valuing::value_alone(bytes, list, rates, behaviour as usize, work);
+    *value = answer.value;
+    answer.number
+}
