@@ -1,12 +1,13 @@
 -- Laws of one date: the admissible sets, how the guarantee falls, and shares at death. Assumes nothing.
 use mathlib.Core.Bool.{Bool, true, false, cond, _&&_, _||_}
 use mathlib.Core.Logic.{_⊎_, inl, inr}
-use mathlib.Core.Path.{_≡_, refl, ap, sym, _∙_}
+use mathlib.Core.Path.{_≡_, ap, sym, _∙_}
 use Prim.Native.Nat.{ℕ, _+_, _-_, _*_, _/_, _≤_, _<_, min, max}
 use native.Mathlib.Nat.{le-refl, le-trans, max-le, min-le-left, min-le-right, sub-le, mul-le-mul-left, div-le-of-le-mul}
 use native.Mathlib.Nat.{add-comm, mul-assoc, mul-add, add-mul, mul-add-div, add-mul-div-right}
 use native.Mathlib.Omega.{arith}
 use lib.Dec.{T, lit<, leb, ltb, eqb, eqb→eq, eqb-refl, leb→le, le→leb, ltb→lt, lt→ltb}
+use borrow.Author.Tests.{le-leb, lt-leb}
 use Rattle.decision.specs.Choice.{and-left, and-right, and-intro}
 use Rattle.rules.specs.Contract.{rateMost, factorMost}
 use Rattle.rules.specs.Date.{Behaviour, static, mixed, dynamic, freeAmount, largestAmount, surrenders, admits, cash}
@@ -81,11 +82,12 @@ amount-most level {a = a} account guarantee amount = le-trans amount (max-le acc
 -- up to m the guarantee falls by the amount
 pub guarantee-free : (m w a t : ℕ) → t ≤ m → guaranteeAfter m w a t ≡ a - t
 unfolding guaranteeAfter
-guarantee-free m w a t l = go (leb t m) (le→leb t m l)
-  where
-    go : (b : Bool) → T b → cond b (a - t) (min (a - t) (a * (w - t) / w)) ≡ a - t
-    go true p = refl
-    go false p = absurd p
+guarantee-free m w a t l = rw (le-leb t m l)
+
+-- .. above m it is the smaller of the difference and the share in proportion
+pub guarantee-above : (m w a t : ℕ) → m < t → guaranteeAfter m w a t ≡ min (a - t) (a * (w - t) / w)
+unfolding guaranteeAfter
+guarantee-above m w a t h = rw (lt-leb t m h)
 
 -- no amount raises it, and an amount lowers it at least by itself
 pub guarantee-le : (m w a t : ℕ) → guaranteeAfter m w a t ≤ a - t

@@ -1,16 +1,17 @@
 -- What one date makes of more account, more guarantee and a smaller fee: never less. On plain numbers. Assumes nothing.
 use mathlib.Core.Bool.{Bool, true, false, cond, not}
 use mathlib.Core.Logic.{_⊎_, inl, inr}
-use mathlib.Core.Path.{_≡_, refl, sym, _∙_, subst₂}
+use mathlib.Core.Path.{_≡_, sym, _∙_, subst₂}
 use Prim.Native.Nat.{ℕ, _+_, _-_, _*_, _/_, _≤_, _<_, min, max, zero-le}
 use native.Mathlib.Nat.{le-refl, le-trans, le-of-eq, mul-le-mul, mul-le-mul-left, mul-le-mul-right, sub-le, sub-le-sub-left, sub-self}
 use native.Mathlib.Nat.{mul-zero, mul-add, zero-div, min-zero, div-mul-le-self, div-le-of-le-mul, le-div-iff-mul-le, eq-zero-or-pos}
 use native.Mathlib.Omega.{arith}
 use lib.Dec.{T, leb, leb→le, le→leb, nleb→lt, eqb→eq}
+use borrow.Author.Tests.{le-leb, lt-leb}
 use Rattle.rules.specs.Contract.{rateMost}
 use Rattle.rules.specs.Date.{Behaviour, static, mixed, dynamic, freeAmount, admits, penalty, cash, guaranteeAfter, balanceAfter}
 use Rattle.rules.specs.Date.{liftedAccount, nextAccount, excess, excessPaid, maturityValue, deathPayment}
-use Rattle.laws.specs.Date.{mixed-is, dynamic-is, is-dynamic, static-mixed, admits-free, admits-surrender, guarantee-free}
+use Rattle.laws.specs.Date.{mixed-is, dynamic-is, is-dynamic, static-mixed, admits-free, admits-surrender, guarantee-free, guarantee-above}
 
 -- ---- what a return makes: a larger fee, and a smaller balance, never more
 pub lifted-rises : {low high x y : ℕ} (factor : ℕ) → low ≤ high → x ≤ y → liftedAccount high x factor ≤ liftedAccount low y factor
@@ -103,28 +104,15 @@ answered m x t = cond (leb t m) t x
 
 answered-free : (m x t : ℕ) → t ≤ m → answered m x t ≡ t
 unfolding answered
-answered-free m x t l = go (leb t m) (le→leb t m l)
-  where
-    go : (p : Bool) → T p → cond p t x ≡ t
-    go true p = refl
-    go false p = absurd p
+answered-free m x t l = rw (le-leb t m l)
 
 answered-above : (m x t : ℕ) → m < t → answered m x t ≡ x
 unfolding answered
-answered-above m x t l = go (leb t m) (leb→le t m)
-  where
-    go : (p : Bool) → (T p → t ≤ m) → cond p t x ≡ x
-    go true p = absurd (let h = p tt in omega arith)
-    go false p = refl
+answered-above m x t l = rw (lt-leb t m l)
 
 -- surrender leaves no guarantee
 surrender-ends : (m w a : ℕ) → m < w → guaranteeAfter m w a w ≡ 0
-unfolding guaranteeAfter
-surrender-ends m w a l = go (leb w m) (leb→le w m)
-  where
-    go : (p : Bool) → (T p → w ≤ m) → cond p (a - w) (min (a - w) (a * (w - w) / w)) ≡ 0
-    go true p = absurd (let h = p tt in omega arith)
-    go false p = rw (sub-self w, mul-zero, zero-div, min-zero)
+surrender-ends m w a l = guarantee-above m w a w l ∙ rw (sub-self w, mul-zero, zero-div, min-zero)
 
 -- and more of it pays no less
 surrender-rises : (rate m : ℕ) {w x : ℕ} → rate ≤ rateMost → m ≤ w → w ≤ x → cash rate m w ≤ cash rate m x

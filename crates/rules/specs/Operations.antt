@@ -100,7 +100,8 @@ unfoldable pub valuingTable : List ℕ → List ℕ → List ℕ → ℕ → Lis
 valuingTable bytes list rates behaviour work table =
     valuedTable (valuingVerdict bytes list rates behaviour work table) bytes list rates behaviour table
 
--- ---- valuing a contract with no table: the checks that need none, and the values' half of what valuing reports and leaves
+-- ---- valuing a contract with no table: (vi) "No table is lent." What valuing reports, and leaves in the working slice
+-- 10, and 11 of the working slice alone
 unfoldable pub workChecks : Terms → ℕ → List ℕ → List Check
 workChecks c behaviour work = check 10 0 (ltb 2 behaviour) ∷ check 11 0 (short (2 * layerSize c) work) ∷ []
 

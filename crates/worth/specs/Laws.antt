@@ -1,5 +1,4 @@
 -- What an amount is worth, case by case, and the best amount of each behaviour. Assumes nothing.
-use mathlib.Core.Bool.{Bool}
 use mathlib.Core.Logic.{_⊎_, inl, inr}
 use mathlib.Core.Path.{_≡_, refl, ap, ap₂, sym, _∙_}
 use Prim.Native.Nat.{ℕ, _+_, _-_, _*_, _/_, _≤_, _<_, min, max}
@@ -8,10 +7,9 @@ use native.Mathlib.Nat.{le-max-right, mul-le-mul-left, div-le-of-le-mul, le-div-
 use native.Mathlib.Decide.{decLe}
 use native.Mathlib.Omega.{arith}
 use lib.Dec.{T, eqb→eq}
-use borrow.Author.Tests.{lt-leb}
 use Rattle.rules.specs.Date.{Behaviour, static, mixed, dynamic, freeAmount}
 use Rattle.rules.specs.Date.{largestAmount, admits, penalty, cash, balanceAfter, guaranteeAfter}
-use Rattle.laws.specs.Date.{guarantee-free, admits-free, mixed-is, is-dynamic, admits-surrender}
+use Rattle.laws.specs.Date.{guarantee-free, guarantee-above, admits-free, mixed-is, is-dynamic, admits-surrender}
 use Rattle.keys.specs.Key.{amountMost, key, key-add, key-left, Top, top-is-best}
 use Rattle.keys.specs.Most.{most, le-most, most-has, most-join, most-shift}
 use Rattle.worth.specs.Further.{further, furtherKey, further-most}
@@ -27,10 +25,6 @@ unfolding worthOver balanceAfter
 free-is e rate m w a t h = ap₂ (λ (x g : ℕ). x + e (w - t) g) (cash-free rate m t h) (guarantee-free m w a t h)
 
 -- ---- above m
-guarantee-above : (m w a t : ℕ) → m < t → guaranteeAfter m w a t ≡ min (a - t) (a * (w - t) / w)
-unfolding guaranteeAfter
-guarantee-above m w a t h = rw (lt-leb t m h)
-
 -- where the account is no more than the guarantee, the share in proportion is the smaller
 share-smaller : (w a t : ℕ) → 0 < w → t ≤ w → w ≤ a → a * (w - t) / w ≤ a - t
 share-smaller w a t pos h l =
