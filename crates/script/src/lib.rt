@@ -5,6 +5,8 @@ ghost use mathlib.Core.Path.{_≡_};
 ghost use Prim.Native.Nat.{_+_, _≤_, _<_};
 ghost use lib.ListN.{length};
 use contract::Contract;
+use mapping::Mapped;
+use pricing::Priced;
 use valuing::Answer;
 
 const SPACE: u8 = b' ';
@@ -16,6 +18,23 @@ const COLON: u8 = b':';
 const NEW_LINE: u8 = b'\n';
 
 const PLACES: usize = 20;
+
+// The operations of a line.
+const CHECK: usize = 0;
+
+const BOOK: usize = 1;
+
+const VALUE: usize = 2;
+
+const TABLE: usize = 3;
+
+const WALK: usize = 4;
+
+const MAP: usize = 5;
+
+const FEE: usize = 6;
+
+const NONE: usize = 7;
 
 // ---- words and numbers
 // What a word says, if it is understood.
@@ -41,6 +60,14 @@ struct Shape {
 // How many entries a line gives of the working slice and of the table, if both are understood.
 struct Lengths {
     known: bool,
+    work: usize,
+    table: usize,
+}
+
+// .. and under which behaviour it values.
+struct Question {
+    known: bool,
+    behaviour: u64,
     work: usize,
     table: usize,
 }
@@ -602,6 +629,22 @@ fn error(out: &mut [u8]) -> usize
     byte(out, e, NEW_LINE)
 }
 
+// A line that is not understood leaves no table.
+fn no_table(out: &mut [u8]) -> Done
+    ensures { λ r. ⌜ (r .text ≤ length (now (out .entry))) × (r .table ≡ 0) ⌝ }
+{
+    Done {
+        text: error(out),
+        table: 0,
+    }
+}
+
+fn kept(text: usize, held: usize) -> Done
+    ensures { λ r. ⌜ (r .text ≡ text) × (r .table ≡ held) ⌝ }
+{
+    Done { text, table: held }
+}
+
 // ---- operations
 fn checked(record: &[u8], out: &mut [u8]) -> usize
     ensures { λ r. ⌜ r ≤ length (now (out .entry)) ⌝ }
@@ -637,8 +680,8 @@ fn booked(
 }
 
 // DATE ACCOUNT GUARANTEE AMOUNT BUFFER of a booking.
-fn book_line(record: &[u8], line: &[u8], out: &mut [u8]) -> usize
-    ensures { λ r. ⌜ r ≤ length (now (out .entry)) ⌝ }
+fn book_line(record: &[u8], line: &[u8], held: usize, out: &mut [u8]) -> Done
+    ensures { λ r. ⌜ (r .text ≤ length (now (out .entry))) × (r .table ≤ held) ⌝ }
 {
     let date = decimal(part(line, SPACE, 2));
     let w = decimal(part(line, SPACE, 3));
@@ -648,31 +691,32 @@ fn book_line(record: &[u8], line: &[u8], out: &mut [u8]) -> usize
     let b = slice8(part(line, SPACE, 6), &mut buffer);
     let j = b.n;
     if !(date.known && w.known && g.known && t.known && b.known) {
-        return error(out);
+        return no_table(out);
     }
-    booked(record, date.n, w.n, g.n, t.n, &mut buffer[0..j], out)
+    let text = booked(record, date.n, w.n, g.n, t.n, &mut buffer[0..j], out);
+    kept(text, held)
 }
 
-fn with_record(is_check: bool, record: &[u8], line: &[u8], out: &mut [u8]) -> usize
-    ensures { λ r. ⌜ r ≤ length (now (out .entry)) ⌝ }
+fn with_record(kind: usize, record: &[u8], line: &[u8], held: usize, out: &mut [u8]) -> Done
+    ensures { λ r. ⌜ (r .text ≤ length (now (out .entry))) × (r .table ≤ held) ⌝ }
 {
-    if is_check {
-        return checked(record, out);
+    if kind == CHECK {
+        return kept(checked(record, out), held);
     }
-    book_line(record, line, out)
+    book_line(record, line, held, out)
 }
 
-// The operations on a record alone.
-fn record_line(line: &[u8], is_check: bool, out: &mut [u8]) -> usize
-    ensures { λ r. ⌜ r ≤ length (now (out .entry)) ⌝ }
+// The operations of a record alone, which keep the last table.
+fn record_line(line: &[u8], kind: usize, held: usize, out: &mut [u8]) -> Done
+    ensures { λ r. ⌜ (r .text ≤ length (now (out .entry))) × (r .table ≤ held) ⌝ }
 {
     let mut record = [0u8; 64];
     let a = bytes(part(line, SPACE, 1), &mut record);
     let i = a.n;
     if !a.known {
-        return error(out);
+        return no_table(out);
     }
-    with_record(is_check, &record[0..i], line, out)
+    with_record(kind, &record[0..i], line, held, out)
 }
 
 // Number, place, value and margin.
@@ -717,6 +761,16 @@ fn value(
     valued(answer, work, table, out)
 }
 
+fn mapped(told: Mapped, work: &[u64], table: &[u16], map: &[u64], out: &mut [u8]) -> usize
+    ensures { λ r. ⌜ r ≤ length (now (out .entry)) ⌝ }
+{
+    let a = amounts(out, told.answer);
+    let b = spaced(out, a, told.count);
+    let c = digests(out, b, work, table);
+    let d = spaced(out, c, digest64(map));
+    byte(out, d, NEW_LINE)
+}
+
 fn value_map(
     record: &[u8],
     list: &[u8],
@@ -730,26 +784,7 @@ fn value_map(
     ensures { λ r. ⌜ r ≤ length (now (out .entry)) ⌝ }
 {
     let told = mapping::value_map(record, list, rates, behaviour as usize, work, table, map);
-    let a = amounts(out, told.answer);
-    let b = spaced(out, a, told.count);
-    let c = digests(out, b, work, table);
-    let d = spaced(out, c, digest64(map));
-    byte(out, d, NEW_LINE)
-}
-
-fn no_table(out: &mut [u8]) -> Done
-    ensures { λ r. ⌜ (r .text ≤ length (now (out .entry))) × (r .table ≡ 0) ⌝ }
-{
-    Done {
-        text: error(out),
-        table: 0,
-    }
-}
-
-fn kept(text: usize, held: usize) -> Done
-    ensures { λ r. ⌜ (r .text ≡ text) × (r .table ≡ held) ⌝ }
-{
-    Done { text, table: held }
+    mapped(told, work, table, map, out)
 }
 
 // Words i and j of a line: a working slice, which a walk puts its cash in, and a table.
@@ -773,43 +808,22 @@ fn work_and_table(
     }
 }
 
-// RATES BEHAVIOUR WORK TABLE of a valuation.
-fn value_line(
-    record: &[u8],
-    list: &[u8],
-    line: &[u8],
-    held: usize,
-    work: &mut [u64],
-    table: &mut [u16],
-    out: &mut [u8],
-) -> Done
+// BEHAVIOUR WORK TABLE of a valuation.
+fn behaviour_and_slices(line: &[u8], held: usize, work: &mut [u64], table: &mut [u16]) -> Question
     requires { ⌜ held ≤ length (now table) ⌝ }
-    ensures { λ r. ⌜ (r .text ≤ length (now (out .entry))) × (r .table ≤ length (now (table .entry))) ⌝ }
+    ensures { λ r. ⌜ (r .work ≤ length (now (work .entry))) × (r .table ≤ length (now (table .entry))) ⌝ }
 {
-    let mut rates = [0u8; 128];
-    let r = bytes(part(line, SPACE, 3), &mut rates);
     let behaviour = decimal(part(line, SPACE, 4));
     let s = work_and_table(line, 5, 6, held, work, table);
-    let i = r.n;
-    let k = s.work;
-    let n = s.table;
-    if !(r.known && behaviour.known && s.known) {
-        return no_table(out);
+    Question {
+        known: behaviour.known && s.known,
+        behaviour: behaviour.n,
+        work: s.work,
+        table: s.table,
     }
-    let text = value(
-        record,
-        list,
-        &rates[0..i],
-        behaviour.n,
-        &mut work[0..k],
-        &mut table[0..n],
-        out,
-    );
-    Done { text, table: n }
 }
 
-// BEHAVIOUR WORK TABLE MAP of a valuation with its map.
-fn rated_map(
+fn value_line(
     record: &[u8],
     list: &[u8],
     rates: &[u8],
@@ -822,33 +836,62 @@ fn rated_map(
     requires { ⌜ held ≤ length (now table) ⌝ }
     ensures { λ r. ⌜ (r .text ≤ length (now (out .entry))) × (r .table ≤ length (now (table .entry))) ⌝ }
 {
-    let behaviour = decimal(part(line, SPACE, 4));
-    let s = work_and_table(line, 5, 6, held, work, table);
-    let mut map: [u64; 2048] = [0; 2048];
-    let m = slice64(part(line, SPACE, 7), &mut map);
-    let k = s.work;
-    let n = s.table;
-    let j = m.n;
-    if !(behaviour.known && s.known && m.known) {
+    let q = behaviour_and_slices(line, held, work, table);
+    let k = q.work;
+    let n = q.table;
+    if !q.known {
         return no_table(out);
     }
+    let text = value(
+        record,
+        list,
+        rates,
+        q.behaviour,
+        &mut work[0..k],
+        &mut table[0..n],
+        out,
+    );
+    Done { text, table: n }
+}
+
+// MAP, over the slices of a valuation.
+fn map_words(
+    record: &[u8],
+    list: &[u8],
+    rates: &[u8],
+    behaviour: u64,
+    line: &[u8],
+    work: &mut [u64],
+    table: &mut [u16],
+    out: &mut [u8],
+) -> Done
+    ensures { λ r. ⌜ (r .text ≤ length (now (out .entry))) × (r .table ≤ length (now (table .entry))) ⌝ }
+{
+    let mut map: [u64; 2048] = [0; 2048];
+    let m = slice64(part(line, SPACE, 7), &mut map);
+    let j = m.n;
+    if !m.known {
+        return no_table(out);
+    }
+    let n = table.len();
     let text = value_map(
         record,
         list,
         rates,
-        behaviour.n,
-        &mut work[0..k],
-        &mut table[0..n],
+        behaviour,
+        work,
+        table,
         &mut map[0..j],
         out,
     );
     Done { text, table: n }
 }
 
-// RATES, and what stands behind them.
+// BEHAVIOUR WORK TABLE MAP of a valuation with its map.
 fn map_line(
     record: &[u8],
     list: &[u8],
+    rates: &[u8],
     line: &[u8],
     held: usize,
     work: &mut [u64],
@@ -858,13 +901,35 @@ fn map_line(
     requires { ⌜ held ≤ length (now table) ⌝ }
     ensures { λ r. ⌜ (r .text ≤ length (now (out .entry))) × (r .table ≤ length (now (table .entry))) ⌝ }
 {
-    let mut rates = [0u8; 128];
-    let r = bytes(part(line, SPACE, 3), &mut rates);
-    let i = r.n;
-    if !r.known {
+    let q = behaviour_and_slices(line, held, work, table);
+    let k = q.work;
+    let n = q.table;
+    if !q.known {
         return no_table(out);
     }
-    rated_map(record, list, &rates[0..i], line, held, work, table, out)
+    map_words(
+        record,
+        list,
+        rates,
+        q.behaviour,
+        line,
+        &mut work[0..k],
+        &mut table[0..n],
+        out,
+    )
+}
+
+fn priced(told: Priced, work: &[u64], out: &mut [u8]) -> usize
+    ensures { λ r. ⌜ r ≤ length (now (out .entry)) ⌝ }
+{
+    let figures = told.answer;
+    let a = outcome(out, figures.number, figures.place);
+    let b = spaced(out, a, told.fee);
+    let c = spaced(out, b, figures.value);
+    let margin = figures.margin;
+    let d = signed(out, c, margin);
+    let e = spaced(out, d, digest64(work));
+    byte(out, e, NEW_LINE)
 }
 
 fn fee(
@@ -879,39 +944,38 @@ fn fee(
     ensures { λ r. ⌜ r ≤ length (now (out .entry)) ⌝ }
 {
     let told = pricing::find_fee(record, list, rates, behaviour as usize, wanted, work);
-    let figures = told.answer;
-    let a = outcome(out, figures.number, figures.place);
-    let b = spaced(out, a, told.fee);
-    let c = spaced(out, b, figures.value);
-    let margin = figures.margin;
-    let d = signed(out, c, margin);
-    let e = spaced(out, d, digest64(work));
-    byte(out, e, NEW_LINE)
+    priced(told, work, out)
 }
 
-// RATES BEHAVIOUR WANTED WORK of a search for a fee.
-fn fee_line(record: &[u8], list: &[u8], line: &[u8], work: &mut [u64], out: &mut [u8]) -> usize
-    ensures { λ r. ⌜ r ≤ length (now (out .entry)) ⌝ }
+// BEHAVIOUR WANTED WORK of a search for a fee, which keeps the last table.
+fn fee_line(
+    record: &[u8],
+    list: &[u8],
+    rates: &[u8],
+    line: &[u8],
+    held: usize,
+    work: &mut [u64],
+    out: &mut [u8],
+) -> Done
+    ensures { λ r. ⌜ (r .text ≤ length (now (out .entry))) × (r .table ≤ held) ⌝ }
 {
-    let mut rates = [0u8; 128];
-    let r = bytes(part(line, SPACE, 3), &mut rates);
     let behaviour = decimal(part(line, SPACE, 4));
     let wanted = decimal(part(line, SPACE, 5));
     let s = slice64(part(line, SPACE, 6), work);
-    let i = r.n;
     let k = s.n;
-    if !(r.known && behaviour.known && wanted.known && s.known) {
-        return error(out);
+    if !(behaviour.known && wanted.known && s.known) {
+        return no_table(out);
     }
-    fee(
+    let text = fee(
         record,
         list,
-        &rates[0..i],
+        rates,
         behaviour.n,
         wanted.n,
         &mut work[0..k],
         out,
-    )
+    );
+    kept(text, held)
 }
 
 fn value_of(
@@ -928,10 +992,11 @@ fn value_of(
     valued(answer, work, table, out)
 }
 
-// RATES WORK TABLE of a supplied table.
+// WORK TABLE of a supplied table.
 fn table_line(
     record: &[u8],
     list: &[u8],
+    rates: &[u8],
     line: &[u8],
     held: usize,
     work: &mut [u64],
@@ -941,23 +1006,13 @@ fn table_line(
     requires { ⌜ held ≤ length (now table) ⌝ }
     ensures { λ r. ⌜ (r .text ≤ length (now (out .entry))) × (r .table ≤ length (now (table .entry))) ⌝ }
 {
-    let mut rates = [0u8; 128];
-    let r = bytes(part(line, SPACE, 3), &mut rates);
     let s = work_and_table(line, 4, 5, held, work, table);
-    let i = r.n;
     let k = s.work;
     let n = s.table;
-    if !(r.known && s.known) {
+    if !s.known {
         return no_table(out);
     }
-    let text = value_of(
-        record,
-        list,
-        &rates[0..i],
-        &mut work[0..k],
-        &table[0..n],
-        out,
-    );
+    let text = value_of(record, list, rates, &mut work[0..k], &table[0..n], out);
     Done { text, table: n }
 }
 
@@ -978,6 +1033,30 @@ fn walked(
     byte(out, c, NEW_LINE)
 }
 
+// NUMBERS, over the table and the cash of a walk.
+fn walk_path(
+    record: &[u8],
+    list: &[u8],
+    line: &[u8],
+    cash: &mut [u64],
+    table: &[u16],
+    out: &mut [u8],
+) -> Done
+    ensures { λ r. ⌜ (r .text ≤ length (now (out .entry))) × (r .table ≤ length (now (table .entry))) ⌝ }
+{
+    let mut path: [u16; 64] = [0; 64];
+    let b = slice16(part(line, SPACE, 4), &mut path);
+    let j = b.n;
+    if !b.known {
+        return no_table(out);
+    }
+    let text = walked(record, list, table, &path[0..j], cash, out);
+    Done {
+        text,
+        table: table.len(),
+    }
+}
+
 // TABLE NUMBERS CASH of a walk.
 fn walk_line(
     record: &[u8],
@@ -992,30 +1071,20 @@ fn walk_line(
     ensures { λ r. ⌜ (r .text ≤ length (now (out .entry))) × (r .table ≤ length (now (table .entry))) ⌝ }
 {
     let s = work_and_table(line, 5, 3, held, work, table);
-    let mut path: [u16; 64] = [0; 64];
-    let b = slice16(part(line, SPACE, 4), &mut path);
     let k = s.work;
     let n = s.table;
-    let j = b.n;
-    if !(s.known && b.known) {
+    if !s.known {
         return no_table(out);
     }
-    let text = walked(
-        record,
-        list,
-        &table[0..n],
-        &path[0..j],
-        &mut work[0..k],
-        out,
-    );
-    Done { text, table: n }
+    walk_path(record, list, line, &mut work[0..k], &table[0..n], out)
 }
 
-// Valuation 0, supplied table 1, walk 2, valuation with its map 3, search for a fee 4, which keeps the last table.
+// The operations of a record and a list.
 fn with_list(
     kind: usize,
     record: &[u8],
     list: &[u8],
+    rates: &[u8],
     line: &[u8],
     held: usize,
     work: &mut [u64],
@@ -1025,22 +1094,31 @@ fn with_list(
     requires { ⌜ held ≤ length (now table) ⌝ }
     ensures { λ r. ⌜ (r .text ≤ length (now (out .entry))) × (r .table ≤ length (now (table .entry))) ⌝ }
 {
-    if kind == 0 {
-        return value_line(record, list, line, held, work, table, out);
+    if kind == VALUE {
+        return value_line(record, list, rates, line, held, work, table, out);
     }
-    if kind == 1 {
-        return table_line(record, list, line, held, work, table, out);
+    if kind == TABLE {
+        return table_line(record, list, rates, line, held, work, table, out);
     }
-    if kind == 2 {
+    if kind == WALK {
         return walk_line(record, list, line, held, work, table, out);
     }
-    if kind == 3 {
-        return map_line(record, list, line, held, work, table, out);
+    if kind == MAP {
+        return map_line(record, list, rates, line, held, work, table, out);
     }
-    kept(fee_line(record, list, line, work, out), held)
+    fee_line(record, list, rates, line, held, work, out)
 }
 
-// The operations on a record and a list.
+// The death rates of a line, put at the start of out; a walk has none.
+fn rates_in(line: &[u8], kind: usize, out: &mut [u8]) -> Count
+    ensures { λ r. ⌜ r .n ≤ length (now (out .entry)) ⌝ }
+{
+    if kind == WALK {
+        return counted(0);
+    }
+    bytes(part(line, SPACE, 3), out)
+}
+
 fn list_line(
     line: &[u8],
     kind: usize,
@@ -1054,17 +1132,21 @@ fn list_line(
 {
     let mut record = [0u8; 64];
     let mut list = [0u8; 512];
+    let mut rates = [0u8; 128];
     let a = bytes(part(line, SPACE, 1), &mut record);
     let b = bytes(part(line, SPACE, 2), &mut list);
+    let r = rates_in(line, kind, &mut rates);
     let i = a.n;
     let j = b.n;
-    if !(a.known && b.known) {
+    let k = r.n;
+    if !(a.known && b.known && r.known) {
         return no_table(out);
     }
     with_list(
         kind,
         &record[0..i],
         &list[0..j],
+        &rates[0..k],
         line,
         held,
         work,
@@ -1073,39 +1155,54 @@ fn list_line(
     )
 }
 
+// The operation of a line, by its first word and how many words follow it.
+fn kind_of(name: &[u8], words: usize) -> usize {
+    if words == 1 && same(name, b"check") {
+        return CHECK;
+    }
+    if words == 6 && same(name, b"book") {
+        return BOOK;
+    }
+    if words == 6 && same(name, b"value") {
+        return VALUE;
+    }
+    if words == 5 && same(name, b"value_table") {
+        return TABLE;
+    }
+    if words == 5 && same(name, b"walk") {
+        return WALK;
+    }
+    if words == 7 && same(name, b"value_map") {
+        return MAP;
+    }
+    if words == 6 && same(name, b"fee") {
+        return FEE;
+    }
+    NONE
+}
+
+// A blank line and a comment get no answer.
+fn is_silent(line: &[u8]) -> bool {
+    if line.len() == 0 {
+        return true;
+    }
+    line[0] == b'#'
+}
+
 // Answers a line at the start of out. `held` entries of the table are the last table.
 pub fn answer(line: &[u8], held: usize, work: &mut [u64], table: &mut [u16], out: &mut [u8]) -> Done
     requires { ⌜ held ≤ length (now table) ⌝ }
     ensures { λ r. ⌜ (r .text ≤ length (now (out .entry))) × (r .table ≤ length (now (table .entry))) ⌝ }
 {
-    if line.len() == 0 {
+    if is_silent(line) {
         return kept(0, held);
     }
-    if line[0] == b'#' {
-        return kept(0, held);
+    let kind = kind_of(part(line, SPACE, 0), times(line, SPACE));
+    if kind == NONE {
+        return no_table(out);
     }
-    let name = part(line, SPACE, 0);
-    let fields = times(line, SPACE);
-    if fields == 1 && same(name, b"check") {
-        return kept(record_line(line, true, out), held);
+    if kind <= BOOK {
+        return record_line(line, kind, held, out);
     }
-    if fields == 6 && same(name, b"book") {
-        return kept(record_line(line, false, out), held);
-    }
-    if fields == 6 && same(name, b"value") {
-        return list_line(line, 0, held, work, table, out);
-    }
-    if fields == 5 && same(name, b"value_table") {
-        return list_line(line, 1, held, work, table, out);
-    }
-    if fields == 5 && same(name, b"walk") {
-        return list_line(line, 2, held, work, table, out);
-    }
-    if fields == 7 && same(name, b"value_map") {
-        return list_line(line, 3, held, work, table, out);
-    }
-    if fields == 6 && same(name, b"fee") {
-        return list_line(line, 4, held, work, table, out);
-    }
-    no_table(out)
+    list_line(line, kind, held, work, table, out)
 }
