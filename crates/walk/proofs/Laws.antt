@@ -139,7 +139,8 @@ cash-list c rs table path cashes some room =
     ∙ ap (λ (k : ℕ). tabulate n (walkCashOn (livingTerm c rs) table path) ++
     (walkCashLast (livingTerm c rs) table path ∷ []) ++ drop k cashes) up
   where
-    last-set : (n : ℕ) (xs ys : List ℕ) (y : ℕ) → length xs ≡ n → n < length ys → set (xs ++ drop n ys) n y ≡ xs ++ (y ∷ []) ++ drop (suc n) ys
+    last-set : (n : ℕ) (xs ys : List ℕ) (y : ℕ) → length xs ≡ n → n < length ys
+        → set (xs ++ drop n ys) n y ≡ xs ++ (y ∷ []) ++ drop (suc n) ys
     last-set n xs ys y e l =
         ap (λ (zs : List ℕ). set (xs ++ zs) n y) (drop-cons ys n 0 l)
         ∙ ap (λ (k : ℕ). set (xs ++ (getD ys n 0 ∷ drop (suc n) ys)) k y) (sym e)
@@ -158,7 +159,11 @@ module _ {c : Terms} {rs : Returns} {v : Verdict} {table path cashes : List ℕ}
       (walkCashLast (livingTerm c rs) table path)
       → Walked c rs v table path cashes r cashes'
   unfolding onSuccess numberOf placeOf
-  walked-accepted r cashes' e some room f g = record { outcome-is = rw e f; cash-is = rw e (g ∙ cash-list c rs table path cashes some room) }
+  walked-accepted r cashes' e some room f g = record {
+    outcome-is = rw e f;
+    cash-is =
+        rw e (g ∙ cash-list c rs table path cashes some room);
+  }
 
 -- ---- what a call answers, on any input
 module _ (bytes list table path cashes : List ℕ) (r : Outcome) where
@@ -171,7 +176,8 @@ module _ (bytes list table path cashes : List ℕ) (r : Outcome) where
   unfolding walkVerdict walkChecks walkCashes livingOf
   whole cashes' e c same a =
       let all = then-accepted (recordChecks bytes ++ listChecks list) (pathChecks (termsOf bytes) (returnsOf list) table path cashes) e in
-      let b = subst (λ (x : Terms). Walked x (returnsOf list) (verdict (pathChecks x (returnsOf list) table path cashes)) table path cashes r cashes') same a in
+      let b = subst (λ (x : Terms). Walked x (returnsOf list)
+      (verdict (pathChecks x (returnsOf list) table path cashes)) table path cashes r cashes') same a in
       record { outcome-is = rw all (b .outcome-is); cash-is = rw all (b .cash-is) }
 
   pub whole-refused : (n p : ℕ) → verdict (recordChecks bytes ++ listChecks list) ≡ refused n p → r ≡ outcomeAt n p → Whole cashes
@@ -181,7 +187,8 @@ module _ (bytes list table path cashes : List ℕ) (r : Outcome) where
       record { outcome-is = rw all f; cash-is = rw all }
 
 -- every number on the path is that of a return
-pub walking : {c : Terms} {count : ℕ} {list table : List ℕ} (path : List ℕ) → Valid c → Listing list count → tableSize c ≤ length table → length path ≡ c .dates
+pub walking : {c : Terms} {count : ℕ} {list table : List ℕ} (path : List ℕ) → Valid c → Listing list count
+    → tableSize c ≤ length table → length path ≡ c .dates
     → c .dates ≤ first (λ (j : ℕ). leb count (getD path j 0)) (c .dates) → Walking c count list table path
 walking {c} {count} path valid listing room long none = record {
   valid = valid;

@@ -13,7 +13,8 @@ admits-dynamic-requires : tie.Need-admits-dynamic-requires
 admits-dynamic-requires c κs = search needs
 
 returns : tie.Need-returns
-returns c = c .admits-dynamic .ensures ∙ ap (λ (m : ℕ). admits dynamic m (c .before .before .args .place .account) (c .before .before .args .t)) (c .before .free-amount .ensures)
+returns c = c .admits-dynamic .ensures ∙ ap (λ (m : ℕ). admits dynamic m (c .before .before .args .place .account)
+    (c .before .before .args .t)) (c .before .free-amount .ensures)
 
 pub admitted-spec : {M : Type 1} → statement M
 admitted-spec = tie.close (tie.spec free-amount-requires admits-dynamic-requires returns)

@@ -33,7 +33,8 @@ returns c =
     let args = c .before .before .before .before .before .before .args in
     let loop = c .before .before .before .before .loop in
     let loop-test = c .before .before .before .loop-test in
-    sym (search-hit (loop .inv) (loop-test .taken) (sym (ap (leb (args .count)) (c .before .wide16 .ensures .0)) ∙ le-leb _ _ (c .if1 .taken)))
+    sym (search-hit (loop .inv) (loop-test .taken) (sym (ap (leb (args .count)) (c .before .wide16 .ensures .0))
+    ∙ le-leb _ _ (c .if1 .taken)))
 
 add-j : tie.Need-add-j Inv-loop μ-loop
 add-j c = omega arith

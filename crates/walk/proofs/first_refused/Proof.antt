@@ -33,7 +33,12 @@ loop-holds : tie.Need-loop-holds Inv-loop μ-loop
 loop-holds c = (omega arith, c .before .before .before .before .pre .valid .dates-least, c .first-place .ensures, search-none _ _)
 
 amount-on-requires : tie.Need-amount-on-requires Inv-loop μ-loop
-amount-on-requires c κs = (c .before .before .before .before .before .before .before .pre, c .before .before .loop .inv .2, c .before .before .loop .inv .0, c .if1 .taken)
+amount-on-requires c κs = (
+  c .before .before .before .before .before .before .before .pre,
+  c .before .before .loop .inv .2,
+  c .before .before .loop .inv .0,
+  c .if1 .taken,
+)
 
 admitted-requires : tie.Need-admitted-requires Inv-loop μ-loop
 admitted-requires c κs = search needs
@@ -69,7 +74,10 @@ loop-again c =
       omega arith,
       omega arith,
       met-up i' (c .next-place .ensures),
-      subst (Searched _ _) (let e : i' - 1 + 1 ≡ i' + 1 - 1 = omega (arith, loop .inv .0) in e) (search-more (loop .inv .3) (omega (arith, loop .inv .0, if1 .taken)) (bad-is (loop .inv .2) (loop .inv .0) ∙ sym (ap not (admitted .ensures ∙ ap (λ (t : ℕ). admits dynamic (freeAmount (args .c .level) (loop .place .guarantee)) (loop .place .account) t) (amount-on .ensures))) ∙ ap not (c .before .if2 .taken))),
+      subst (Searched _ _) (let e : i' - 1 + 1 ≡ i' + 1 - 1 = omega (arith, loop .inv .0) in e)
+          (search-more (loop .inv .3) (omega (arith, loop .inv .0, if1 .taken)) (bad-is (loop .inv .2) (loop .inv .0)
+          ∙ sym (ap not (admitted .ensures ∙ ap (λ (t : ℕ). admits dynamic (freeAmount (args .c .level) (loop .place .guarantee))
+          (loop .place .account) t) (amount-on .ensures))) ∙ ap not (c .before .if2 .taken))),
     )
 
 returns : tie.Need-returns Inv-loop μ-loop
@@ -78,11 +86,15 @@ returns c =
     let loop = c .before .before .before .before .before .loop in
     let if1 = c .before .before .before .if1 in
     let amount-on = c .before .before .amount-on in
-    let e = search-hit (loop .inv .3) (omega (arith, loop .inv .0, if1 .taken)) (bad-is (loop .inv .2) (loop .inv .0) ∙ sym (ap not (c .before .admitted .ensures ∙ ap (λ (t : ℕ). admits dynamic (freeAmount (args .c .level) (loop .place .guarantee)) (loop .place .account) t) (amount-on .ensures))) ∙ ap not (c .if2 .left)) in
+    let e = search-hit (loop .inv .3) (omega (arith, loop .inv .0, if1 .taken)) (bad-is (loop .inv .2) (loop .inv .0)
+    ∙ sym (ap not (c .before .admitted .ensures ∙ ap (λ (t : ℕ). admits dynamic
+    (freeAmount (args .c .level) (loop .place .guarantee)) (loop .place .account) t) (amount-on .ensures)))
+    ∙ ap not (c .if2 .left)) in
     omega (arith, loop .inv .0)
 
 returns-2 : tie.Need-returns-2 Inv-loop μ-loop
-returns-2 c = let e = search-end (c .before .before .loop .inv .3) (omega (arith, c .if1 .left)) in omega (arith, c .before .before .loop .inv .0, c .before .before .loop .inv .1, c .if1 .left)
+returns-2 c = let e = search-end (c .before .before .loop .inv .3) (omega (arith, c .if1 .left)) in
+    omega (arith, c .before .before .loop .inv .0, c .before .before .loop .inv .1, c .if1 .left)
 
 pub first-refused-spec : {M : Type 1} → statement M
 first-refused-spec =

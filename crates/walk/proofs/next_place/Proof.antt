@@ -17,7 +17,8 @@ use Rattle.walk.proofs.next_place.Tie as tie
 abbrev start : tie.After-word → tie.Start
 start c = c .before .before .before .before .before .before .before .before
 
-factor-is : (c : tie.After-word) → c .word .result ≡ returnsOf (start c .args .list .now) .factor (getD (start c .args .path .now) (start c .args .i) 0)
+factor-is : (c : tie.After-word) → c .word .result ≡ returnsOf (start c .args .list .now) .factor
+    (getD (start c .args .path .now) (start c .args .i) 0)
 unfolding returnsOf
 factor-is c = c .word .ensures .0 ∙ ap (λ (k : ℕ). word (start c .args .list .now) (4 * k)) (c .before .wide16 .ensures .0)
 
@@ -31,7 +32,11 @@ mul-wide16 : tie.Need-mul-wide16
 mul-wide16 c = omega arith
 
 shared-slice-read-wide16 : tie.Need-shared-slice-read-wide16
-shared-slice-read-wide16 c = omega (arith, c .before .before .before .before .before .before .pre .0 .long, c .before .before .before .before .before .before .pre .3)
+shared-slice-read-wide16 c = omega (
+  arith,
+  c .before .before .before .before .before .before .pre .0 .long,
+  c .before .before .before .before .before .before .pre .3,
+)
 
 wide16-requires : tie.Need-wide16-requires
 wide16-requires c κs = search needs

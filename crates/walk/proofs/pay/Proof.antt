@@ -34,7 +34,12 @@ unfolding stored
 loop-holds c = (omega arith, c .before .before .before .before .before .pre .0 .valid .dates-least, c .first-place .ensures, refl)
 
 amount-on-requires : tie.Need-amount-on-requires Inv-loop μ-loop
-amount-on-requires c κs = (c .before .before .before .before .before .before .before .before .pre .0, c .before .before .loop .inv .2, c .before .before .loop .inv .0, c .if1 .taken)
+amount-on-requires c κs = (
+  c .before .before .before .before .before .before .before .before .pre .0,
+  c .before .before .loop .inv .2,
+  c .before .before .loop .inv .0,
+  c .if1 .taken,
+)
 
 cash-on-requires : tie.Need-cash-on-requires Inv-loop μ-loop
 cash-on-requires c κs =
@@ -140,7 +145,8 @@ slice-write-cash-2 c =
     omega (arith, pre .1, pre .0 .valid .dates-least)
 
 same-length : tie.Need-same-length Inv-loop μ-loop
-same-length c = length-set (c .before .before .before .before .loop .cash) _ _ ∙ ap length (c .before .before .before .before .loop .inv .3) ∙ length-stored _ _ _ _
+same-length c = length-set (c .before .before .before .before .loop .cash) _ _
+    ∙ ap length (c .before .before .before .before .loop .inv .3) ∙ length-stored _ _ _ _
 
 returns : tie.Need-returns Inv-loop μ-loop
 unfolding walkCashLast fixedTerm processOf

@@ -29,13 +29,15 @@ returns c =
     let told = c .before .enum-told .given .1 in
     let outcome = c .outcome .ensures ∙ ap (λ (r : Agreement). outcomeOf (agreementVerdict r)) told in
     let refusal = both-not-read (args .bytes .now) (args .list .now) _ (sym (c .before .before .before .read .ensures) ∙ told) in
-    let w = whole-refused (args .bytes .now) (args .list .now) (args .table .now) (args .path .now) (args .cash .now) _ _ _ refusal outcome in
+    let w = whole-refused (args .bytes .now) (args .list .now) (args .table .now) (args .path .now)
+    (args .cash .now) _ _ _ refusal outcome in
     (w .outcome-is, w .cash-is)
 
 walked-requires : tie.Need-walked-requires
 walked-requires c κs =
     let args = c .before .before .before .before .before .before .before .before .before .before .args in
-    ready (both-read (args .bytes .now) (args .list .now) _ _ (sym (c .before .before .before .before .read .ensures) ∙ c .before .before .agreement .given .1))
+    ready (both-read (args .bytes .now) (args .list .now) _ _ (sym (c .before .before .before .before .read .ensures)
+    ∙ c .before .before .agreement .given .1))
 
 same-length : tie.Need-same-length
 same-length c = search needs
@@ -43,8 +45,11 @@ same-length c = search needs
 returns-2 : tie.Need-returns-2
 returns-2 c =
     let args = c .before .before .before .before .before .before .before .before .before .before .before .before .before .args in
-    let known = both-read (args .bytes .now) (args .list .now) _ _ (sym (c .before .before .before .before .before .before .before .read .ensures) ∙ c .before .before .before .before .before .agreement .given .1) in
-    let w = whole (args .bytes .now) (args .list .now) (args .table .now) (args .path .now) (args .cash .now) _ _ (known .accepts) _ (known .terms) (c .before .before .walked .ensures) in
+    let known = both-read (args .bytes .now) (args .list .now) _ _
+    (sym (c .before .before .before .before .before .before .before .read .ensures)
+    ∙ c .before .before .before .before .before .agreement .given .1) in
+    let w = whole (args .bytes .now) (args .list .now) (args .table .now) (args .path .now) (args .cash .now) _ _
+    (known .accepts) _ (known .terms) (c .before .before .walked .ensures) in
     (w .outcome-is, w .cash-is)
 
 pub walk-spec : {M : Type 1} → statement M
