@@ -121,7 +121,8 @@ module _ (bytes list : List ℕ) where
       ∙ valuing-accepts bytes list (zeroRates bytes) 0 work table (ap (λ (a : declared.Answer). a .number) (sym e) ∙ z)
 
   -- what was accepted, and that the tables have room
-  pub filled : {t₀ t₁ t₂ : List ℕ} → programVerdict bytes list ≡ accepted → length t₀ ≡ 16384 → length t₁ ≡ 16384 → length t₂ ≡ 16384 → Filled bytes list t₀ t₁ t₂
+  pub filled : {t₀ t₁ t₂ : List ℕ} → programVerdict bytes list ≡ accepted → length t₀ ≡ 16384 → length t₁ ≡ 16384
+      → length t₂ ≡ 16384 → Filled bytes list t₀ t₁ t₂
   unfolding programVerdict behaviourNumber valuingVerdict valuingChecks
   filled a l₀ l₁ l₂ =
       let work = replicate {A = ℕ} 4096 0 in
@@ -144,20 +145,23 @@ module _ (bytes list : List ℕ) where
         ≡ recordedAmount (programOf bytes list) (behaviourOf behaviour) 1
         (reachBy (termsOf bytes) (returnsOf list) (startOf (termsOf bytes)) k)
 
-  pub valued : (behaviour : ℕ) (work table : List ℕ) (r : declared.Answer) (table' : List ℕ) → behaviour ≤ 2 → length work ≡ 4096 → length table ≡ 16384
+  pub valued : (behaviour : ℕ) (work table : List ℕ) (r : declared.Answer) (table' : List ℕ) → behaviour ≤ 2
+      → length work ≡ 4096 → length table ≡ 16384
       → programVerdict bytes list ≡ accepted
       → r ≡ answerOf (valuingAnswer bytes list (zeroRates bytes) behaviour work table)
       → table' ≡ valuingTable bytes list (zeroRates bytes) behaviour work table → Valued behaviour (r .value) table'
   unfolding productOf
-  valued behaviour work table r table' h long long-table yes-to e f = let a = same-verdict behaviour work table h long long-table ∙ yes-to in record {
-    value-is = ap (λ (x : declared.Answer). x .value) e ∙ valuing-reports bytes list (zeroRates bytes) behaviour work table a;
-    amounts = λ k later.
-        ap (λ (t : List ℕ). getD t (entryBy (termsOf bytes) (returnsOf list) k) 0)
-        (f ∙ valuing-leaves bytes list (zeroRates bytes) behaviour work table a)
-        ∙ first-amount (termsOf bytes) (returnsOf list) (ratesOf (zeroRates bytes)) k
-        (valuing-valid bytes list (zeroRates bytes) behaviour work table a .terms) later (behaviourOf behaviour)
-        (drop (tableSize (termsOf bytes)) table);
-  }
+  valued behaviour work table r table' h long long-table yes-to e f =
+      let a = same-verdict behaviour work table h long long-table ∙ yes-to in
+      record {
+        value-is = ap (λ (x : declared.Answer). x .value) e ∙ valuing-reports bytes list (zeroRates bytes) behaviour work table a;
+        amounts = λ k later.
+            ap (λ (t : List ℕ). getD t (entryBy (termsOf bytes) (returnsOf list) k) 0)
+            (f ∙ valuing-leaves bytes list (zeroRates bytes) behaviour work table a)
+            ∙ first-amount (termsOf bytes) (returnsOf list) (ratesOf (zeroRates bytes)) k
+            (valuing-valid bytes list (zeroRates bytes) behaviour work table a .terms) later (behaviourOf behaviour)
+            (drop (tableSize (termsOf bytes)) table);
+      }
 
   module _ {v₀ v₁ v₂ : ℕ} {t₀ t₁ t₂ : List ℕ} (x₀ : Valued 0 v₀ t₀) (x₁ : Valued 1 v₁ t₁) (x₂ : Valued 2 v₂ t₂) where
     -- the amounts of the tables are the recorded ones
@@ -168,14 +172,16 @@ module _ (bytes list : List ℕ) where
         let static-is = x₀ .amounts k later in
         let mixed-is = x₁ .amounts k later in
         let dynamic-is = x₂ .amounts k later in
-        λ i. line (decimal k) (accountBy (termsOf bytes) (returnsOf list) k ∷ termsOf bytes .premium ∷ static-is i ∷ mixed-is i ∷ dynamic-is i ∷ [])
+        λ i. line (decimal k) (accountBy (termsOf bytes) (returnsOf list) k ∷ termsOf bytes .premium ∷ static-is i ∷ mixed-is i
+        ∷ dynamic-is i ∷ [])
 
     lines-are : linesOf (tableLine (termsOf bytes) (returnsOf list) t₀ t₁ t₂) (lineCount (programOf bytes list))
         ≡ linesOf (returnLine (programOf bytes list)) (lineCount (programOf bytes list))
     unfolding lineCount productOf fixedTerm processOf
     lines-are = lines-eq _ _ (lineCount (programOf bytes list)) (λ k l. return-line k (later k l (decLe 2 (termsOf bytes .dates))))
       where
-        later : (k : ℕ) → k < cond (ltb 1 (termsOf bytes .dates)) (returnsOf list .count) 0 → Dec (2 ≤ termsOf bytes .dates) → 1 < termsOf bytes .dates
+        later : (k : ℕ) → k < cond (ltb 1 (termsOf bytes .dates)) (returnsOf list .count) 0 → Dec (2 ≤ termsOf bytes .dates)
+            → 1 < termsOf bytes .dates
         later k l (yes h) = h
         later k l (no h) =
             let none = le-ltb 1 (termsOf bytes .dates) (omega arith) in
@@ -192,7 +198,8 @@ module _ (bytes list : List ℕ) where
         let static-is = x₀ .value-is in
         let mixed-is = x₁ .value-is in
         let dynamic-is = x₂ .value-is in
-        (λ i. line (nameOf static) (static-is i ∷ []) ++ line (nameOf mixed) (mixed-is i ∷ []) ++ line (nameOf dynamic) (dynamic-is i ∷ []) ++ lines-are i)
+        (λ i. line (nameOf static) (static-is i ∷ []) ++ line (nameOf mixed) (mixed-is i ∷ []) ++ line (nameOf dynamic)
+        (dynamic-is i ∷ []) ++ lines-are i)
         ∙ ap (textOf (programOf bytes list)) (sym a)
 
 -- ---- terms and returns that were read, with their tables
@@ -262,11 +269,13 @@ module _ (bytes list : List ℕ) where
       layers x = valueLayer (programOf bytes list) x ++ replicate (layerSize (termsOf bytes)) 0
 
       go : (v : Verdict)
-          → onSuccess v (layers b ++ drop (2 * size) (onSuccess v (layers a ++ drop (2 * size) work) work)) (onSuccess v (layers a ++ drop (2 * size) work) work)
+          → onSuccess v (layers b ++ drop (2 * size) (onSuccess v (layers a ++ drop (2 * size) work) work))
+          (onSuccess v (layers a ++ drop (2 * size) work) work)
           ≡ onSuccess v (layers b ++ drop (2 * size) work) work
       go accepted =
           ap (λ (rest : List ℕ). layers b ++ rest)
-          (ap (λ (k : ℕ). drop k (layers a ++ drop (2 * size) work)) (sym (two-layers a)) ∙ drop-append-seam (layers a) (drop (2 * size) work))
+          (ap (λ (k : ℕ). drop k (layers a ++ drop (2 * size) work)) (sym (two-layers a))
+          ∙ drop-append-seam (layers a) (drop (2 * size) work))
       go (refused m p) = refl
 
 -- ---- the rates that the program lends: the first n of 80 zeros

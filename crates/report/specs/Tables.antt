@@ -59,14 +59,16 @@ factor-le {k = k} x l = x .valid .factor k (omega (arith, x .all))
 
 module _ {c : Terms} (v : Valid c) (w : ℕ) (h : w ≤ c .top) where
   pub row-small : w * (c .premium + 1) ≤ topMost * (topMost + 1)
-  row-small = mul-le-mul (let m : w ≤ topMost = omega (arith, v .top) in m) (let m : c .premium + 1 ≤ topMost + 1 = omega (arith, v .top, v .premium) in m)
+  row-small = mul-le-mul (let m : w ≤ topMost = omega (arith, v .top) in m) (let m : c .premium + 1 ≤ topMost + 1 =
+      omega (arith, v .top, v .premium) in m)
 
   pub entry-within : w * (c .premium + 1) + c .premium < layerSize c
   unfolding layerSize
   entry-within = two-digits w (c .premium) (c .top + 1) (c .premium + 1) (omega arith) (omega arith)
 
 -- the amounts in the entry of account w
-pub table-line : (c : Terms) (list statics mixeds dynamics : List ℕ) (k : ℕ) {w a b d : ℕ} → w ≡ nextAccount (c .fee) (c .top) (c .premium) (word list (4 * k))
+pub table-line : (c : Terms) (list statics mixeds dynamics : List ℕ) (k : ℕ) {w a b d : ℕ}
+    → w ≡ nextAccount (c .fee) (c .top) (c .premium) (word list (4 * k))
     → a ≡ getD statics (w * (c .premium + 1) + c .premium) 0
     → b ≡ getD mixeds (w * (c .premium + 1) + c .premium) 0
     → d ≡ getD dynamics (w * (c .premium + 1) + c .premium) 0

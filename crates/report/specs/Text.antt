@@ -29,7 +29,8 @@ put-byte out at b h = record {
 }
 
 -- one text behind the other
-pub put-then : {m n at r s : ℕ} {out out' out'' a b : List ℕ} → Put m out at a r out' → Put n out' r b s out'' → Put (m + n) out at (a ++ b) s out''
+pub put-then : {m n at r s : ℕ} {out out' out'' a b : List ℕ} → Put m out at a r out' → Put n out' r b s out''
+    → Put (m + n) out at (a ++ b) s out''
 put-then {at = at} {out = out} {a = a} {b = b} p q = record {
   from = omega (arith, p .from, q .from);
   within = omega (arith, p .within, q .within);

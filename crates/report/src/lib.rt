@@ -63,7 +63,8 @@ fn word(out: &mut [u8], at: usize, text: &[u8]) -> usize
 // A name and a value.
 fn value_line(out: &mut [u8], at: usize, name: &[u8], value: u64) -> usize
     requires { ⌜ at + (length (now name) + 22) ≤ length (now out) ⌝ }
-    ensures { λ r. ⌜ Put (length (now (name .entry)) + 22) (now (out .entry)) at (line (now (name .entry)) (value ∷ [])) r (now (out .exit)) ⌝ }
+    ensures { λ r. ⌜ Put (length (now (name .entry)) + 22) (now (out .entry)) at (line (now (name .entry)) (value ∷ [])) r
+        (now (out .exit)) ⌝ }
 {
     let named = word(out, at, name);
     let next = number(out, named, value);
@@ -84,7 +85,8 @@ fn refusal(out: &mut [u8], refused: u32, place: u64) -> usize
 // The three lines of the values.
 fn value_lines(out: &mut [u8], statics: u64, mixeds: u64, dynamics: u64) -> usize
     requires { ⌜ 84 ≤ length (now out) ⌝ }
-    ensures { λ r. ⌜ Put 84 (now (out .entry)) 0 (line (nameOf static) (statics ∷ []) ++ line (nameOf mixed) (mixeds ∷ []) ++ line (nameOf dynamic) (dynamics ∷ [])) r (now (out .exit)) ⌝ }
+    ensures { λ r. ⌜ Put 84 (now (out .entry)) 0 (line (nameOf static) (statics ∷ []) ++ line (nameOf mixed) (mixeds ∷ [])
+        ++ line (nameOf dynamic) (dynamics ∷ [])) r (now (out .exit)) ⌝ }
 {
     let first = value_line(out, 0, b"static", statics);
     let second = value_line(out, first, b"mixed", mixeds);
@@ -116,7 +118,8 @@ fn amounts_line(
     dynamics: u64,
 ) -> usize
     requires { ⌜ at + 126 ≤ length (now out) ⌝ }
-    ensures { λ r. ⌜ Put 126 (now (out .entry)) at (line (decimal k) (account ∷ guarantee ∷ statics ∷ mixeds ∷ dynamics ∷ [])) r (now (out .exit)) ⌝ }
+    ensures { λ r. ⌜ Put 126 (now (out .entry)) at (line (decimal k) (account ∷ guarantee ∷ statics ∷ mixeds ∷ dynamics ∷ [])) r
+        (now (out .exit)) ⌝ }
 {
     let a = digits(out, at, 20, k);
     let b = number(out, a, account);
@@ -141,7 +144,8 @@ fn return_line(
 ) -> usize
     requires { ⌜ Tabled (termsIn c) count (now list) (now statics) (now mixeds) (now dynamics) ⌝ }
     requires { ⌜ (k < count) × (at + 126 ≤ length (now out)) ⌝ }
-    ensures { λ r. ⌜ Put 126 (now (out .entry)) at (tableLine (termsIn c) (returnsOf (now (list .entry))) (now (statics .entry)) (now (mixeds .entry)) (now (dynamics .entry)) k) r (now (out .exit)) ⌝ }
+    ensures { λ r. ⌜ Put 126 (now (out .entry)) at (tableLine (termsIn c) (returnsOf (now (list .entry))) (now (statics .entry))
+        (now (mixeds .entry)) (now (dynamics .entry)) k) r (now (out .exit)) ⌝ }
 {
     let factor = contract::word(list, Contract::RETURN_BYTES * k);
     let account = date::next_account(c.fee, c.top, c.premium, factor);
@@ -164,7 +168,9 @@ fn return_lines(
 ) -> usize
     requires { ⌜ Tabled (termsIn c) count (now list) (now statics) (now mixeds) (now dynamics) ⌝ }
     requires { ⌜ at + 126 * count ≤ length (now out) ⌝ }
-    ensures { λ r. ⌜ Put (126 * count) (now (out .entry)) at (linesOf (tableLine (termsIn c) (returnsOf (now (list .entry))) (now (statics .entry)) (now (mixeds .entry)) (now (dynamics .entry))) count) r (now (out .exit)) ⌝ }
+    ensures { λ r. ⌜ Put (126 * count) (now (out .entry)) at
+        (linesOf (tableLine (termsIn c) (returnsOf (now (list .entry))) (now (statics .entry)) (now (mixeds .entry))
+        (now (dynamics .entry))) count) r (now (out .exit)) ⌝ }
 {
     let mut next = at;
     for k in 0..count {

@@ -88,7 +88,10 @@ digits-digits-requires : (t : ℕ) → digits-lts.Need-digits-requires (
   digits-below t,
   digits.Post,
 ) (digits-at t) digits.Post
-digits-digits-requires t c κs = (omega (arith, c .before .before .before .before .pre .0, c .before .before .if1 .left), omega (arith, c .before .before .before .before .pre .1, c .before .before .if1 .left))
+digits-digits-requires t c κs = (
+  omega (arith, c .before .before .before .before .pre .0, c .before .before .if1 .left),
+  omega (arith, c .before .before .before .before .pre .1, c .before .before .if1 .left),
+)
 
 digits-cast-byte-2 : (t : ℕ) → digits-lts.Need-cast-byte-2 (
   byte-reads.Asked,
@@ -138,7 +141,8 @@ digits-returns-3 t c =
     let if2 = c .before .before .before .before .before .before .before .before .if2 in
     let digits = c .before .before .before .before .before .before .digits in
     let byte2 = c .before .before .byte2 in
-    put-most {m = (args .places - 1) + 1} (omega (arith, if1 .left)) (put-eq (sym (digits-more _ _ (omega (arith, if1 .left)) (if2 .left))) (put-then (digits .ensures) (byte2 .ensures)))
+    put-most {m = (args .places - 1) + 1} (omega (arith, if1 .left))
+    (put-eq (sym (digits-more _ _ (omega (arith, if1 .left)) (if2 .left))) (put-then (digits .ensures) (byte2 .ensures)))
 
 pub +digits-spec : {M : Type 1} → statement M
 +digits-spec = close μ-digits λ t. digits-lts.spec (

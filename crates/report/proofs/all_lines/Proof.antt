@@ -24,7 +24,8 @@ enum-told c = search needs
 returns : tie.Need-returns
 returns c =
     let args = c .before .before .before .before .before .before .before .before .before .args in
-    absurd (not-both (c .before .before .before .before .before .before .before .before .before .pre .0 .accepts) (both-not-read (args .bytes .now) (args .list .now) _ (sym (c .before .before .read .ensures) ∙ c .enum-told .given .1)))
+    absurd (not-both (c .before .before .before .before .before .before .before .before .before .pre .0 .accepts)
+    (both-not-read (args .bytes .now) (args .list .now) _ (sym (c .before .before .read .ensures) ∙ c .enum-told .given .1)))
 
 returns-2 : tie.Need-returns-2
 unfolding linesOf
@@ -32,14 +33,18 @@ returns-2 c =
     let args = c .before .before .before .before .before .before .before .before .before .before .before .before .args in
     let bytes₀ = args .bytes .now in
     let list₀ = args .list .now in
-    let known = both-read bytes₀ list₀ _ _ (sym (c .before .before .before .before .before .read .ensures) ∙ c .before .before .before .agreement .given .1) in
-    put-eq (ap (linesOf (tableLine (termsOf bytes₀) (returnsOf list₀) (args .statics .now) (args .mixeds .now) (args .dynamics .now))) (sym (no-lines known (c .if1 .taken)))) (put-none _ _ _)
+    let known = both-read bytes₀ list₀ _ _ (sym (c .before .before .before .before .before .read .ensures)
+    ∙ c .before .before .before .agreement .given .1) in
+    put-eq (ap (linesOf (tableLine (termsOf bytes₀) (returnsOf list₀) (args .statics .now) (args .mixeds .now)
+    (args .dynamics .now))) (sym (no-lines known (c .if1 .taken)))) (put-none _ _ _)
 
 return-lines-requires : tie.Need-return-lines-requires
 return-lines-requires c κs =
     let args = c .before .before .before .before .before .before .before .before .before .before .before .before .before .args in
     let pre = c .before .before .before .before .before .before .before .before .before .before .before .before .before .pre in
-    let known = both-read (args .bytes .now) (args .list .now) _ _ (sym (c .before .before .before .before .before .before .read .ensures) ∙ c .before .before .before .before .agreement .given .1) in
+    let known = both-read (args .bytes .now) (args .list .now) _ _
+    (sym (c .before .before .before .before .before .before .read .ensures)
+    ∙ c .before .before .before .before .agreement .given .1) in
     (tabled known (c .before .if1 .left) (pre .0), omega (arith, pre .1, known .count, known .returns .count))
 
 same-length : tie.Need-same-length
@@ -47,11 +52,19 @@ same-length c = search needs
 
 returns-3 : tie.Need-returns-3
 returns-3 c =
-    let args = c .before .before .before .before .before .before .before .before .before .before .before .before .before .before .before .before .args in
+    let args =
+    c .before .before .before .before .before .before .before .before .before .before .before .before .before .before .before
+    .before .args in
     let list₀ = args .list .now in
     let agreement = c .before .before .before .before .before .before .before .agreement in
-    let known = both-read (args .bytes .now) list₀ _ _ (sym (c .before .before .before .before .before .before .before .before .before .read .ensures) ∙ agreement .given .1) in
-    put-eq (ap₂ (λ (t : Terms) (n : ℕ). linesOf (tableLine t (returnsOf list₀) (args .statics .now) (args .mixeds .now) (args .dynamics .now)) n) (known .terms) (known .count ∙ sym (some-lines known (c .before .before .before .before .if1 .left)))) (put-most {m = 126 * agreement .given .0 .1 .0 .count} (omega (arith, known .count, known .returns .count)) (c .before .before .return-lines .ensures))
+    let known =
+    both-read (args .bytes .now) list₀ _ _
+    (sym (c .before .before .before .before .before .before .before .before .before .read .ensures) ∙ agreement .given .1) in
+    put-eq (ap₂ (λ (t : Terms) (n : ℕ). linesOf (tableLine t (returnsOf list₀) (args .statics .now) (args .mixeds .now)
+    (args .dynamics .now)) n) (known .terms) (known .count
+    ∙ sym (some-lines known (c .before .before .before .before .if1 .left))))
+    (put-most {m = 126 * agreement .given .0 .1 .0 .count} (omega (arith, known .count, known .returns .count))
+    (c .before .before .return-lines .ensures))
 
 pub all-lines-spec : {M : Type 1} → statement M
 all-lines-spec =

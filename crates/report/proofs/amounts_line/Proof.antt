@@ -32,14 +32,24 @@ same-length c = search needs
 returns : tie.Need-returns
 unfolding line numbered decimal
 returns c =
-    let digits = c .before .before .before .before .before .before .before .before .before .before .before .before .before .before .before .before .before .before .before .before .before .before .before .before .before .before .digits in
-    let number = c .before .before .before .before .before .before .before .before .before .before .before .before .before .before .before .before .before .before .before .before .before .before .number in
-    let number2 = c .before .before .before .before .before .before .before .before .before .before .before .before .before .before .before .before .before .before .number2 in
-    let number3 = c .before .before .before .before .before .before .before .before .before .before .before .before .before .before .number3 in
+    let digits =
+    c .before .before .before .before .before .before .before .before .before .before .before .before .before .before .before
+    .before .before .before .before .before .before .before .before .before .before .before .digits in
+    let number =
+    c .before .before .before .before .before .before .before .before .before .before .before .before .before .before .before
+    .before .before .before .before .before .before .before .number in
+    let number2 =
+    c .before .before .before .before .before .before .before .before .before .before .before .before .before .before .before
+    .before .before .before .number2 in
+    let number3 =
+    c .before .before .before .before .before .before .before .before .before .before .before .before .before
+    .before .number3 in
     let number4 = c .before .before .before .before .before .before .before .before .before .before .number4 in
     let number5 = c .before .before .before .before .before .before .number5 in
     let byte = c .before .before .byte in
-    put-then (digits .ensures) (put-then (number .ensures) (put-then (number2 .ensures) (put-then (number3 .ensures) (put-then (number4 .ensures) (put-then (number5 .ensures) (byte .ensures))))))
+    put-then (digits .ensures) (put-then (number .ensures)
+    (put-then (number2 .ensures) (put-then (number3 .ensures)
+    (put-then (number4 .ensures) (put-then (number5 .ensures) (byte .ensures))))))
 
 pub amounts-line-spec : {M : Type 1} → statement M
 amounts-line-spec =

@@ -29,7 +29,13 @@ mul-entry c =
     let args = c .before .before .before .before .before .before .before .before .args in
     let pre = c .before .before .before .before .before .before .before .before .pre in
     let word = c .before .before .word in
-    let e = row-small (pre .0 .valid) (c .before .next-account .result) (omega (arith, c .before .next-account .ensures, account-le (args .c .fee) (args .c .top) (args .c .premium) (word .result))) in
+    let e = row-small (pre .0 .valid) (c .before .next-account .result)
+    (omega (
+      arith,
+      c .before .next-account .ensures,
+      account-le (args .c .fee) (args .c .top) (args .c .premium)
+          (word .result),
+    )) in
     omega (arith, e)
 
 add-entry-2 : tie.Need-add-entry-2
@@ -38,7 +44,8 @@ add-entry-2 c =
     let pre = c .before .before .before .before .before .before .before .before .before .pre in
     let word = c .before .before .before .word in
     let next-account = c .before .before .next-account in
-    let e = row-small (pre .0 .valid) (next-account .result) (omega (arith, next-account .ensures, account-le (args .c .fee) (args .c .top) (args .c .premium) (word .result))) in
+    let e = row-small (pre .0 .valid) (next-account .result)
+    (omega (arith, next-account .ensures, account-le (args .c .fee) (args .c .top) (args .c .premium) (word .result))) in
     omega (arith, e, pre .0 .valid .top, pre .0 .valid .premium)
 
 amount-requires : tie.Need-amount-requires
@@ -47,7 +54,8 @@ amount-requires c κs =
     let pre = c .before .before .before .before .before .before .before .before .before .pre in
     let word = c .before .before .before .word in
     let next-account = c .before .before .next-account in
-    let e = entry-within (pre .0 .valid) (next-account .result) (omega (arith, next-account .ensures, account-le (args .c .fee) (args .c .top) (args .c .premium) (word .result))) in
+    let e = entry-within (pre .0 .valid) (next-account .result)
+    (omega (arith, next-account .ensures, account-le (args .c .fee) (args .c .top) (args .c .premium) (word .result))) in
     omega (arith, e, pre .0 .static-layer)
 
 amount-requires-2 : tie.Need-amount-requires-2
@@ -56,7 +64,8 @@ amount-requires-2 c κs =
     let pre = c .before .before .before .before .before .before .before .before .before .before .pre in
     let word = c .before .before .before .before .word in
     let next-account = c .before .before .before .next-account in
-    let e = entry-within (pre .0 .valid) (next-account .result) (omega (arith, next-account .ensures, account-le (args .c .fee) (args .c .top) (args .c .premium) (word .result))) in
+    let e = entry-within (pre .0 .valid) (next-account .result)
+    (omega (arith, next-account .ensures, account-le (args .c .fee) (args .c .top) (args .c .premium) (word .result))) in
     omega (arith, e, pre .0 .mixed-layer)
 
 amount-requires-3 : tie.Need-amount-requires-3
@@ -65,7 +74,8 @@ amount-requires-3 c κs =
     let pre = c .before .before .before .before .before .before .before .before .before .before .before .pre in
     let word = c .before .before .before .before .before .word in
     let next-account = c .before .before .before .before .next-account in
-    let e = entry-within (pre .0 .valid) (next-account .result) (omega (arith, next-account .ensures, account-le (args .c .fee) (args .c .top) (args .c .premium) (word .result))) in
+    let e = entry-within (pre .0 .valid) (next-account .result)
+    (omega (arith, next-account .ensures, account-le (args .c .fee) (args .c .top) (args .c .premium) (word .result))) in
     omega (arith, e, pre .0 .dynamic-layer)
 
 amounts-line-requires : tie.Need-amounts-line-requires
@@ -76,14 +86,18 @@ same-length c = search needs
 
 returns : tie.Need-returns
 returns c =
-    let args = c .before .before .before .before .before .before .before .before .before .before .before .before .before .before .before .before .args in
+    let args =
+    c .before .before .before .before .before .before .before .before .before .before .before .before .before .before .before
+    .before .args in
     let word = c .before .before .before .before .before .before .before .before .before .before .word in
     let next-account = c .before .before .before .before .before .before .before .before .before .next-account in
     let amount = c .before .before .before .before .before .before .amount in
     let amount2 = c .before .before .before .before .before .amount2 in
     let amount3 = c .before .before .before .before .amount3 in
     let amounts-line = c .before .before .amounts-line in
-    put-eq (table-line _ _ _ _ _ (args .k) (next-account .ensures ∙ ap (nextAccount (args .c .fee) (args .c .top) (args .c .premium)) (word .ensures .0)) (amount .ensures) (amount2 .ensures) (amount3 .ensures)) (amounts-line .ensures)
+    put-eq (table-line _ _ _ _ _ (args .k) (next-account .ensures
+    ∙ ap (nextAccount (args .c .fee) (args .c .top) (args .c .premium)) (word .ensures .0)) (amount .ensures) (amount2 .ensures)
+    (amount3 .ensures)) (amounts-line .ensures)
 
 pub return-line-spec : {M : Type 1} → statement M
 return-line-spec =

@@ -13,7 +13,8 @@ use Rattle.report.proofs.return_lines.Statement.{statement}
 use Rattle.report.proofs.return_lines.Tie as tie
 
 abbrev Inv-loop : tie.InvT-loop
-Inv-loop c list count statics mixeds dynamics out₀ at next₀ k₀ out next k = (k ≤ count) × (length out ≡ length out₀) × Put (126 * k) out₀ at (linesOf (tableLine (termsIn c) (returnsOf list) statics mixeds dynamics) k) next out
+Inv-loop c list count statics mixeds dynamics out₀ at next₀ k₀ out next k = (k ≤ count) × (length out ≡ length out₀)
+    × Put (126 * k) out₀ at (linesOf (tableLine (termsIn c) (returnsOf list) statics mixeds dynamics) k) next out
 
 abbrev μ-loop : tie.MeasureT-loop
 μ-loop c list count statics mixeds dynamics out₀ at next₀ k₀ out next k = count - k
@@ -42,7 +43,8 @@ loop-again c =
     let return-line = c .before .before .return-line in (
       omega (arith, loop-test .taken),
       return-line .kept .1 .1 .1 .1 .1 .1 .1 .0 ∙ loop .inv .1,
-      put-line (tableLine (termsIn (args .c)) (returnsOf (args .list .now)) (args .statics .now) (args .mixeds .now) (args .dynamics .now)) (loop .inv .2) (return-line .ensures),
+      put-line (tableLine (termsIn (args .c)) (returnsOf (args .list .now)) (args .statics .now) (args .mixeds .now)
+          (args .dynamics .now)) (loop .inv .2) (return-line .ensures),
     )
 
 same-length : tie.Need-same-length Inv-loop μ-loop
@@ -54,7 +56,8 @@ returns c =
     let loop = c .before .loop in
     let k' = loop .k in
     let e : k' ≡ args .count = omega (arith, loop .inv .0, c .loop-test .left) in
-    put-eq (ap (linesOf (tableLine (termsIn (args .c)) (returnsOf (args .list .now)) (args .statics .now) (args .mixeds .now) (args .dynamics .now))) e) (put-most {m = 126 * k'} (omega arith) (loop .inv .2))
+    put-eq (ap (linesOf (tableLine (termsIn (args .c)) (returnsOf (args .list .now)) (args .statics .now) (args .mixeds .now)
+    (args .dynamics .now))) e) (put-most {m = 126 * k'} (omega arith) (loop .inv .2))
 
 pub return-lines-spec : {M : Type 1} → statement M
 return-lines-spec =

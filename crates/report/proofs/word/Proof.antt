@@ -24,7 +24,13 @@ shared-slice-read-byte : tie.Need-shared-slice-read-byte Inv-loop μ-loop
 shared-slice-read-byte c = c .before .before .loop-test .taken
 
 byte-requires : tie.Need-byte-requires Inv-loop μ-loop
-byte-requires c κs = omega (arith, c .before .before .before .before .before .before .pre, c .before .before .before .loop .inv .2 .within, c .before .before .before .loop .inv .1, c .before .before .loop-test .taken)
+byte-requires c κs = omega (
+  arith,
+  c .before .before .before .before .before .before .pre,
+  c .before .before .before .loop .inv .2 .within,
+  c .before .before .before .loop .inv .1,
+  c .before .before .loop-test .taken,
+)
 
 add-i : tie.Need-add-i Inv-loop μ-loop
 add-i c = search needs
@@ -37,8 +43,12 @@ loop-again c =
     let args = c .before .before .before .before .before .before .before .before .before .args in
     let loop = c .before .before .before .before .before .before .loop in
     let loop-test = c .before .before .before .before .before .loop-test in
-    let byte = c .before .before .byte in
-    (omega (arith, loop-test .taken), byte .kept .0 ∙ loop .inv .1, put-next (args .text .now) (loop-test .taken) (loop .inv .2) (byte .ensures))
+    let byte = c .before .before .byte in (
+      omega (arith, loop-test .taken),
+      byte .kept .0 ∙ loop .inv .1,
+      put-next (args .text .now) (loop-test .taken) (loop .inv .2)
+          (byte .ensures),
+    )
 
 same-length : tie.Need-same-length Inv-loop μ-loop
 same-length c = c .before .loop .inv .1
