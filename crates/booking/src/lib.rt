@@ -71,7 +71,8 @@ fn fill(buffer: &mut [u8], cash: usize, penalty: usize, balance: usize, guarante
 // Books t at account w and guarantee a under terms that were read.
 fn booked(c: Contract, date: usize, w: usize, a: usize, t: usize, buffer: &mut [u8]) -> Outcome
     requires { ⌜ Valid (termsIn c) ⌝ }
-    ensures { λ r. ⌜ Booked (verdict (amountChecks (termsIn c) date w a t (now (buffer .entry)))) (bookingBytes (termsIn c) date w a t) (now (buffer .entry)) r (now (buffer .exit)) ⌝ }
+    ensures { λ r. ⌜ Booked (verdict (amountChecks (termsIn c) date w a t (now (buffer .entry))))
+        (bookingBytes (termsIn c) date w a t) (now (buffer .entry)) r (now (buffer .exit)) ⌝ }
 {
     let number = refused_by(c, date, w, a, t, &buffer[..]);
     if number != 0 {

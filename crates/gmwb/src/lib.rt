@@ -157,9 +157,12 @@ pub extern "C" fn gmwb_walk(
     cash: &mut [u64],
     place: &mut u64,
 ) -> u32
-    ensures { λ r. ⌜ r ≡ numberOf (walkVerdict (now (bytes .entry)) (now (list .entry)) (now (table .entry)) (now (path .entry)) (now (cash .entry))) ⌝ }
-    ensures { λ _. ⌜ now (place .exit) ≡ placeOf (walkVerdict (now (bytes .entry)) (now (list .entry)) (now (table .entry)) (now (path .entry)) (now (cash .entry))) ⌝ }
-    ensures { λ _. ⌜ now (cash .exit) ≡ walkCashes (now (bytes .entry)) (now (list .entry)) (now (table .entry)) (now (path .entry)) (now (cash .entry)) ⌝ }
+    ensures { λ r. ⌜ r ≡ numberOf (walkVerdict (now (bytes .entry)) (now (list .entry)) (now (table .entry)) (now (path .entry))
+        (now (cash .entry))) ⌝ }
+    ensures { λ _. ⌜ now (place .exit) ≡ placeOf (walkVerdict (now (bytes .entry)) (now (list .entry)) (now (table .entry))
+        (now (path .entry)) (now (cash .entry))) ⌝ }
+    ensures { λ _. ⌜ now (cash .exit) ≡ walkCashes (now (bytes .entry)) (now (list .entry)) (now (table .entry))
+        (now (path .entry)) (now (cash .entry)) ⌝ }
 {
     let outcome = walk::walk(bytes, list, table, path, cash);
     *place = outcome.place;

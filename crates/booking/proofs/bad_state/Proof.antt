@@ -18,7 +18,10 @@ returns-2 : tie.Need-returns-2
 returns-2 c = rw (sym (c .before .before .before .outside .ensures) ∙ c .before .before .if1 .left, lt-ltb _ _ (c .if2 .taken))
 
 returns-3 : tie.Need-returns-3
-returns-3 c = rw (sym (c .before .before .before .before .outside .ensures) ∙ c .before .before .before .if1 .left, le-ltb _ _ (c .before .if2 .left))
+returns-3 c = rw (
+  sym (c .before .before .before .before .outside .ensures) ∙ c .before .before .before .if1 .left,
+  le-ltb _ _ (c .before .if2 .left),
+)
 
 pub bad-state-spec : {M : Type 1} → statement M
 bad-state-spec = tie.close (tie.spec sub-outside outside-requires returns returns-2 returns-3)

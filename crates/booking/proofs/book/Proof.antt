@@ -47,7 +47,8 @@ returns c =
     )
 
 booked-requires : tie.Need-booked-requires
-booked-requires c κs = read-accepted (c .before .before .before .before .before .before .before .args .bytes .now) _ (sym (c .before .before .before .before .read .ensures) ∙ c .before .before .reading .given .1) .valid
+booked-requires c κs = read-accepted (c .before .before .before .before .before .before .before .args .bytes .now) _
+    (sym (c .before .before .before .before .read .ensures) ∙ c .before .before .reading .given .1) .valid
 
 same-length : tie.Need-same-length
 same-length c = search needs
@@ -73,8 +74,11 @@ returns-2 c =
     let terms = known .terms in
     let same = ap (λ (c : Terms). verdict (amountChecks c (x .date) (x .w) (x .a) (x .t) (x .buffer .now))) terms ∙ sym whole in
     let bytes = ap (λ (c : Terms). bookingBytes c (x .date) (x .w) (x .a) (x .t)) terms in
-    let told = booked .ensures in
-    (told .outcome-is ∙ ap outcomeOf same, told .buffer-is ∙ ap₂ (λ (v : Verdict) (new : List ℕ). onSuccess v new (x .buffer .now)) same bytes)
+    let told = booked .ensures in (
+      told .outcome-is ∙ ap outcomeOf same,
+      told .buffer-is
+          ∙ ap₂ (λ (v : Verdict) (new : List ℕ). onSuccess v new (x .buffer .now)) same bytes,
+    )
 
 pub book-spec : {M : Type 1} → statement M
 book-spec =

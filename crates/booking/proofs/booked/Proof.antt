@@ -47,8 +47,13 @@ returns c =
     let a₀ = args .a in
     let t₀ = args .t in
     record {
-      outcome-is = λ i. record { number = c .before .refused-by .ensures i; place = sym (no-place (amountChecks (termsIn c₀) date₀ w₀ a₀ t₀ buffer₀) (amount-places (termsIn c₀) date₀ w₀ a₀ t₀ buffer₀)) i };
-      buffer-is = sym (refusal-keeps (verdict (amountChecks (termsIn c₀) date₀ w₀ a₀ t₀ buffer₀)) (bookingBytes (termsIn c₀) date₀ w₀ a₀ t₀) buffer₀ (λ e. c .if1 .taken (c .before .refused-by .ensures ∙ e)));
+      outcome-is = λ i. record {
+        number = c .before .refused-by .ensures i;
+        place =
+            sym (no-place (amountChecks (termsIn c₀) date₀ w₀ a₀ t₀ buffer₀) (amount-places (termsIn c₀) date₀ w₀ a₀ t₀ buffer₀)) i;
+      };
+      buffer-is = sym (refusal-keeps (verdict (amountChecks (termsIn c₀) date₀ w₀ a₀ t₀ buffer₀))
+          (bookingBytes (termsIn c₀) date₀ w₀ a₀ t₀) buffer₀ (λ e. c .if1 .taken (c .before .refused-by .ensures ∙ e)));
     }
 
 free-amount-requires : tie.Need-free-amount-requires
@@ -91,9 +96,12 @@ returns-2 c =
     let penalty-is =
     c .before .before .before .before .before .before .penalty .ensures .0
     ∙ ap₂ (λ (r m : ℕ). penalty r m (x .t)) rate free in
-    let guarantee-is = c .before .before .before .before .before .guarantee-after .ensures ∙ ap (λ (m : ℕ). guaranteeAfter m (x .w) (x .a) (x .t)) free in
+    let guarantee-is = c .before .before .before .before .before .guarantee-after .ensures
+    ∙ ap (λ (m : ℕ). guaranteeAfter m (x .w) (x .a) (x .t)) free in
     let balance-is = c .before .before .before .balance-after .ensures in
-    let bytes : _ ≡ bookingBytes (termsIn (x .c)) (x .date) (x .w) (x .a) (x .t) = λ i. bytesOf 4 (cash-is i) ++ bytesOf 4 (penalty-is i) ++ bytesOf 2 (balance-is i) ++ bytesOf 2 (guarantee-is i) ++ bytesOf 4 0 in
+    let bytes : _ ≡ bookingBytes (termsIn (x .c)) (x .date) (x .w) (x .a) (x .t) =
+    λ i. bytesOf 4 (cash-is i) ++ bytesOf 4 (penalty-is i) ++ bytesOf 2 (balance-is i) ++ bytesOf 2 (guarantee-is i)
+    ++ bytesOf 4 0 in
     let yes-to = accepted-by (c .before .before .before .before .before .before .before .before .before .before) in
     record {
       outcome-is = ap outcomeOf (sym yes-to);

@@ -97,7 +97,8 @@ same-length c = simp length-set
 
 returns : tie.Need-returns
 unfolding bytesOf
-returns c = all-stored (c .args .buffer .now) (bytesOf 4 (c .args .cash) ++ bytesOf 4 (c .args .penalty) ++ bytesOf 2 (c .args .balance) ++ bytesOf 2 (c .args .guarantee) ++ bytesOf 4 0) (c .pre)
+returns c = all-stored (c .args .buffer .now) (bytesOf 4 (c .args .cash) ++ bytesOf 4 (c .args .penalty) ++
+    bytesOf 2 (c .args .balance) ++ bytesOf 2 (c .args .guarantee) ++ bytesOf 4 0) (c .pre)
 
 pub fill-spec : {M : Type 1} → statement M
 fill-spec =

@@ -34,7 +34,12 @@ returns-3 c =
     let bad-state = c .before .before .before .before .bad-state in
     let if2 = c .before .before .before .if2 in
     let free-amount = c .before .before .free-amount in
-    simp (eq-eqb _ _ (if1 .left), sym (bad-state .ensures) ∙ if2 .left, ap (λ (m : ℕ). admits dynamic m (args .w) (args .t)) (sym (free-amount .ensures)) ∙ sym (c .before .admits-dynamic .ensures) ∙ c .if3 .taken)
+    simp (
+      eq-eqb _ _ (if1 .left),
+      sym (bad-state .ensures) ∙ if2 .left,
+      ap (λ (m : ℕ). admits dynamic m (args .w) (args .t))
+          (sym (free-amount .ensures)) ∙ sym (c .before .admits-dynamic .ensures) ∙ c .if3 .taken,
+    )
 
 returns-4 : tie.Need-returns-4
 unfolding numberOf verdict amountChecks
@@ -44,7 +49,12 @@ returns-4 c =
     let bad-state = c .before .before .before .before .bad-state in
     let if2 = c .before .before .before .if2 in
     let free-amount = c .before .before .free-amount in
-    simp (eq-eqb _ _ (if1 .left), sym (bad-state .ensures) ∙ if2 .left, ap (λ (m : ℕ). admits dynamic m (args .w) (args .t)) (sym (free-amount .ensures)) ∙ sym (c .before .admits-dynamic .ensures) ∙ c .if3 .left)
+    simp (
+      eq-eqb _ _ (if1 .left),
+      sym (bad-state .ensures) ∙ if2 .left,
+      ap (λ (m : ℕ). admits dynamic m (args .w) (args .t))
+          (sym (free-amount .ensures)) ∙ sym (c .before .admits-dynamic .ensures) ∙ c .if3 .left,
+    )
 
 pub refused-by-spec : {M : Type 1} → statement M
 refused-by-spec =

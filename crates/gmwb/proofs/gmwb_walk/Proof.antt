@@ -12,7 +12,10 @@ same-length : tie.Need-same-length
 same-length c = search needs
 
 returns : tie.Need-returns
-returns c = (ap (λ (x : Outcome). x .number) (c .before .before .walk .ensures .0), (ap (λ (x : Outcome). x .place) (c .before .before .walk .ensures .0), c .before .before .walk .ensures .1))
+returns c = (
+  ap (λ (x : Outcome). x .number) (c .before .before .walk .ensures .0),
+  (ap (λ (x : Outcome). x .place) (c .before .before .walk .ensures .0), c .before .before .walk .ensures .1),
+)
 
 pub gmwb-walk-spec : {M : Type 1} → statement M
 gmwb-walk-spec = tie.close (tie.spec walk-requires same-length returns)
