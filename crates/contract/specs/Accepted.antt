@@ -72,10 +72,12 @@ list-accepted bytes rs e = go (verdict (listChecks bytes)) refl e
         record { accepts = a; count = ap (λ (y : Returns). y .count) (sym same); valid = valid-returns bytes (all-pass _ a) }
     go (refused n p) a x = let z : _≡_ {A = ℕ} 0 1 = cc in absurd (omega arith)
 
-pub read-refused : (bytes : List ℕ) (o : Outcome) → recordRead bytes ≡ reading.Refused o → verdict (recordChecks bytes) ≡ refused (o .number) (o .place)
+pub read-refused : (bytes : List ℕ) (o : Outcome) → recordRead bytes ≡ reading.Refused o
+    → verdict (recordChecks bytes) ≡ refused (o .number) (o .place)
 read-refused bytes o e = sym (reading-verdict bytes) ∙ ap readingVerdict e
 
-pub list-refused : (bytes : List ℕ) (o : Outcome) → listRead bytes ≡ listing.Refused o → verdict (listChecks bytes) ≡ refused (o .number) (o .place)
+pub list-refused : (bytes : List ℕ) (o : Outcome) → listRead bytes ≡ listing.Refused o
+    → verdict (listChecks bytes) ≡ refused (o .number) (o .place)
 list-refused bytes o e = sym (listing-verdict bytes) ∙ ap listingVerdict e
 
 -- ---- an agreement that was made or refused, by any verdict
@@ -85,17 +87,20 @@ pub record Agreed (v : Verdict) (bytes list : List ℕ) (c : Contract) (rs : Ret
   pub count : rs .count ≡ returnsOf list .count
 
 module _ (v : Verdict) (bytes list : List ℕ) where
-  pub agreed : (c : Contract) (rs : Returns) → agreementOf v (termsOf bytes) (returnsOf list .count) ≡ agreement.Accepted c rs → Agreed v bytes list c rs
+  pub agreed : (c : Contract) (rs : Returns) → agreementOf v (termsOf bytes) (returnsOf list .count) ≡ agreement.Accepted c rs
+      → Agreed v bytes list c rs
   agreed c rs e = go v refl e
     where
-      go : (x : Verdict) → v ≡ x → agreementOf x (termsOf bytes) (returnsOf list .count) ≡ agreement.Accepted c rs → Agreed v bytes list c rs
+      go : (x : Verdict) → v ≡ x → agreementOf x (termsOf bytes) (returnsOf list .count) ≡ agreement.Accepted c rs
+          → Agreed v bytes list c rs
       go accepted a e =
           let terms : contractOf (termsOf bytes) ≡ c = cc in
           let returns : _≡_ {A = Returns} (record { count = returnsOf list .count }) rs = cc in
           record { accepts = a; terms = ap termsIn (sym terms); count = ap (λ (x : Returns). x .count) (sym returns) }
       go (refused n p) a e = let z : _≡_ {A = ℕ} 0 1 = cc in absurd (omega arith)
 
-  pub disagreed : (o : Outcome) → agreementOf v (termsOf bytes) (returnsOf list .count) ≡ agreement.Refused o → v ≡ refused (o .number) (o .place)
+  pub disagreed : (o : Outcome) → agreementOf v (termsOf bytes) (returnsOf list .count) ≡ agreement.Refused o
+      → v ≡ refused (o .number) (o .place)
   disagreed o e = sym (go v) ∙ ap agreementVerdict e
     where
       go : (x : Verdict) → agreementVerdict (agreementOf x (termsOf bytes) (returnsOf list .count)) ≡ x
@@ -130,7 +135,8 @@ unfolding bothRead
 both-not-read bytes list o e = disagreed _ bytes list o e
 
 -- reading both is reading the one and then the other
-pub both-accepted : {bytes list : List ℕ} {c : Contract} {rs : Returns} → Read bytes c → Listed list rs → agreement.Accepted c rs ≡ bothRead bytes list
+pub both-accepted : {bytes list : List ℕ} {c : Contract} {rs : Returns} → Read bytes c → Listed list rs
+    → agreement.Accepted c rs ≡ bothRead bytes list
 unfolding bothRead
 both-accepted {bytes} {list} known told =
     let e = verdict-append (recordChecks bytes) (listChecks list) ∙ ap₂ andThen (known .accepts) (told .accepts) in

@@ -7,7 +7,8 @@ use lib.ListN.{drop}
 use Rattle.rules.specs.Contract.{Terms, returnsOf, ratesOf}
 use Rattle.rules.specs.Refusals.{refused, onSuccess, short}
 use Rattle.rules.specs.Operations.{behaviourOf, valuingVerdict}
-use Rattle.rules.specs.Map.{surrenderMap, surrenderCount, mapSize, mappingVerdict, mappingAnswer, mappingCount, mappingWork, mappingTable, mappingMap}
+use Rattle.rules.specs.Map.{surrenderMap, surrenderCount, mapSize, mappingVerdict}
+use Rattle.rules.specs.Map.{mappingAnswer, mappingCount, mappingWork, mappingTable, mappingMap}
 use Rattle.laws.specs.Accepted.{success-reports}
 use Rattle.laws.specs.Map.{mapping-short, mapping-same, mapping-claim}
 use Rattle.contract.specs.declared.Contract.{Contract}

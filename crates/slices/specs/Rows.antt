@@ -42,7 +42,10 @@ layer-stored xs base stride n f h = record {
 -- a layer that a store elsewhere leaves as it was
 pub layer-kept : (xs : List ℕ) (base stride n at m : ℕ) (f : ℕ → ℕ → ℕ) (g : ℕ → ℕ)
     → (base + n * stride ≤ at) ⊎ (at + m ≤ base) → Layer xs base stride n f → Layer (stored xs at g m) base stride n f
-layer-kept xs base stride n at m f g o x = record { cell = λ w a i l. stored-out xs at g m (base + (w * stride + a)) (apart w a (within-rows stride n w a i l) o) ∙ x .cell w a i l }
+layer-kept xs base stride n at m f g o x = record {
+  cell = λ w a i l. stored-out xs at g m (base + (w * stride + a))
+      (apart w a (within-rows stride n w a i l) o) ∙ x .cell w a i l;
+}
   where
     apart : (w a : ℕ) → w * stride + a < n * stride → (base + n * stride ≤ at) ⊎ (at + m ≤ base)
         → (base + (w * stride + a) < at) ⊎ (at + m ≤ base + (w * stride + a))
@@ -62,7 +65,8 @@ layer-flat xs stride n f pos x e h =
     ap (λ (j : ℕ). getD xs j 0) (sym i) ∙ x .cell (e / stride) (e % stride) (div-lt-iff-lt-mul pos .1 h) (mod-lt e pos)
 
 -- a store before a layer leaves every entry of it
-pub cells-kept : (xs : List ℕ) (at n base stride : ℕ) (f : ℕ → ℕ) → at + n ≤ base → cells (stored xs at f n) base stride ≡ cells xs base stride
+pub cells-kept : (xs : List ℕ) (at n base stride : ℕ) (f : ℕ → ℕ) → at + n ≤ base
+    → cells (stored xs at f n) base stride ≡ cells xs base stride
 cells-kept xs at n base stride f h = fun-ext (λ w. fun-ext (λ a. stored-out xs at f n (base + (w * stride + a)) (inr (omega arith))))
 
 -- the row before

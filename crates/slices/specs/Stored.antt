@@ -7,7 +7,8 @@ use native.Mathlib.Decide.{decLe}
 use native.Mathlib.Nat.{add-suc, add-assoc, add-zero, zero-add, zero-mul}
 use native.Mathlib.Numerals.{add-one}
 use native.Mathlib.Omega.{arith}
-use lib.ListN.{length, getD, set, drop, replicate, length-set, length-append, length-drop, length-replicate, getD-replicate, List·getD-append}
+use lib.ListN.{length, getD, set, drop, replicate, length-set, length-append, length-drop, length-replicate}
+use lib.ListN.{getD-replicate, List·getD-append}
 use lib.Seq.{getD-set-same, getD-set-other, getD-append-add, getD-drop, ext-getD}
 use Rattle.decision.specs.Index.{tabulate, length-tabulate, getD-tabulate, tabulate-zeros}
 
@@ -38,7 +39,8 @@ stored-in l at f zero k h l' = absurd (omega arith)
 stored-in l at f (suc n) k h l' = go (decLe (suc k) n) (stored-in l at f n k (omega arith))
   where
     go : Dec (suc k ≤ n) → (k < n → getD (stored l at f n) (at + k) 0 ≡ f k) → getD (set (stored l at f n) (at + n) (f n)) (at + k) 0 ≡ f k
-    go (yes m) before = getD-set-other (stored l at f n) (at + n) (at + k) (f n) 0 (λ e. let z : at + k < at + n = omega arith in omega arith) ∙ before m
+    go (yes m) before = getD-set-other (stored l at f n) (at + n) (at + k) (f n) 0
+        (λ e. let z : at + k < at + n = omega arith in omega arith) ∙ before m
     go (no m) before =
         let e : k ≡ n = omega arith in
         rw e (getD-set-same (stored l at f n) (at + n) (f n) 0 (rw (length-stored l at f n) (omega arith)))
@@ -125,13 +127,15 @@ pub stored-zeros : (l l' : List ℕ) (f : ℕ → ℕ) (n : ℕ) → length l' �
     → ((k : ℕ) → k < n → getD l' k 0 ≡ f k) → ((j : ℕ) → n + n ≤ j → getD l' j 0 ≡ getD l j 0)
     → stored l' n (λ (i : ℕ). 0) n ≡ tabulate n f ++ replicate n 0 ++ drop (2 * n) l
 stored-zeros l l' f n same fits run rest =
-    ext-getD 0 _ (tabulate n f ++ (replicate n 0 ++ drop (2 * n) l)) (length-stored l' n (λ (i : ℕ). 0) n ∙ same ∙ sym long) (λ j h. go j (decLe (suc j) n) (decLe (n + n) j))
+    ext-getD 0 _ (tabulate n f ++ (replicate n 0 ++ drop (2 * n) l)) (length-stored l' n (λ (i : ℕ). 0) n ∙ same ∙ sym long)
+    (λ j h. go j (decLe (suc j) n) (decLe (n + n) j))
     ∙ sym (append-assoc (tabulate n f) (replicate n 0) (drop (2 * n) l))
   where
     long : length (tabulate n f ++ (replicate n 0 ++ drop (2 * n) l)) ≡ length l
     long =
         length-append (tabulate n f) (replicate n 0 ++ drop (2 * n) l)
-        ∙ ap₂ _+_ (length-tabulate n f) (length-append (replicate n 0) (drop (2 * n) l) ∙ ap₂ _+_ (length-replicate {A = ℕ} n 0) (length-drop (2 * n) l))
+        ∙ ap₂ _+_ (length-tabulate n f) (length-append (replicate n 0) (drop (2 * n) l)
+        ∙ ap₂ _+_ (length-replicate {A = ℕ} n 0) (length-drop (2 * n) l))
         ∙ omega arith
 
     go : (j : ℕ) → Dec (suc j ≤ n) → Dec (n + n ≤ j)
@@ -146,7 +150,8 @@ stored-zeros l l' f n same fits run rest =
         ∙ List·getD-append (replicate n 0) (drop (2 * n) l) 0 (j - n) (rw (length-replicate {A = ℕ} n 0) (omega arith))
         ∙ getD-replicate n (j - n) 0 0 (omega arith))
     go j (no h) (yes d) =
-        let e : j ≡ length (tabulate n f) + (length {A = ℕ} (replicate n 0) + (j - 2 * n)) = rw (length-tabulate n f, length-replicate {A = ℕ} n 0) (omega arith) in
+        let e : j ≡ length (tabulate n f) + (length {A = ℕ} (replicate n 0) + (j - 2 * n)) =
+        rw (length-tabulate n f, length-replicate {A = ℕ} n 0) (omega arith) in
         let back : 2 * n + (j - 2 * n) ≡ j = omega arith in
         stored-out l' n (λ (i : ℕ). 0) n j (inr d)
         ∙ rest j d

@@ -30,7 +30,8 @@ returns c = rw (sym (c .before .word .ensures .0), lt-ltb _ _ (c .if1 .taken))
 
 returns-2 : tie.Need-returns-2
 unfolding badReturn returnsOf
-returns-2 c = rw (sym (c .before .before .before .word .ensures .0), le-ltb _ _ (c .before .before .if1 .left)) (c .outside .ensures ∙ ap (outside 1 10000) (c .before .word2 .ensures .0))
+returns-2 c = rw (sym (c .before .before .before .word .ensures .0), le-ltb _ _ (c .before .before .if1 .left))
+    (c .outside .ensures ∙ ap (outside 1 10000) (c .before .word2 .ensures .0))
 
 pub bad-return-spec : {M : Type 1} → statement M
 bad-return-spec =

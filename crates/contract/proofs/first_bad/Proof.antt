@@ -21,7 +21,8 @@ bad-return-requires : tie.Need-bad-return-requires Inv-loop μ-loop
 bad-return-requires c κs = omega arith
 
 returns : tie.Need-returns Inv-loop μ-loop
-returns c = sym (search-hit (c .before .before .before .loop .inv) (c .before .before .loop-test .taken) (sym (c .before .bad-return .ensures) ∙ c .if1 .taken))
+returns c = sym (search-hit (c .before .before .before .loop .inv) (c .before .before .loop-test .taken)
+    (sym (c .before .bad-return .ensures) ∙ c .if1 .taken))
 
 add-k : tie.Need-add-k Inv-loop μ-loop
 add-k c = omega arith
@@ -30,7 +31,8 @@ loop-less : tie.Need-loop-less Inv-loop μ-loop
 loop-less c = omega arith
 
 loop-again : tie.Need-loop-again Inv-loop μ-loop
-loop-again c = search-more (c .before .before .before .loop .inv) (c .before .before .loop-test .taken) (sym (c .before .bad-return .ensures) ∙ c .if1 .left)
+loop-again c = search-more (c .before .before .before .loop .inv) (c .before .before .loop-test .taken)
+    (sym (c .before .bad-return .ensures) ∙ c .if1 .left)
 
 returns-2 : tie.Need-returns-2 Inv-loop μ-loop
 returns-2 c = sym (search-end (c .before .loop .inv) (c .loop-test .left))

@@ -37,7 +37,8 @@ loop-less c = omega arith
 
 loop-again : tie.Need-loop-again Inv-loop μ-loop
 unfolding returnsOf
-loop-again c = let f = returnsOf (c .before .before .before .before .args .bytes .now) .weight in (omega arith, omega (arith, sum-next f (c .before .before .loop .k)), omega arith)
+loop-again c = let f = returnsOf (c .before .before .before .before .args .bytes .now) .weight in
+    (omega arith, omega (arith, sum-next f (c .before .before .loop .k)), omega arith)
 
 returns : tie.Need-returns Inv-loop μ-loop
 returns c = let e : c .before .loop .k ≡ c .before .before .before .args .count = omega arith in rw (sym e) (c .before .loop .inv .1)

@@ -8,24 +8,40 @@ use Rattle.date.proofs.discounted.Statement.{statement}
 use Rattle.date.proofs.discounted.Tie as tie
 
 mul-result : tie.Need-mul-result
-mul-result c = omega (arith, product 1000000 18000000000000 {x = c .before .args .discount} {y = c .before .args .sum} (omega arith) (omega arith))
+mul-result c = omega (
+  arith,
+  product 1000000 18000000000000 {x = c .before .args .discount} {y = c .before .args .sum}
+      (omega arith) (omega arith),
+)
 
 returns : tie.Need-returns
 unfolding discounted
 returns c = refl
 
 mul-result-2 : tie.Need-mul-result-2
-mul-result-2 c = omega (arith, product 1000000 10000000000000 {x = c .before .args .discount} {y = c .before .args .sum / 10000} (omega arith) (omega arith))
+mul-result-2 c = omega (
+  arith,
+  product 1000000 10000000000000 {x = c .before .args .discount} {y = c .before .args .sum / 10000}
+      (omega arith) (omega arith),
+)
 
 mul-result-3 : tie.Need-mul-result-3
-mul-result-3 c = omega (arith, product 1000000 10000 {x = c .before .args .discount} {y = c .before .args .sum % 10000} (omega arith) (omega arith))
+mul-result-3 c = omega (
+  arith,
+  product 1000000 10000 {x = c .before .args .discount} {y = c .before .args .sum % 10000}
+      (omega arith) (omega arith),
+)
 
 add-result : tie.Need-add-result
 add-result c =
     let args = c .before .args in
     let discount₀ = args .discount in
     let sum₀ = args .sum in
-    omega (arith, product 1000000 10000000000000 {x = discount₀} {y = sum₀ / 10000} (omega arith) (omega arith), product 1000000 10000 {x = discount₀} {y = sum₀ % 10000} (omega arith) (omega arith))
+    omega (
+      arith,
+      product 1000000 10000000000000 {x = discount₀} {y = sum₀ / 10000} (omega arith) (omega arith),
+      product 1000000 10000 {x = discount₀} {y = sum₀ % 10000} (omega arith) (omega arith),
+    )
 
 returns-2 : tie.Need-returns-2
 unfolding discounted

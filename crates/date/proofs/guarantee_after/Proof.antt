@@ -23,7 +23,11 @@ sub-smaller : tie.Need-sub-smaller
 sub-smaller c = search needs
 
 mul-smaller : tie.Need-mul-smaller
-mul-smaller c = omega (arith, product 4000 4000 {x = c .before .before .args .a} {y = c .before .before .args .w - c .before .before .args .t} (omega arith) (omega arith))
+mul-smaller c = omega (
+  arith,
+  product 4000 4000 {x = c .before .before .args .a} {y =
+      c .before .before .args .w - c .before .before .args .t} (omega arith) (omega arith),
+)
 
 div-smaller : tie.Need-div-smaller
 div-smaller c = search needs

@@ -8,7 +8,8 @@ use Rattle.decision.specs.Bits.{fromBits}
 use Rattle.laws.specs.FixedTerm.{table-most}
 use Rattle.rules.specs.Map.{surrendered}
 use Rattle.surrender.specs.Mapped.{stateOf}
-use Rattle.surrender.proofs.Words.{Taken, taken-none, Part, next-within, part-some, part-within, part-inside, part-room, row-long, added-fits, taken-more}
+use Rattle.surrender.proofs.Words.{Taken, taken-none, Part, next-within, part-some}
+use Rattle.surrender.proofs.Words.{part-within, part-inside, part-room, row-long, added-fits, taken-more}
 use Rattle.surrender.proofs.word.Statement.{statement}
 use Rattle.surrender.proofs.word.Tie as tie
 

@@ -16,7 +16,8 @@ layer-size-requires c κs = search needs
 
 mul-result : tie.Need-mul-result
 unfolding tableSize
-mul-result c = let m = table-most (c .before .before .pre) in omega (arith, ap (λ (n : ℕ). (c .before .before .args .self .dates - 1) * n) (c .layer-size .ensures .0))
+mul-result c = let m = table-most (c .before .before .pre) in
+    omega (arith, ap (λ (n : ℕ). (c .before .before .args .self .dates - 1) * n) (c .layer-size .ensures .0))
 
 returns : tie.Need-returns
 unfolding tableSize

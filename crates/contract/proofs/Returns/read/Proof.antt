@@ -32,7 +32,8 @@ returns-2 c =
     let bad-length = c .before .before .before .before .bad-length in
     let if1 = c .before .before .before .if1 in
     let first-bad = c .before .before .first-bad in
-    simp (sym (bad-length .ensures) ∙ if1 .left, sym (first-bad .ensures), lt-ltb _ _ (c .before .if2 .taken), zero-add) (c .refused-list2 .ensures)
+    simp (sym (bad-length .ensures) ∙ if1 .left, sym (first-bad .ensures), lt-ltb _ _ (c .before .if2 .taken), zero-add)
+    (c .refused-list2 .ensures)
 
 total-weight-requires : tie.Need-total-weight-requires
 total-weight-requires c κs = few _ (sym (c .before .before .before .bad-length .ensures) ∙ c .before .before .if1 .left)
@@ -48,7 +49,13 @@ returns-3 c =
     let first-bad = c .before .before .before .before .first-bad in
     let if2 = c .before .before .before .if2 in
     let total-weight = c .before .before .total-weight in
-    simp (sym (bad-length .ensures) ∙ if1 .left, sym (first-bad .ensures), le-ltb _ _ (if2 .left), sym (total-weight .ensures), ne-eqb _ _ (c .before .if3 .taken)) (c .refused-list3 .ensures)
+    simp (
+      sym (bad-length .ensures) ∙ if1 .left,
+      sym (first-bad .ensures),
+      le-ltb _ _ (if2 .left),
+      sym (total-weight .ensures),
+      ne-eqb _ _ (c .before .if3 .taken),
+    ) (c .refused-list3 .ensures)
 
 returns-4 : tie.Need-returns-4
 unfolding listRead verdict listChecks checkEach returnsOf
@@ -57,7 +64,13 @@ returns-4 c =
     let if1 = c .before .before .before .before .if1 in
     let first-bad = c .before .before .before .first-bad in
     let if2 = c .before .before .if2 in
-    simp (sym (bad-length .ensures) ∙ if1 .left, sym (first-bad .ensures), le-ltb _ _ (if2 .left), sym (c .before .total-weight .ensures), eq-eqb _ _ (c .if3 .left))
+    simp (
+      sym (bad-length .ensures) ∙ if1 .left,
+      sym (first-bad .ensures),
+      le-ltb _ _ (if2 .left),
+      sym (c .before .total-weight .ensures),
+      eq-eqb _ _ (c .if3 .left),
+    )
 
 pub read-spec : {M : Type 1} → statement M
 read-spec =
