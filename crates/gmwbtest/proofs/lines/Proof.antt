@@ -7,7 +7,8 @@ use Rattle.gmwbtest.proofs.lines.Statement.{statement}
 use Rattle.gmwbtest.proofs.lines.Tie as tie
 
 abbrev Inv-loop : tie.InvT-loop
-Inv-loop text held work₀ table₀ n at₀ last₀ end₀ work table at last end = (at ≤ end) × (end ≤ length text) × (last ≤ length table) × (length table ≡ length table₀) × (length work ≡ length work₀)
+Inv-loop text held work₀ table₀ n at₀ last₀ end₀ work table at last end = (at ≤ end) × (end ≤ length text)
+    × (last ≤ length table) × (length table ≡ length table₀) × (length work ≡ length work₀)
 
 abbrev μ-loop : tie.MeasureT-loop
 μ-loop text held work₀ table₀ n at₀ last₀ end₀ work table at last end = length text - end

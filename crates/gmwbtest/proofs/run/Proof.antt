@@ -7,7 +7,8 @@ use Rattle.gmwbtest.proofs.run.Statement.{statement}
 use Rattle.gmwbtest.proofs.run.Tie as tie
 
 abbrev Inv-loop : tie.InvT-loop
-Inv-loop fd text₀ work₀ table₀ held₀ last₀ piece₀ text work table held last piece = (piece ≤ 4096) × (held ≤ length text) × (last ≤ length table) × (length table ≡ length table₀) × (length work ≡ length work₀) × (length text ≡ length text₀)
+Inv-loop fd text₀ work₀ table₀ held₀ last₀ piece₀ text work table held last piece = (piece ≤ 4096) × (held ≤ length text)
+    × (last ≤ length table) × (length table ≡ length table₀) × (length work ≡ length work₀) × (length text ≡ length text₀)
 
 abbrev μ-loop : tie.MeasureT-loop
 μ-loop fd text₀ work₀ table₀ held₀ last₀ piece₀ text work table held last piece = 4096 - piece
