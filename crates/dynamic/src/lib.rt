@@ -459,7 +459,7 @@ fn falls(work: &[u64], at: usize, n: usize) -> u64
     r
 }
 
-// Whether each of n rows rises with the guarantee. The rules do not say so, so it is tested.
+// Whether each of n rows rises with the guarantee: tested, so that nothing here rests on the rules of a date.
 pub fn rises(work: &[u64], d: Date, n: usize) -> bool
     requires { ⌜ Sums (now work) d n ⌝ }
     ensures { λ r. ⌜
