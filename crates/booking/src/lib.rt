@@ -4,6 +4,7 @@ ghost use mathlib.Core.Bool.{_||_};
 ghost use Prim.Native.Nat.{ℕ, _-_, _^_, _≤_, _<_, max};
 ghost use lib.Dec.{ltb};
 ghost use lib.ListN.{length};
+ghost use lib.Seq.{sets};
 ghost use mathlib.Core.List.{_++_};
 ghost use Rattle.rules.specs.Contract.{bytesOf};
 ghost use Rattle.rules.specs.Refusals.{outside, verdict, numberOf};
@@ -46,9 +47,10 @@ fn refused_by(c: Contract, date: usize, w: usize, a: usize, t: usize, buffer: &[
     14
 }
 
-fn fill(buffer: &mut [u8], cash: usize, penalty: usize, balance: usize, guarantee: usize)
+// The two halves of the buffer are written apart: what is proved of a write grows with the writes before it.
+fn fill_money(buffer: &mut [u8], cash: usize, penalty: usize)
     requires { ⌜ length (now buffer) ≡ 16 ⌝ }
-    ensures { λ _. ⌜ now (buffer .exit) ≡ bytesOf 4 cash ++ bytesOf 4 penalty ++ bytesOf 2 balance ++ bytesOf 2 guarantee ++ bytesOf 4 0 ⌝ }
+    ensures { λ _. ⌜ now (buffer .exit) ≡ sets (now (buffer .entry)) 0 (bytesOf 4 cash ++ bytesOf 4 penalty) ⌝ }
 {
     buffer[0] = (cash % 256) as u8;
     buffer[1] = (cash / 256 % 256) as u8;
@@ -58,6 +60,12 @@ fn fill(buffer: &mut [u8], cash: usize, penalty: usize, balance: usize, guarante
     buffer[5] = (penalty / 256 % 256) as u8;
     buffer[6] = (penalty / 256 / 256 % 256) as u8;
     buffer[7] = (penalty / 256 / 256 / 256 % 256) as u8;
+}
+
+fn fill_state(buffer: &mut [u8], balance: usize, guarantee: usize)
+    requires { ⌜ length (now buffer) ≡ 16 ⌝ }
+    ensures { λ _. ⌜ now (buffer .exit) ≡ sets (now (buffer .entry)) 8 (bytesOf 2 balance ++ bytesOf 2 guarantee ++ bytesOf 4 0) ⌝ }
+{
     buffer[8] = (balance % 256) as u8;
     buffer[9] = (balance / 256 % 256) as u8;
     buffer[10] = (guarantee % 256) as u8;
@@ -66,6 +74,14 @@ fn fill(buffer: &mut [u8], cash: usize, penalty: usize, balance: usize, guarante
     buffer[13] = 0;
     buffer[14] = 0;
     buffer[15] = 0;
+}
+
+fn fill(buffer: &mut [u8], cash: usize, penalty: usize, balance: usize, guarantee: usize)
+    requires { ⌜ length (now buffer) ≡ 16 ⌝ }
+    ensures { λ _. ⌜ now (buffer .exit) ≡ bytesOf 4 cash ++ bytesOf 4 penalty ++ bytesOf 2 balance ++ bytesOf 2 guarantee ++ bytesOf 4 0 ⌝ }
+{
+    fill_money(buffer, cash, penalty);
+    fill_state(buffer, balance, guarantee);
 }
 
 // Books t at account w and guarantee a under terms that were read.

@@ -1,136 +1,32 @@
 -- `booking::fill` meets its contract. Assumes nothing.
 use borrow.Author.Needs.{needs}
-use lib.ListN.{length-set}
-use mathlib.Core.List.{_++_}
-use native.Mathlib.Omega.{arith}
+use lib.Seq.{sets}
+use mathlib.Core.List.{List, _++_}
+use mathlib.Core.Path.{ap, _∙_}
+use Prim.Native.Nat.{ℕ}
 use Rattle.rules.specs.Contract.{bytesOf}
 use Rattle.booking.proofs.Laws.{all-stored}
 use Rattle.booking.proofs.fill.Statement.{statement}
 use Rattle.booking.proofs.fill.Tie as tie
 
-cast-buffer : tie.Need-cast-buffer
-cast-buffer c = search needs
+fill-money-requires : tie.Need-fill-money-requires
+fill-money-requires c κs = search needs
 
-slice-write-buffer : tie.Need-slice-write-buffer
-slice-write-buffer c = search needs
-
-cast-buffer-2 : tie.Need-cast-buffer-2
-cast-buffer-2 c = search needs
-
-slice-write-buffer-2 : tie.Need-slice-write-buffer-2
-slice-write-buffer-2 c = search needs
-
-cast-buffer-3 : tie.Need-cast-buffer-3
-cast-buffer-3 c = search needs
-
-slice-write-buffer-3 : tie.Need-slice-write-buffer-3
-slice-write-buffer-3 c = search needs
-
-cast-buffer-4 : tie.Need-cast-buffer-4
-cast-buffer-4 c = search needs
-
-slice-write-buffer-4 : tie.Need-slice-write-buffer-4
-slice-write-buffer-4 c = search needs
-
-cast-buffer-5 : tie.Need-cast-buffer-5
-cast-buffer-5 c = search needs
-
-slice-write-buffer-5 : tie.Need-slice-write-buffer-5
-slice-write-buffer-5 c = simp length-set (omega arith)
-
-cast-buffer-6 : tie.Need-cast-buffer-6
-cast-buffer-6 c = search needs
-
-slice-write-buffer-6 : tie.Need-slice-write-buffer-6
-slice-write-buffer-6 c = simp length-set (omega arith)
-
-cast-buffer-7 : tie.Need-cast-buffer-7
-cast-buffer-7 c = search needs
-
-slice-write-buffer-7 : tie.Need-slice-write-buffer-7
-slice-write-buffer-7 c = simp length-set (omega arith)
-
-cast-buffer-8 : tie.Need-cast-buffer-8
-cast-buffer-8 c = search needs
-
-slice-write-buffer-8 : tie.Need-slice-write-buffer-8
-slice-write-buffer-8 c = simp length-set (omega arith)
-
-cast-buffer-9 : tie.Need-cast-buffer-9
-cast-buffer-9 c = search needs
-
-slice-write-buffer-9 : tie.Need-slice-write-buffer-9
-slice-write-buffer-9 c = simp length-set (omega arith)
-
-cast-buffer-10 : tie.Need-cast-buffer-10
-cast-buffer-10 c = search needs
-
-slice-write-buffer-10 : tie.Need-slice-write-buffer-10
-slice-write-buffer-10 c = simp length-set (omega arith)
-
-cast-buffer-11 : tie.Need-cast-buffer-11
-cast-buffer-11 c = search needs
-
-slice-write-buffer-11 : tie.Need-slice-write-buffer-11
-slice-write-buffer-11 c = simp length-set (omega arith)
-
-cast-buffer-12 : tie.Need-cast-buffer-12
-cast-buffer-12 c = search needs
-
-slice-write-buffer-12 : tie.Need-slice-write-buffer-12
-slice-write-buffer-12 c = simp length-set (omega arith)
-
-slice-write-buffer-13 : tie.Need-slice-write-buffer-13
-slice-write-buffer-13 c = simp length-set (omega arith)
-
-slice-write-buffer-14 : tie.Need-slice-write-buffer-14
-slice-write-buffer-14 c = simp length-set (omega arith)
-
-slice-write-buffer-15 : tie.Need-slice-write-buffer-15
-slice-write-buffer-15 c = simp length-set (omega arith)
-
-slice-write-buffer-16 : tie.Need-slice-write-buffer-16
-slice-write-buffer-16 c = simp length-set (omega arith)
+fill-state-requires : tie.Need-fill-state-requires
+fill-state-requires c κs = search needs
 
 same-length : tie.Need-same-length
-same-length c = simp length-set
+same-length c = search needs
 
 returns : tie.Need-returns
 unfolding bytesOf
-returns c = all-stored (c .args .buffer .now) (bytesOf 4 (c .args .cash) ++ bytesOf 4 (c .args .penalty) ++
-    bytesOf 2 (c .args .balance) ++ bytesOf 2 (c .args .guarantee) ++ bytesOf 4 0) (c .pre)
+returns c =
+    let start = c .before .before .before .before .before .before .before .before .before in
+    let x = start .args in
+    let behind = bytesOf 2 (x .balance) ++ bytesOf 2 (x .guarantee) ++ bytesOf 4 0 in
+    c .before .before .fill-state .ensures
+    ∙ ap (λ (l : List ℕ). sets l 8 behind) (c .before .before .before .before .before .before .fill-money .ensures)
+    ∙ all-stored (x .buffer .now) (bytesOf 4 (x .cash) ++ bytesOf 4 (x .penalty) ++ behind) (start .pre)
 
 pub fill-spec : {M : Type 1} → statement M
-fill-spec =
-    tie.close
-    (tie.spec
-    cast-buffer
-    slice-write-buffer
-    cast-buffer-2
-    slice-write-buffer-2
-    cast-buffer-3
-    slice-write-buffer-3
-    cast-buffer-4
-    slice-write-buffer-4
-    cast-buffer-5
-    slice-write-buffer-5
-    cast-buffer-6
-    slice-write-buffer-6
-    cast-buffer-7
-    slice-write-buffer-7
-    cast-buffer-8
-    slice-write-buffer-8
-    cast-buffer-9
-    slice-write-buffer-9
-    cast-buffer-10
-    slice-write-buffer-10
-    cast-buffer-11
-    slice-write-buffer-11
-    cast-buffer-12
-    slice-write-buffer-12
-    slice-write-buffer-13
-    slice-write-buffer-14
-    slice-write-buffer-15
-    slice-write-buffer-16
-    same-length
-    returns)
+fill-spec = tie.close (tie.spec fill-money-requires fill-state-requires same-length returns)
