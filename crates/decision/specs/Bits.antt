@@ -3,7 +3,8 @@ use mathlib.Core.Bool.{Bool, true, false, cond}
 use mathlib.Core.List.{List, _++_}
 use mathlib.Core.Path.{_≡_, ap, ap₂, sym, _∙_, fun-ext}
 use Prim.Native.Nat.{ℕ, zero, suc, _+_, _-_, _*_, _/_, _%_, _^_, _≤_, _<_, min}
-use native.Mathlib.Nat.{add-zero, add-assoc, mul-assoc, mul-add, mul-left-comm, pow-suc, pow-succ', two-pow-succ, pow-le-pow-right, div-div-eq-div-mul, div-eq-of-lt}
+use native.Mathlib.Nat.{add-zero, add-assoc, mul-assoc, mul-add, mul-left-comm, pow-suc}
+use native.Mathlib.Nat.{pow-succ', two-pow-succ, pow-le-pow-right, div-div-eq-div-mul, div-eq-of-lt}
 use native.Mathlib.Decide.{decLe}
 use native.Mathlib.Omega.{arith}
 use lib.ListN.{getD, replicate}

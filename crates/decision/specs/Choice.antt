@@ -142,7 +142,8 @@ best-unique {ok} {f} {n} {c} {v} {d} {w} x y = (le-antisymm (low x y (sym same))
         omega (arith, x .worth, y .worth)
 
     low : {a b u z : ℕ} → Best ok f n a u → Best ok f n b z → z ≡ u → a ≤ b
-    low {a} {b} p q e = elim (decLe a b) [ yes l ↦ l | no l ↦ absurd (let s = p .smallest b (omega arith) (q .passes) in omega (arith, q .worth)) ]
+    low {a} {b} p q e =
+        elim (decLe a b) [ yes l ↦ l | no l ↦ absurd (let s = p .smallest b (omega arith) (q .passes) in omega (arith, q .worth)) ]
 
 -- ---- the best of a range of amounts, all of which count: what a search holds
 pub record Leading (f : ℕ → ℕ) (lo hi c v : ℕ) : Type 0 where

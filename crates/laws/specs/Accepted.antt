@@ -173,7 +173,8 @@ valid-returns bytes (size, (each, (total, done))) =
     let n = length bytes in
     let rs = returnsOf bytes in
     let long = nor-left (outside 1 (returnBytes * returnsMost) n) (not (eqb (n % returnBytes) 0)) size in
-    let fours = not-not (eqb (n % returnBytes) 0) (nor-right (outside 1 (returnBytes * returnsMost) n) (not (eqb (n % returnBytes) 0)) size) in
+    let fours =
+    not-not (eqb (n % returnBytes) 0) (nor-right (outside 1 (returnBytes * returnsMost) n) (not (eqb (n % returnBytes) 0)) size) in
     let good = each-passes 8 0 (rs .count) (badReturn rs) each in
     record {
       count-least = count-least n (at-least 1 (returnBytes * returnsMost) n long) (eqb→eq (n % returnBytes) 0 fours);
@@ -220,7 +221,8 @@ verdict-append [] ls = refl
 verdict-append (k ∷ ks) ls = go (k .failed) (verdict-append ks ls)
   where
     go : (b : Bool) → verdict (ks ++ ls) ≡ andThen (verdict ks) (verdict ls)
-        → cond b (refused (k .number) (k .place)) (verdict (ks ++ ls)) ≡ andThen (cond b (refused (k .number) (k .place)) (verdict ks)) (verdict ls)
+        → cond b (refused (k .number) (k .place)) (verdict (ks ++ ls))
+        ≡ andThen (cond b (refused (k .number) (k .place)) (verdict ks)) (verdict ls)
     go true e = refl
     go false e = e
 

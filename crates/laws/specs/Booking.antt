@@ -11,7 +11,8 @@ use Rattle.rules.specs.Contract.{Terms, termsOf, topMost}
 use Rattle.rules.specs.Date.{dynamic, freeAmount, admits}
 use Rattle.rules.specs.Refusals.{Verdict, accepted, refused, verdict, numbers, numberOf, outside, recordChecks}
 use Rattle.rules.specs.Operations.{amountChecks, bookingChecks, bookingVerdict}
-use Rattle.laws.specs.Accepted.{Valid, Positive, zero-accepts, NoPlace, AllPass, all-pass, nor-left, nor-right, not-not, at-most, andThen, verdict-append}
+use Rattle.laws.specs.Accepted.{Valid, Positive, zero-accepts, NoPlace, AllPass, all-pass}
+use Rattle.laws.specs.Accepted.{nor-left, nor-right, not-not, at-most, andThen, verdict-append}
 use Rattle.laws.specs.Date.{dynamic-is, amount-most}
 
 pub record Bookable (c : Terms) (i w a t : ℕ) (buffer : List ℕ) : Type 0 where
@@ -52,7 +53,8 @@ module _ (c : Terms) (date w a t : ℕ) (buffer : List ℕ) where
 
 -- the record's checks come first
 pub booking-verdict : (bytes : List ℕ) (date w a t : ℕ) (buffer : List ℕ)
-    → bookingVerdict bytes date w a t buffer ≡ andThen (verdict (recordChecks bytes)) (verdict (amountChecks (termsOf bytes) date w a t buffer))
+    → bookingVerdict bytes date w a t buffer
+    ≡ andThen (verdict (recordChecks bytes)) (verdict (amountChecks (termsOf bytes) date w a t buffer))
 unfolding bookingVerdict bookingChecks
 booking-verdict bytes date w a t buffer = verdict-append (recordChecks bytes) (amountChecks (termsOf bytes) date w a t buffer)
 

@@ -17,8 +17,10 @@ use Rattle.rules.specs.Date.{static, surrenders, admits}
 use Rattle.rules.specs.Product.{recordedAmount, amountLayers, Claim}
 use Rattle.rules.specs.FixedTerm.{State, InRange, freeIn, admissibleIn, processOf, layerSize, layoutOf, fixedTerm}
 use Rattle.rules.specs.Refusals.{Verdict, accepted, refused, verdict, onSuccess, short}
-use Rattle.rules.specs.Operations.{productOf, Answer, answer, behaviourNumber, behaviourOf, tableSize, valuingChecks, valuingVerdict, valuingAnswer, valuingWork, valuingTable}
-use Rattle.rules.specs.Map.{surrendered, surrenderMap, surrenderCount, mapSize, mapChecks, mappingChecks, mappingVerdict, mappingAnswer, mappingWork, mappingTable, mappingMap, mappingCount}
+use Rattle.rules.specs.Operations.{productOf, Answer, answer, behaviourNumber, behaviourOf, tableSize}
+use Rattle.rules.specs.Operations.{valuingChecks, valuingVerdict, valuingAnswer, valuingWork, valuingTable}
+use Rattle.rules.specs.Map.{surrendered, surrenderMap, surrenderCount, mapSize, mapChecks, mappingChecks}
+use Rattle.rules.specs.Map.{mappingVerdict, mappingAnswer, mappingWork, mappingTable, mappingMap, mappingCount}
 use Rattle.rules.specs.Facts.{mapping-order}
 use Rattle.laws.specs.Accepted.{Positive, zero-accepts, andThen, verdict-append, then-refused, then-accepted, then-earlier}
 use Rattle.laws.specs.FixedTerm.{opened, size-some, placed}

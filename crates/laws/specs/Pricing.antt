@@ -1,4 +1,4 @@
--- Request (vi): what the call that seeks a fee tells, the worked figures, and what stays. Assumes nothing.
+-- Request (vi): what the call that seeks a fee tells, and what stays. Assumes nothing.
 use mathlib.Core.Bool.{Bool, cond}
 use mathlib.Core.List.{List, [], _++_}
 use mathlib.Core.Logic.{_↔_}

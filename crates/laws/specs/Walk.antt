@@ -35,7 +35,8 @@ module _ {S H : Type 0} (X : Product S H) (table path : List ℕ) where
   unfolding walkState walkAmount Steps
   walk-next i l m =
       ap (startMet (X .process) (lookup (X .layout) table)) (take-suc path i 0 m)
-      ∙ startMet-steps (X .process) (lookup (X .layout) table) i (getD path i 0) (take i path) l (rw (length-take-le i path (omega arith)) (omega arith))
+      ∙ startMet-steps (X .process) (lookup (X .layout) table) i (getD path i 0) (take i path) l
+      (rw (length-take-le i path (omega arith)) (omega arith))
 
   -- what is held after the amount of date i
   pub walk-after : (i : ℕ) → 1 ≤ i
@@ -83,7 +84,8 @@ module _ (c : Terms) (rs : Returns) (table path : List ℕ) where
 
 -- ---- the checks beyond the record and the list, one by one: the count before the numbers, the numbers before the amounts
 module _ (c : Terms) (rs : Returns) (table path cashes : List ℕ) where
-  pub slices-refused : (short (tableSize c) table || short (c .dates) cashes) ≡ true → verdict (pathChecks c rs table path cashes) ≡ refused 11 0
+  pub slices-refused : (short (tableSize c) table || short (c .dates) cashes) ≡ true
+      → verdict (pathChecks c rs table path cashes) ≡ refused 11 0
   unfolding pathChecks verdict
   slices-refused e = rw e
 
@@ -138,7 +140,8 @@ walk-conserves c rs table path (suc n) l free =
     omega arith
 
 -- .. of a walk that is accepted, on every date up to maturity
-pub walk-keeps : (bytes list table path cashes : List ℕ) → walkVerdict bytes list table path cashes ≡ accepted → (n : ℕ) → n < termsOf bytes .dates
+pub walk-keeps : (bytes list table path cashes : List ℕ) → walkVerdict bytes list table path cashes ≡ accepted
+    → (n : ℕ) → n < termsOf bytes .dates
     → ((j : ℕ) → j < n → walkAmount (livingOf bytes list) table path (suc j) ≤ freeIn (termsOf bytes)
     (walkState (livingOf bytes list) table path (suc j)))
     → sum (λ j. walkAmount (livingOf bytes list) table path (suc j)) n + walkState (livingOf bytes list) table path (suc n) .guarantee

@@ -1,5 +1,6 @@
 -- Document 01, 'Lent slices' and 'What an office is told': the whole answer of each operation, and what it leaves in each
--- slice, on every input. `bytes` is the contract record, `list` the return list, `rates` the death rates. Assumes nothing.
+-- slice, on every input. `bytes` is the contract record, `list` the return list, `rates` the death rates.
+-- Sentences marked (vi) are of document 02, by its request. Assumes nothing.
 use mathlib.Core.Bool.{Bool, not, _||_}
 use mathlib.Core.List.{List, [], _∷_, _++_}
 use Prim.Native.Nat.{ℕ, zero, suc, _-_, _*_, _%_}
@@ -7,8 +8,10 @@ use lib.Dec.{leb, ltb, eqb}
 use lib.IntN.{ℤ, pos}
 use lib.ListN.{getD, length, drop, replicate}
 use Rattle.rules.specs.Contract.{Terms, Returns, bytesOf, termsOf, returnsOf, ratesOf}
-use Rattle.rules.specs.Date.{Behaviour, static, mixed, dynamic, freeAmount, admits, penalty, cash, guaranteeAfter, balanceAfter, margin}
-use Rattle.rules.specs.Product.{Product, contractValue, valueLayer, amountLayers, suppliedValue, suppliedLayer, walkState, walkAmount, walkCash}
+use Rattle.rules.specs.Date.{Behaviour, static, mixed, dynamic, freeAmount, admits}
+use Rattle.rules.specs.Date.{penalty, cash, guaranteeAfter, balanceAfter, margin}
+use Rattle.rules.specs.Product.{Product, contractValue, valueLayer, amountLayers, suppliedValue, suppliedLayer}
+use Rattle.rules.specs.Product.{walkState, walkAmount, walkCash}
 use Rattle.rules.specs.FixedTerm.{State, Held, admissibleIn, rateIn, layerSize, layoutOf, fixedTerm, livingTerm}
 use Rattle.rules.specs.Refusals.{Check, check, checkEach, Verdict, verdict, numberOf, placeOf, onSuccess, outside, short}
 use Rattle.rules.specs.Refusals.{recordChecks, listChecks, inputChecks}

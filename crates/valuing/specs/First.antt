@@ -35,14 +35,16 @@ module _ {f : ℕ → ℕ → ℕ} {c : Terms} {work work' : List ℕ} (v : Firs
   -- with zeros behind it
   pub first-layer : layerSize c + layerSize c ≤ length work
       → stored work' (layerSize c) (λ (i : ℕ). 0) (layerSize c)
-      ≡ tabulate (layerSize c) (λ e. f (e / (c .premium + 1)) (e % (c .premium + 1))) ++ replicate (layerSize c) 0 ++ drop (2 * layerSize c) work
+      ≡ tabulate (layerSize c) (λ e. f (e / (c .premium + 1)) (e % (c .premium + 1)))
+      ++ replicate (layerSize c) 0 ++ drop (2 * layerSize c) work
   unfolding layerSize
   first-layer room = stored-zeros work work' _ (layerSize c) (v .long) room cell (v .rest)
     where
       cell : (e : ℕ) → e < (c .top + 1) * (c .premium + 1) → getD work' e 0 ≡ f (e / (c .premium + 1)) (e % (c .premium + 1))
       cell e l =
           let p : 0 < c .premium + 1 = omega arith in
-          let i : 0 + (e / (c .premium + 1) * (c .premium + 1) + e % (c .premium + 1)) ≡ e = let d = div-add-mod' e (c .premium + 1) in omega arith in
+          let i : 0 + (e / (c .premium + 1) * (c .premium + 1) + e % (c .premium + 1)) ≡ e =
+          let d = div-add-mod' e (c .premium + 1) in omega arith in
           let h = div-lt-iff-lt-mul p .1 l in
           let m = mod-lt e p in
           ap (λ (j : ℕ). getD work' j 0) (sym i) ∙ v .values (e / (c .premium + 1)) (e % (c .premium + 1)) (omega arith) (omega arith)

@@ -38,7 +38,9 @@ returns c =
     let args = c .before .before .before .before .before .before .before .args in
     let free-amount = c .before .before .before .before .free-amount in
     let wide16 = c .before .before .wide16 in
-    rw (sym (c .before .admits-dynamic .ensures ∙ ap₂ (λ (m t : ℕ). admits dynamic m (args .e / (args .c .premium + 1)) t) (free-amount .ensures) (wide16 .ensures .0)) ∙ c .if1 .taken)
+    let same =
+    ap₂ (λ (m t : ℕ). admits dynamic m (args .e / (args .c .premium + 1)) t) (free-amount .ensures) (wide16 .ensures .0) in
+    rw (sym (c .before .admits-dynamic .ensures ∙ same) ∙ c .if1 .taken)
 
 returns-2 : tie.Need-returns-2
 unfolding badAt admissibleIn layoutOf freeIn
@@ -46,7 +48,9 @@ returns-2 c =
     let args = c .before .before .before .before .before .before .before .args in
     let free-amount = c .before .before .before .before .free-amount in
     let wide16 = c .before .before .wide16 in
-    rw (sym (c .before .admits-dynamic .ensures ∙ ap₂ (λ (m t : ℕ). admits dynamic m (args .e / (args .c .premium + 1)) t) (free-amount .ensures) (wide16 .ensures .0)) ∙ c .if1 .left)
+    let same =
+    ap₂ (λ (m t : ℕ). admits dynamic m (args .e / (args .c .premium + 1)) t) (free-amount .ensures) (wide16 .ensures .0) in
+    rw (sym (c .before .admits-dynamic .ensures ∙ same) ∙ c .if1 .left)
 
 pub bad-entry-spec : {M : Type 1} → statement M
 bad-entry-spec =

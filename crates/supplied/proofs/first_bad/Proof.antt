@@ -34,7 +34,9 @@ sub-last : tie.Need-sub-last Inv-loop μ-loop
 sub-last c = omega (arith, c .before .before .before .before .pre .0 .dates-least)
 
 loop-holds : tie.Need-loop-holds Inv-loop μ-loop
-loop-holds c = subst (Searched _ _) (sym (zero-mul ((c .before .before .before .before .args .c .top + 1) * (c .before .before .before .before .args .c .premium + 1)))) (search-none _ _)
+loop-holds c =
+    let args = c .before .before .before .before .args in
+    subst (Searched _ _) (sym (zero-mul ((args .c .top + 1) * (args .c .premium + 1)))) (search-none _ _)
 
 mul-from : tie.Need-mul-from Inv-loop μ-loop
 unfolding layerSize tableSize
@@ -108,7 +110,11 @@ first-in-layer-requires c κs =
     let loop = c .before .before .loop in
     let j' = loop .j in (
       pre .0,
-      (let f = search-fits (termsIn (args .c)) table₀ j' (c .before .loop-test .taken) in let s = rows-step ((args .c .top + 1) * (args .c .premium + 1)) j' in let m = mid-len (j' * ((args .c .top + 1) * (args .c .premium + 1))) ((j' + 1) * ((args .c .top + 1) * (args .c .premium + 1))) table₀ (omega (arith, pre .1)) in omega arith),
+      (let f = search-fits (termsIn (args .c)) table₀ j' (c .before .loop-test .taken) in
+          let size = (args .c .top + 1) * (args .c .premium + 1) in
+          let s = rows-step size j' in
+          let m = mid-len (j' * size) ((j' + 1) * size) table₀ (omega (arith, pre .1)) in
+          omega arith),
     )
 
 add-result : tie.Need-add-result Inv-loop μ-loop
@@ -133,7 +139,8 @@ returns c =
     let loop = c .before .before .before .before .loop in
     let j' = loop .j in
     let loop-test = c .before .before .before .loop-test in
-    sym (run-hit (loop .inv) (search-fits (termsIn c₀) table₀ j' (loop-test .taken)) (search-same (termsIn c₀) table₀ j' (loop-test .taken)) (sym (c .before .first-in-layer .ensures)) (c .if1 .taken))
+    sym (run-hit (loop .inv) (search-fits (termsIn c₀) table₀ j' (loop-test .taken))
+    (search-same (termsIn c₀) table₀ j' (loop-test .taken)) (sym (c .before .first-in-layer .ensures)) (c .if1 .taken))
 
 add-j : tie.Need-add-j Inv-loop μ-loop
 add-j c = omega (arith, c .before .before .before .before .before .before .before .before .before .pre .0 .dates)
@@ -150,7 +157,9 @@ loop-again c =
     let loop = c .before .before .before .before .loop in
     let j' = loop .j in
     let loop-test = c .before .before .before .loop-test in
-    subst (Searched _ _) (rows-step ((args .c .top + 1) * (args .c .premium + 1)) j') (run-end (loop .inv) (search-fits (termsIn c₀) table₀ j' (loop-test .taken)) (search-same (termsIn c₀) table₀ j' (loop-test .taken)) (sym (c .before .first-in-layer .ensures)) (c .if1 .left))
+    subst (Searched _ _) (rows-step ((args .c .top + 1) * (args .c .premium + 1)) j')
+    (run-end (loop .inv) (search-fits (termsIn c₀) table₀ j' (loop-test .taken))
+    (search-same (termsIn c₀) table₀ j' (loop-test .taken)) (sym (c .before .first-in-layer .ensures)) (c .if1 .left))
 
 mul-result : tie.Need-mul-result Inv-loop μ-loop
 unfolding layerSize tableSize
@@ -160,7 +169,8 @@ returns-2 : tie.Need-returns-2 Inv-loop μ-loop
 unfolding layerSize tableSize
 returns-2 c =
     let args = c .before .before .before .before .before .before .args in
-    sym (search-end (c .before .loop .inv) (rows-le ((args .c .top + 1) * (args .c .premium + 1)) (args .c .dates - 1) (c .before .loop .j) (c .loop-test .left)))
+    sym (search-end (c .before .loop .inv)
+    (rows-le ((args .c .top + 1) * (args .c .premium + 1)) (args .c .dates - 1) (c .before .loop .j) (c .loop-test .left)))
 
 pub first-bad-spec : {M : Type 1} → statement M
 first-bad-spec =

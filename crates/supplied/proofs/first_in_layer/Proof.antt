@@ -22,7 +22,9 @@ bad-entry-requires : tie.Need-bad-entry-requires Inv-loop μ-loop
 bad-entry-requires c κs = (c .before .before .before .pre .0, omega (arith, c .before .before .before .pre .1))
 
 returns : tie.Need-returns Inv-loop μ-loop
-returns c = sym (search-hit (c .before .before .before .loop .inv) (c .before .before .loop-test .taken) (sym (c .before .bad-entry .ensures) ∙ c .if1 .taken))
+returns c =
+    sym (search-hit (c .before .before .before .loop .inv) (c .before .before .loop-test .taken)
+    (sym (c .before .bad-entry .ensures) ∙ c .if1 .taken))
 
 add-e : tie.Need-add-e Inv-loop μ-loop
 add-e c = omega arith
@@ -31,7 +33,9 @@ loop-less : tie.Need-loop-less Inv-loop μ-loop
 loop-less c = omega arith
 
 loop-again : tie.Need-loop-again Inv-loop μ-loop
-loop-again c = search-more (c .before .before .before .loop .inv) (c .before .before .loop-test .taken) (sym (c .before .bad-entry .ensures) ∙ c .if1 .left)
+loop-again c =
+    search-more (c .before .before .before .loop .inv) (c .before .before .loop-test .taken)
+    (sym (c .before .bad-entry .ensures) ∙ c .if1 .left)
 
 returns-2 : tie.Need-returns-2 Inv-loop μ-loop
 returns-2 c = sym (search-end (c .before .loop .inv) (c .loop-test .left))

@@ -21,11 +21,21 @@ cast-result-2 c = search needs
 
 sub-result : tie.Need-sub-result
 sub-result c =
-    rw (toZ-pos w64 {n = c .args .value} (omega arith), toZ-pos w64 {n = 10000 * c .args .premium} (omega arith), diff (c .args .value) (10000 * c .args .premium)) (sfits-of (mag-sub (c .args .value) (10000 * c .args .premium) (2 ^ 63) (omega arith) (omega arith)))
+    rw (
+      toZ-pos w64 {n = c .args .value} (omega arith),
+      toZ-pos w64 {n = 10000 * c .args .premium} (omega arith),
+      diff (c .args .value) (10000 * c .args .premium),
+    )
+    (sfits-of (mag-sub (c .args .value) (10000 * c .args .premium) (2 ^ 63) (omega arith) (omega arith)))
 
 returns : tie.Need-returns
 unfolding margin
-returns c = rw (toZ-ofZ (sub-result c), toZ-pos w64 {n = c .args .value} (omega arith), toZ-pos w64 {n = 10000 * c .args .premium} (omega arith), diff (c .args .value) (10000 * c .args .premium))
+returns c = rw (
+  toZ-ofZ (sub-result c),
+  toZ-pos w64 {n = c .args .value} (omega arith),
+  toZ-pos w64 {n = 10000 * c .args .premium} (omega arith),
+  diff (c .args .value) (10000 * c .args .premium),
+)
 
 pub margin-spec : {M : Type 1} → statement M
 margin-spec = tie.close (tie.spec cast-result mul-result cast-result-2 sub-result returns)
