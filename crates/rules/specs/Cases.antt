@@ -61,6 +61,10 @@ P-three = record { premium = 10; level = 5; top = 20; dates = 3; fee = 0; penalt
 P-four : Terms
 P-four = record { premium = 10; level = 5; top = 20; dates = 4; fee = 0; penalty = 1000; discount = 1000000; step = 0; spare = 0 }
 
+-- a contract of few states, with two decision dates
+small : Terms
+small = record { premium = 4; level = 2; top = 8; dates = 3; fee = 0; penalty = 1000; discount = 1000000; step = 0; spare = 0 }
+
 -- "P with discount 950,000"
 P-discounted : Terms
 P-discounted = record { premium = 10; level = 5; top = 20; dates = 2; fee = 0; penalty = 1000; discount = 950000; step = 0; spare = 0 }
@@ -221,10 +225,8 @@ pub step-rows : List Row
 step-rows =
     row 1 (contractOf (P-step 0) static) (value-margin 123750 (pos 23750))
     ∷ row 1 (contractOf (P-step 0) mixed) (value-margin 123750 (pos 23750))
-    ∷ row 1 (contractOf (P-step 0) dynamic) (value-margin 139375 (pos 39375))
     ∷ row 2 (contractOf (P-step 100) static) (value-margin 123750 (pos 23750))
     ∷ row 2 (contractOf (P-step 100) mixed) (value-margin 123875 (pos 23875))
-    ∷ row 2 (contractOf (P-step 100) dynamic) (value-margin 139375 (pos 39375))
     ∷ row 3 (contractOf (P-step 1000) static) (value-margin 123750 (pos 23750))
     ∷ row 3 (contractOf (P-step 1000) mixed) (value-margin 125000 (pos 25000))
     ∷ row 3 (contractOf (P-step 1000) dynamic) (value-margin 139375 (pos 39375))
@@ -249,20 +251,16 @@ unfolding sum first firstFrom largest smallestBest reached worth valueOver value
     bookingBytes bookingBuffer packed P-spare P-step returnsP at unless-refused booked valued valuedWith zeroRates tell row step-rows
 step-cases = refl
 
--- ---- document 02 (ii): the maps of contract P, in words that held ones before; a word behind them; a word too few; two
--- decision dates, and none
+-- ---- document 02 (ii): the maps of contract P, in words that held ones before; a word too few; of a contract with two decision
+-- dates, a word behind them; of one with none
 pub map-rows : List Row
 map-rows =
     row 1 (mapOf P static 4 18446744073709551615) (words-count (0 ∷ 0 ∷ 0 ∷ 0 ∷ []) 0)
     ∷ row 2 (mapOf P mixed 4 18446744073709551615)
     (words-count (720751905197787136 ∷ 1610743968 ∷ 0 ∷ 0 ∷ []) 13)
-    ∷ row 3 (mapOf P dynamic 5 18446744073709551615) (words-count (2048 ∷ 0 ∷ 0 ∷ 0 ∷ 18446744073709551615 ∷ []) 1)
+    ∷ row 3 (mapOf small dynamic 3 18446744073709551615) (words-count (1125899906842656 ∷ 0 ∷ 18446744073709551615 ∷ []) 2)
     ∷ row 4 (mapOf P dynamic 3 0) (number-place 16 0)
-    ∷ row 5 (mapOf P-three mixed 8 0)
-    (words-count
-    (756780702216751104 ∷ 15763150196605096 ∷ 5120 ∷ 4612811918334230528
-    ∷ 72145576448230656 ∷ 48 ∷ 0 ∷ 0 ∷ [])
-    36)
+    ∷ row 5 (mapOf small mixed 2 0) (words-count (5837791981637634080 ∷ 772 ∷ []) 19)
     ∷ row 6 (mapOf P-one mixed 0 0) (words-count [] 0)
     ∷ []
 
@@ -273,7 +271,7 @@ unfolding sum tabulate first firstFrom largest smallestBest reached worth valueO
     paidBy deathPayment deathShare deathBy meanOf expectOver startOf processOf layerSize layoutOf fixedTerm checkEach verdict onSuccess
     outside short termsChecks recordChecks badReturn listChecks ratesChecks inputChecks productOf behaviourNumber behaviourOf tableSize
     lentChecks valuingChecks bit fromBits wordsFor wordOf wordsOf setBits surrendered surrenderMap surrenderCount mapSize mapChecks
-    mappingChecks mappingVerdict mappingTable mappingMap mappingCount packed P P-one P-three returnsP unless-refused recordVerdict
+    mappingChecks mappingVerdict mappingTable mappingMap mappingCount packed P P-one small returnsP unless-refused recordVerdict
     zeroRates tell row map-rows
 map-cases = refl
 
