@@ -76,6 +76,19 @@ sum-zeros f (suc n) h =
     let last = h n (le-refl (suc n)) in
     omega arith
 
+pub sum-ones : (n : ℕ) → sum (λ k. 1) n ≡ n
+unfolding sum
+sum-ones zero = refl
+sum-ones (suc n) = let before = sum-ones n in omega arith
+
+-- a part is at most the whole: the first terms, and any one of them
+pub sum-part : (f : ℕ → ℕ) (k n : ℕ) → k ≤ n → sum f k ≤ sum f n
+sum-part f k n l = let e = ap (sum f) (let z : n ≡ k + (n - k) = omega arith in z) ∙ sum-append f k (n - k) in omega arith
+
+pub sum-term : (f : ℕ → ℕ) (n k : ℕ) → k < n → f k ≤ sum f n
+unfolding sum
+sum-term f n k l = let h = sum-part f (suc k) n l in omega arith
+
 -- ---- lists
 pub length-tabulate : (n : ℕ) (f : ℕ → ℕ) → length (tabulate n f) ≡ n
 unfolding tabulate

@@ -11,7 +11,8 @@ use borrow.Author.Tests.{le-leb, lt-leb}
 use Rattle.rules.specs.Contract.{rateMost}
 use Rattle.rules.specs.Date.{Behaviour, static, mixed, dynamic, freeAmount, admits, penalty, cash, guaranteeAfter, balanceAfter}
 use Rattle.rules.specs.Date.{liftedAccount, nextAccount, excess, excessPaid, maturityValue, deathPayment}
-use Rattle.laws.specs.Date.{mixed-is, dynamic-is, is-dynamic, static-mixed, admits-free, admits-surrender, guarantee-free, guarantee-above}
+use Rattle.laws.specs.Date.{mixed-is, dynamic-is, is-dynamic, static-mixed}
+use Rattle.laws.specs.Date.{admits-free, admits-surrender, guarantee-free, guarantee-above}
 
 -- ---- what a return makes: a larger fee, and a smaller balance, never more
 pub lifted-rises : {low high x y : ℕ} (factor : ℕ) → low ≤ high → x ≤ y → liftedAccount high x factor ≤ liftedAccount low y factor
@@ -23,6 +24,11 @@ lifted-rises factor fees l =
 pub account-rises : {low high x y : ℕ} (top factor : ℕ) → low ≤ high → x ≤ y → nextAccount high top x factor ≤ nextAccount low top y factor
 unfolding nextAccount
 account-rises top factor fees l = let m = lifted-rises factor fees l in omega arith
+
+-- .. nor does a smaller factor
+pub account-climbs : {x y : ℕ} (fee top balance : ℕ) → x ≤ y → nextAccount fee top balance x ≤ nextAccount fee top balance y
+unfolding nextAccount liftedAccount
+account-climbs fee top balance l = let m = mul-le-mul-right (10000 - fee) (mul-le-mul-left balance l) in omega arith
 
 pub excess-rises : {low high x y : ℕ} (top factor : ℕ) → low ≤ high → x ≤ y → excess high top x factor ≤ excess low top y factor
 unfolding excess
