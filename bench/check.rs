@@ -1,7 +1,9 @@
 //! `check`: all programs against the plain one on random small contracts, with ties frequent,
 //! many with returns that lift accounts above top, most with death rates, some spoilt so that they
 //! are refused; without a map of surrender and with one, the engine also without a table. Engine
-//! and tuned search for fees on all of them, the plain program on some small ones.
+//! and tuned search for fees on all of them, the plain program on some small ones. All of it is
+//! done again with the returns in another list: shuffled, one of them split in two of its factor
+//! or equal factors joined; each program has to leave what it left with the first list.
 
 use crate::inputs::{Input, Return, Terms, DYNAMIC, SPARE};
 use crate::programs::{Program, ENGINE, ENGINE_ALONE, ENGINE_FEE, ENGINE_MAP};
@@ -49,15 +51,16 @@ fn random_terms(draw: &mut Draw, most_top: u64) -> Terms {
     }
 }
 
-/// Up to 18 returns, so that rows are summed in eights and singly; equal factors stand twice.
-fn random_returns(draw: &mut Draw) -> Vec<Return> {
+/// Up to 18 returns, so that rows are summed in eights and fours, or more; equal factors stand
+/// twice.
+fn random_returns(draw: &mut Draw, most: u64) -> Vec<Return> {
     let mut left = 10_000;
     let mut returns = Vec::new();
-    for after in (0..draw.within(1, 18)).rev() {
+    for after in (0..draw.within(1, most)).rev() {
         let weight = if after == 0 {
             left
         } else {
-            draw.within(1, left - after)
+            draw.within(1, (left - after).min(2 * left / after))
         };
         left -= weight;
         let last = returns.last().map_or(10_000, |r: &Return| r.0.into());
@@ -65,6 +68,36 @@ fn random_returns(draw: &mut Draw) -> Vec<Return> {
         returns.push((factor as u16, weight as u16));
     }
     returns
+}
+
+/// The same returns in another list: shuffled, before that one of them split in two or equal
+/// factors joined.
+fn other_list(draw: &mut Draw, returns: &[Return]) -> Vec<Return> {
+    let mut other = returns.to_vec();
+    match draw.within(0, 2) {
+        0 if other.len() < 64 => {
+            let at = draw.within(0, other.len() as u64 - 1) as usize;
+            let (factor, weight) = other[at];
+            let part = weight / 2;
+            if part > 0 {
+                other[at].1 -= part;
+                other.push((factor, part));
+            }
+        }
+        1 => {
+            other.sort_unstable();
+            other.dedup_by(|next, held| {
+                let equal = next.0 == held.0;
+                held.1 += if equal { next.1 } else { 0 };
+                equal
+            });
+        }
+        _ => {}
+    }
+    for last in (1..other.len()).rev() {
+        other.swap(last, draw.within(0, last as u64) as usize);
+    }
+    other
 }
 
 /// Zero rates for one contract in eight, death for certain throughout for another.
@@ -167,6 +200,20 @@ impl Count {
         self.refused += u64::from(number != 0);
         self.differing += u64::from(!equal);
     }
+
+    /// Each program with itself, its returns in two lists.
+    fn compare_lists(&mut self, name: &str, inputs: [&Input; 2], programs: &[Program]) {
+        for program in programs {
+            let [one, other] = inputs.map(|input| program.run(input).0);
+            let difference = other.difference(&one);
+            if let Some(what) = &difference {
+                eprintln!("differ: {name}: {} by list: {what}", program.name);
+            }
+            self.accepted += u64::from(one.told.number == 0);
+            self.refused += u64::from(one.told.number != 0);
+            self.differing += u64::from(difference.is_some());
+        }
+    }
 }
 
 #[derive(Default)]
@@ -174,6 +221,7 @@ struct Counts {
     valued: Count,
     without_table: Count,
     found: Count,
+    by_list: Count,
 }
 
 impl Counts {
@@ -200,6 +248,7 @@ impl Counts {
             ("valued", &self.valued),
             ("valued without a table", &self.without_table),
             ("fees found", &self.found),
+            ("alike by two lists", &self.by_list),
         ];
         for (what, count) in counts {
             let (refused, differing) = (count.refused, count.differing);
@@ -242,19 +291,38 @@ pub fn run() -> bool {
             _ => (16, &SEARCHING[1..]),
         };
         let mut terms = random_terms(&mut draw, most_top);
-        let mut returns = random_returns(&mut draw);
+        let most_returns = if k % 10 == 1 { 64 } else { 18 };
+        let mut returns = random_returns(&mut draw, most_returns);
         if k % 3 == 0 {
             lift(&mut draw, &mut terms, &mut returns);
         }
         let rates = random_rates(&mut draw, terms.dates);
+        let other_returns = other_list(&mut draw, &returns);
         for behaviour in 0..=DYNAMIC {
             let input = terms.input(&returns, &rates, behaviour);
+            let other = terms.input(&other_returns, &rates, behaviour);
             let wanted = some_wanted(&mut draw, &input);
             let mut spoilt = input.clone();
             spoil(&mut draw, &mut spoilt);
             let name = format!("contract {k}, behaviour {behaviour}");
             let table_len = input.table_len;
-            for (name, input) in [(name.clone(), input), (format!("spoilt {name}"), spoilt)] {
+            let lists = [&input, &other];
+            for programs in ALIKE {
+                counts.by_list.compare_lists(&name, lists, &programs);
+            }
+            let alone = [ENGINE_ALONE];
+            counts.by_list.compare_lists(&name, lists, &alone);
+            let [one, two] = lists.map(|input| Input {
+                wanted: wanted[2],
+                ..input.clone()
+            });
+            let searches = &SEARCHING[1..];
+            counts.by_list.compare_lists(&name, [&one, &two], searches);
+            for (name, input, searching) in [
+                (name.clone(), input, searching),
+                (format!("spoilt {name}"), spoilt, searching),
+                (format!("other list of {name}"), other, searches),
+            ] {
                 counts.compare_valuing(&name, &input);
                 counts.compare_searching(&name, &input, &wanted, searching);
                 // Only plain would refuse a table that is too short.

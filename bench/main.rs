@@ -1,6 +1,7 @@
 //! Times the proved engine against the plain program and the tuned one, in one process and on
 //! the same inputs. Exit status 1 if their answers, tables, working slices, maps or fees differ.
-//! With the word `check` it times nothing and compares them on random small contracts.
+//! With the word `check` it times nothing and compares them on random small contracts; with `many`
+//! it times only many returns to one account.
 
 mod check;
 #[path = "../second/gmwb.rs"]
@@ -18,7 +19,8 @@ use std::thread;
 /// About a minute of the plain program; it is left out above that.
 const MOST_PLAIN_STEPS: u64 = 25_000_000_000;
 
-/// A program is run until it has had this many seconds, or these runs and a second.
+/// A program is run until it has had this many seconds, or these runs and a second; four seconds
+/// where a run takes less than a millisecond, which a busy spell of the machine disturbs more.
 const SECONDS: f64 = 8.0;
 const ENOUGH_RUNS: usize = 40;
 
@@ -111,6 +113,10 @@ const TIMED: [(&str, u64, Size); 15] = [
     ("mixed, deaths", MIXED, dying(size(400, 200, 10, 20, 32))),
 ];
 
+/// Many returns to one account: a tenth of the second row of `TIMED` in money, and twice its
+/// returns. A run takes a tenth of a millisecond.
+const MANY_TO_ONE: Size = size(40, 20, 1, 20, 64);
+
 /// Where a fee is searched for, and the tenths of the premium wanted. Even without a fee these
 /// contracts are worth less than their premium, so that fee 0 gives it; nine tenths need a fee.
 const SEARCHED: [(&str, u64, Size, u64); 5] = [
@@ -176,7 +182,9 @@ impl Timing<'_> {
     }
 
     fn is_done(&self) -> bool {
-        self.spent >= SECONDS || self.spent >= 1.0 && self.runs.len() >= ENOUGH_RUNS
+        let mean = self.spent / self.runs.len() as f64;
+        let enough = if mean < 0.001 { 4.0 } else { 1.0 };
+        self.spent >= SECONDS || self.spent >= enough && self.runs.len() >= ENOUGH_RUNS
     }
 
     fn run_again(&mut self) {
@@ -270,6 +278,31 @@ fn time_programs() -> bool {
         let (seconds, equal) = timed(programs, size, *behaviour);
         print_timed(name, size, &seconds);
         right &= equal;
+    }
+    right
+}
+
+/// Engine, plain and tuned where many returns lead to one account.
+fn time_many_to_one() -> bool {
+    println!("\nmany returns to one account (top 40, U 20, G 1, N 20, 64 returns)");
+    println!("microseconds, best of several runs");
+    println!("behaviour      plain     engine      tuned  plain/engine  tuned/engine");
+    let programs = [ENGINE, TUNED, PLAIN];
+    let mut right = true;
+    for (name, behaviour) in [("dynamic", DYNAMIC), ("static", STATIC), ("mixed", MIXED)] {
+        let (seconds, equal) = timed(&programs, &MANY_TO_ONE, behaviour);
+        right &= equal;
+        let [engine, tuned, plain] = seconds[..] else {
+            return false;
+        };
+        println!(
+            "{name:<9}{:>11.1}{:>11.1}{:>11.1}{:>14.1}{:>14.3}",
+            1e6 * plain,
+            1e6 * engine,
+            1e6 * tuned,
+            plain / engine,
+            tuned / engine
+        );
     }
     right
 }
@@ -436,6 +469,7 @@ fn time_all() -> bool {
     println!("engine  {}", env!("BENCH_ENGINE"));
     println!("Rust    {}\n", env!("BENCH_RUST"));
     let mut right = time_programs();
+    right &= time_many_to_one();
     for (heading, sizes) in GROWTH {
         right &= time_growth(heading, sizes);
     }
@@ -458,8 +492,9 @@ fn main() -> ExitCode {
     let right = match words[..] {
         [] => time_all(),
         ["check"] => check::run(),
+        ["many"] => time_many_to_one(),
         _ => {
-            eprintln!("usage: bench [check]");
+            eprintln!("usage: bench [check | many]");
             return ExitCode::from(2);
         }
     };

@@ -5,15 +5,19 @@
 //! 8,192; then the first layer is overwritten with the values of the date, the table's layer
 //! with its amounts. The two lent layers hold all states, and the states of an account are
 //! decided where their values will stand. Beyond them there are only rows: one of sums, one of
-//! flags for the map of surrender, and the slices of the rows that a balance leads to.
+//! flags for the map of surrender, and the slices of the rows that a balance leads to, with arrays
+//! of 64 that tell which these are.
 //!
 //! What makes it fast: every loop that costs runs along the guarantee, so that it reads rows
 //! in order and the compiler can widen it; value and amount are one number, a key, so that one
 //! maximum decides both; eight rows are summed at once, so that a sum is loaded and stored less
 //! often; and no division but by a power of two stands in a loop over choices.
 //!
+//! The returns are sorted by factor when they are read, so that those to one account stand together
+//! for every balance: their weights are added first, and a row is summed once for all of them.
+//!
 //! What a return lifts above top is paid whatever the guarantee: one number for a balance, from
-//! which each of its sums starts.
+//! which each of its sums starts. So all returns to top and above it share top's row.
 //!
 //! Death pays a whole number of money units, so its share of a value reached is that of the state,
 //! whatever the excess: it is taken of each row of values as soon as the row is decided, while it
@@ -36,6 +40,9 @@ const SPAN: u64 = 8_192;
 const MOST_PLAIN: u64 = 18_000_000_000_000;
 
 const MOST_RETURNS: usize = 64;
+
+/// Rows are summed twice so many at once, or so many; there are never fewer left.
+const BLOCK: usize = 4;
 
 /// How many states are passed over at once, and then again how many of them.
 const RUN: usize = 32;
@@ -197,6 +204,8 @@ fn read_returns(list: &[u8]) -> Result<Vec<Return>, Refusal> {
     }
     let weights: u32 = returns.iter().map(|r| r.weight).sum();
     refuse_if(weights != 10_000, 9, 0)?;
+    // Behind the checks, whose places are those of the list.
+    returns.sort_unstable_by_key(|r| r.factor);
     Ok(returns)
 }
 
@@ -397,6 +406,94 @@ fn value_at_start(contract: &Contract, values: &[u64]) -> (u64, i64) {
 
 // ---------------------------------------------------- Step 1: expectation
 
+/// Where the returns lead from one balance after another. The balance rises by 1 from 0, so that
+/// no division is needed: each return lifts it by so many whole units and a part of one, in
+/// 100,000,000ths. Numbers of 32 bits, so that the step is widened.
+struct Led {
+    count: usize,
+    weight: [u32; MOST_RETURNS],
+    lifted: [u32; MOST_RETURNS],
+    rest: [u32; MOST_RETURNS],
+    units: [u32; MOST_RETURNS],
+    part: [u32; MOST_RETURNS],
+}
+
+impl Led {
+    /// From balance 0; the returns rise.
+    fn new(terms: &Terms, returns: &[Return]) -> Led {
+        let mut led = Led {
+            count: returns.len(),
+            weight: [0; MOST_RETURNS],
+            lifted: [0; MOST_RETURNS],
+            rest: [0; MOST_RETURNS],
+            units: [0; MOST_RETURNS],
+            part: [0; MOST_RETURNS],
+        };
+        for (k, r) in returns.iter().enumerate() {
+            let step = r.factor * (UNIT - terms.fee);
+            led.weight[k] = r.weight;
+            led.units[k] = (step / (UNIT * UNIT)) as u32;
+            led.part[k] = (step % (UNIT * UNIT)) as u32;
+        }
+        led
+    }
+
+    /// To the next balance. Eight returns at once; behind the last there are zeros.
+    fn step(&mut self) {
+        const WHOLE: i32 = (UNIT * UNIT) as i32;
+        let (lifted, _) = self.lifted.as_chunks_mut::<8>();
+        let (rest, _) = self.rest.as_chunks_mut::<8>();
+        let (units, _) = self.units.as_chunks::<8>();
+        let (part, _) = self.part.as_chunks::<8>();
+        for i in 0..self.count.div_ceil(8) {
+            for k in 0..8 {
+                let more = (rest[i][k] + part[i][k]) as i32 - WHOLE;
+                // All ones where no unit is full.
+                let short = more >> 31;
+                rest[i][k] = (more + (WHOLE & short)) as u32;
+                lifted[i][k] += units[i][k] + (1 + short) as u32;
+            }
+        }
+    }
+
+    /// Puts the rows of the accounts reached, each with the weight of all returns to it, then rows
+    /// of weight 0 up to a whole block. Gives their number, and what is above top by weight, in
+    /// ten-thousandths. The returns rise, so those to one account stand together; those above top
+    /// count as to top, since their excess is paid apart.
+    fn join<'a>(
+        &self,
+        top: usize,
+        row: impl Fn(usize) -> &'a [u64],
+        rows: &mut [(u32, &'a [u64]); MOST_RETURNS],
+    ) -> (usize, u64) {
+        let (mut end, mut to_top, mut above) = (self.count, 0, 0);
+        while end > 0 && self.lifted[end - 1] as usize >= top {
+            end -= 1;
+            to_top += self.weight[end];
+            above += u64::from(self.weight[end]) * u64::from(self.lifted[end] - top as u32);
+        }
+        let (mut count, mut last) = (0, u32::MAX);
+        for (lifted, weight) in self.lifted[..end].iter().zip(&self.weight) {
+            if *lifted == last {
+                rows[count - 1].0 += weight;
+            } else {
+                last = *lifted;
+                rows[count] = (*weight, row(last as usize));
+                count += 1;
+            }
+        }
+        if to_top > 0 {
+            rows[count] = (to_top, row(top));
+            count += 1;
+        }
+        while count % BLOCK != 0 {
+            rows[count] = (0, rows[0].1);
+            count += 1;
+        }
+        (count, UNIT * above)
+    }
+}
+
 /// E(b, a) times `SPAN` for every balance and guarantee, from the values of the next date, none
 /// of which passes `most`.
 fn expect_layer(
@@ -409,18 +506,12 @@ fn expect_layer(
     let stride = terms.stride();
     let mut sums = vec![0; stride];
     let mut rows: [(u32, &[u64]); MOST_RETURNS] = [(0, &[]); MOST_RETURNS];
-    for (balance, out) in expected.chunks_exact_mut(stride).enumerate() {
-        let mut paid = 0;
-        for (row, r) in rows.iter_mut().zip(returns) {
-            let mut account = terms.lifted(balance, r.factor);
-            // A branch: below top there is nothing to multiply.
-            if account > terms.top {
-                paid += u64::from(r.weight) * UNIT * (account - terms.top) as u64;
-                account = terms.top;
-            }
-            *row = (r.weight, &values[account * stride..][..stride]);
-        }
-        sum_rows(&rows[..returns.len()], paid, &mut sums);
+    let mut led = Led::new(terms, returns);
+    for out in expected.chunks_exact_mut(stride) {
+        let row = |account: usize| &values[account * stride..][..stride];
+        let (count, paid) = led.join(terms.top, row, &mut rows);
+        led.step();
+        sum_rows(&rows[..count], paid, &mut sums);
         if UNIT * most + paid <= MOST_PLAIN {
             discount_row(terms, &sums, out, discounted_plain);
         } else {
@@ -444,37 +535,49 @@ fn product(weight: u32, value: &u64) -> u64 {
     u64::from(weight) * (value & 0xffff_ffff)
 }
 
-/// What is paid and the weighted sum of the rows, eight at a time: one load and one store of a
-/// sum for eight products, and no load for the first eight. Paid joins here, where the loop is
-/// widened: at the discount, which is not, it made static withdrawals a tenth slower.
+/// What is paid and the weighted sum of the rows, eight at a time and at last four: one load and
+/// one store of a sum for eight products, and no load for the first. Paid joins here, where the
+/// loop is widened: at the discount, which is not, it made static withdrawals a tenth slower.
 fn sum_rows(rows: &[(u32, &[u64])], paid: u64, sums: &mut [u64]) {
-    let mut eights = rows.chunks_exact(8);
-    match eights.next() {
-        Some(eight) => sum_eight(eight, sums, |_, added| paid + added),
-        None => sums.fill(paid),
-    }
-    for eight in &mut eights {
-        sum_eight(eight, sums, |sum, added| sum + added);
-    }
-    for (weight, row) in eights.remainder() {
-        for (sum, value) in sums.iter_mut().zip(*row) {
-            *sum += product(*weight, value);
+    let (eights, four) = rows.as_chunks::<8>();
+    let (four, _) = four.as_chunks::<BLOCK>();
+    match eights.split_first() {
+        Some((first, others)) => {
+            sum_eight(first, sums, |_, added| paid + added);
+            for eight in others {
+                sum_eight(eight, sums, |sum, added| sum + added);
+            }
+            for four in four {
+                sum_four(four, sums, |sum, added| sum + added);
+            }
+        }
+        None => {
+            for four in four {
+                sum_four(four, sums, |_, added| paid + added);
+            }
         }
     }
 }
 
 /// `joined` is given the sum in place and that of the eight products. The rows are cut to the
 /// length of the sums, so that the loop needs no test of its own for each.
-fn sum_eight(eight: &[(u32, &[u64])], sums: &mut [u64], joined: impl Fn(u64, u64) -> u64) {
+fn sum_eight(eight: &[(u32, &[u64]); 8], sums: &mut [u64], joined: impl Fn(u64, u64) -> u64) {
     let n = sums.len();
-    let cut = |k: usize| (eight[k].0, &eight[k].1[..n]);
-    let (a, b, c, d) = (cut(0), cut(1), cut(2), cut(3));
-    let (e, f, g, h) = (cut(4), cut(5), cut(6), cut(7));
+    let [a, b, c, d, e, f, g, h] = eight.map(|(weight, row)| (weight, &row[..n]));
     for j in 0..n {
         let part = |row: (u32, &[u64])| product(row.0, &row.1[j]);
         let first = part(a) + part(b) + part(c) + part(d);
         let second = part(e) + part(f) + part(g) + part(h);
         sums[j] = joined(sums[j], first + second);
+    }
+}
+
+fn sum_four(four: &[(u32, &[u64]); BLOCK], sums: &mut [u64], joined: impl Fn(u64, u64) -> u64) {
+    let n = sums.len();
+    let [a, b, c, d] = four.map(|(weight, row)| (weight, &row[..n]));
+    for j in 0..n {
+        let part = |row: (u32, &[u64])| product(row.0, &row.1[j]);
+        sums[j] = joined(sums[j], part(a) + part(b) + part(c) + part(d));
     }
 }
 

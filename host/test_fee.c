@@ -1,7 +1,7 @@
 /*
- * gmwb_fee: the figures of request (vi), wanted values at, below and above what fees give, every
- * refusal on both sides of its boundary, the order of the checks, working slices of every length
- * that matters, and random contracts. Each call is made on both programs; the fee found and the one
+ * gmwb_fee: the figures of request (vi), wanted values at, below and above what fees give, the same
+ * returns in another list, every refusal on both sides of its boundary, the order of the checks,
+ * working slices of every length that matters, and random contracts. Each call is made on both programs; the fee found and the one
  * before it are valued by gmwb_value. The second program tries fee after fee, so that contracts are
  * small.
  */
@@ -255,6 +255,39 @@ static void highest_fee(void)
     }
 }
 
+/* ---- The same returns in another list --------------------------------------------------------- */
+
+/* P's figures, its returns in parts. */
+static void figures_by_parts(void)
+{
+    for (size_t i = 0; i < COUNT(FIGURES); i++) {
+        struct input in = p_in_parts(2 + i);
+        for (enum order order = RISING; order < ORDERS; order++) {
+            struct valuing v = exact(other_list(&in, order), FIGURES[i].behaviour);
+            struct told t;
+            about("P's returns in %lu parts, order %d", (unsigned long)(2 + i), (int)order);
+            same("number", search(&v, FIGURES[i].wanted, &t), FIGURES[i].number);
+            same("fee", t.fee, FIGURES[i].fee);
+            same("value", t.value, FIGURES[i].value);
+        }
+    }
+}
+
+static void in_lists(uint64_t round)
+{
+    struct input in = alike_input(random_terms(6, 6, 3), (size_t)between(2, 6));
+    struct input other = other_list(&in, (enum order)(round % ORDERS));
+    for (uint64_t behaviour = 0; behaviour <= 2; behaviour++) {
+        struct valuing v = exact(in, behaviour), w = exact(other, behaviour);
+        uint64_t wanted = value_at(&v, upto(200));
+        struct told t, s;
+        about_call("in lists, round", round, &w);
+        same("number of the other list", search(&w, wanted, &s), search(&v, wanted, &t));
+        same("fee of the other list", s.fee, t.fee);
+        same("value of the other list", s.value, t.value);
+    }
+}
+
 /* ---- Refusals --------------------------------------------------------------------------------- */
 
 /* The longest would be too short in 16 bits. */
@@ -354,6 +387,9 @@ int main(int argc, char **argv)
     around_values();
     if (usual)
         highest_fee();
+    figures_by_parts();
+    for (uint64_t round = 0; round < rounds / 20; round++)
+        in_lists(round);
     work_lengths();
     last_check();
     no_slices();

@@ -1,7 +1,7 @@
 /*
  * gmwb_value: the marked cases, penalty rates that fall, returns that lift an account above top,
- * death rates, every refusal on both sides of its boundary, the order of the checks, what is left in
- * the slices, and random contracts against the second program.
+ * death rates, the same returns in another list, every refusal on both sides of its boundary, the
+ * order of the checks, what is left in the slices, and random contracts against the second program.
  */
 #include "valuing.h"
 
@@ -365,6 +365,55 @@ static void certain_death(uint64_t round)
     }
 }
 
+/* ---- The same returns in another list --------------------------------------------------------- */
+
+/* P's figures, its returns in parts: from 2 to 64, in three orders. */
+static void p_by_parts(void)
+{
+    static const uint64_t values[3] = {125000, 125000, 130000};
+    for (size_t count = 2; count <= GMWB_MOST_RETURNS; count += count < 8 ? 1 : 7) {
+        struct input in = p_in_parts(count);
+        for (enum order order = RISING; order < ORDERS; order++) {
+            struct input other = other_list(&in, order);
+            about("P's returns in %lu parts, order %d", (unsigned long)count, (int)order);
+            for (uint64_t behaviour = 0; behaviour <= 2; behaviour++)
+                valued_with(other, behaviour, values[behaviour],
+                            (int64_t)values[behaviour] - 100000);
+        }
+    }
+}
+
+/* "Every value and table is to equal those of the list order", here for two orders of the engine. */
+static void same_in_lists(const struct valuing *v, const struct valuing *w)
+{
+    struct told t, s;
+    struct left l, m;
+    same("number", value(v, &t, &l), GMWB_SUCCESS);
+    same("number of the other list", value(w, &s, &m), GMWB_SUCCESS);
+    same("value of the other list", s.value, t.value);
+    same_signed("margin of the other list", s.margin, t.margin);
+    same_slice("working slice of the other list", m.work, l.work, sizeof(uint64_t));
+    same_slice("table of the other list", m.table, l.table, sizeof(uint16_t));
+    take_back_left(l);
+    take_back_left(m);
+}
+
+static void in_lists(uint64_t round)
+{
+    struct terms c = random_terms(12, 12, 4);
+    struct input in = alike_input(c, one_in(4) ? GMWB_MOST_RETURNS : (size_t)between(2, 12));
+    for (enum order order = RISING; order < ORDERS; order++) {
+        struct input other = other_list(&in, order);
+        for (uint64_t behaviour = 0; behaviour <= 2; behaviour++) {
+            struct valuing v = exact(in, behaviour), w = exact(other, behaviour);
+            about_call("in lists, round", round, &w);
+            same_in_lists(&v, &w);
+        }
+    }
+}
+
+/* ---- No rates --------------------------------------------------------------------------------- */
+
 /* A list of rates without bytes may be NULL; no contract is accepted with it. */
 static void no_rates(void)
 {
@@ -404,6 +453,9 @@ int main(int argc, char **argv)
     living_states();
     for (uint64_t round = 0; round < rounds / 10; round++)
         certain_death(round);
+    p_by_parts();
+    for (uint64_t round = 0; round < rounds / 20; round++)
+        in_lists(round);
     no_rates();
     shared_tests(rounds);
     return verdict("value");

@@ -28,11 +28,12 @@
  * writes what another reads or writes.
  *
  * Time. A check and a booking take a few steps, a walk a few for each date and return. Valuing a
- * contract or a supplied table makes (N - 1) x (top + 1) x (U + 1) x returns products, and looks at
- * one amount of each state of each decision date; mixed looks at two, dynamic, on each date, at
- * about top x U x G amounts up to m and at most U^3 / 6 above it. A death rate above 0 adds one
- * pass over a layer on its date. A map adds a look at each entry of the table. A search for a fee
- * makes at most 14 valuations. docs/BENCHMARK.md has times.
+ * contract or a supplied table makes (N - 1) x (top + 1) x (U + 1) x returns products, fewer
+ * where returns lead from a balance to one account, and looks at one amount of each state of each
+ * decision date; mixed looks at two, dynamic, on each date, at about top x U x G amounts up to m
+ * and at most U^3 / 6 above it. A death rate above 0 adds one pass over a layer on its date. A
+ * map adds a look at each entry of the table. A search for a fee makes at most 14 valuations.
+ * docs/BENCHMARK.md has times.
  *
  * The archive is for x86-64: size_t has 64 bits.
  */
@@ -136,7 +137,8 @@ uint32_t gmwb_book(const uint8_t *record, size_t record_len,
 /* ---- Valuing a contract ----------------------------------------------------------------------
  *
  * A return list has 1 to 64 records of 4 bytes: factor (2 bytes, ten-thousandths, 0 to 30,000) and
- * weight (2 bytes, 1 to 10,000). The weights add to 10,000.
+ * weight (2 bytes, 1 to 10,000). The weights add to 10,000. The order of the records changes no
+ * value and no amount; a walk names them by their number.
  *
  * A list of death rates, rates, has N rates of 2 bytes (ten-thousandths, 0 to 10,000): the rate of
  * index i is that of the period from date i to date i + 1. Zero rates give the values without

@@ -5,8 +5,9 @@
 //! with the checks behind it failing too, every count of dates, slices of every length
 //! that matters, and random contracts, whole and damaged. Maps of surrender follow, in
 //! parts of the same kinds, then returns that lift an account above top, then payment at
-//! death, then searches for a fee. Random contracts have death rates of every kind; where a
-//! part is about something else, the rates are zero.
+//! death, then searches for a fee, then lists whose returns lead to the same accounts. Random
+//! contracts have death rates of every kind; where a part is about something else, the rates are
+//! zero.
 //!
 //! The second program tries fee after fee, so the contracts searched are small, or a small fee
 //! is found.
@@ -205,6 +206,14 @@ impl Draw {
     fn lists(&mut self, most: usize, dates: u16) -> (Vec<Return>, Vec<u16>) {
         let count = 1 + self.upto(most - 1);
         (self.returns(count), self.rates(dates))
+    }
+
+    fn shuffled(&mut self, returns: &[Return]) -> Vec<Return> {
+        let mut shuffled = returns.to_vec();
+        for last in (1..shuffled.len()).rev() {
+            shuffled.swap(last, self.upto(last));
+        }
+        shuffled
     }
 
     /// A path: N return numbers, each of a list of `count`.
@@ -1945,6 +1954,208 @@ fn fees(s: &mut Script) {
     random_fees(s);
 }
 
+// ---------------------------- Document 02, request (vii): sum by account reached
+
+/// Every call that sums over the returns. The slices are just long enough, so that the same
+/// returns in another list get the same answers.
+fn summed(s: &mut Script, terms: Terms, returns: &[Return]) {
+    let (work, table, map) = (terms.work(), terms.table(), terms.map());
+    for behaviour in 0..3 {
+        s.value(terms, returns, behaviour, work, table);
+    }
+    s.value_table(terms, returns, work, "=");
+    // The same for every list of a contract.
+    let behaviour = u64::from(terms.level % 3);
+    s.value_map(terms, returns, behaviour, work, map);
+    let rates = s.rates.clone().unwrap_or(terms.zero_rates());
+    let (list, rates) = (list(returns), rate_list(&rates));
+    let wanted = worth_at(terms, &list, &rates, behaviour, 12);
+    s.fee(terms, returns, behaviour, wanted, work);
+}
+
+/// The lists, with zero death rates and with others.
+fn all_summed(s: &mut Script, terms: Terms, lists: &[Vec<Return>]) {
+    let rates: Vec<u16> = (0..terms.dates).map(|i| 150 + 350 * i).collect();
+    for returns in lists {
+        summed(s, terms, returns);
+        s.with_rates(&rates, |s| summed(s, terms, returns));
+    }
+}
+
+/// Returns that part from a balance of 9 lead to 0, 1 or 2 from 1.
+const SUMMED: Terms = Terms {
+    premium: 6,
+    level: 2,
+    top: 9,
+    dates: 3,
+    fee: 50,
+    penalty: 500,
+    discount: 970_000,
+    step: 100,
+    spare: 0,
+};
+
+/// Every order of some returns.
+fn orders(returns: &[Return]) -> Vec<Vec<Return>> {
+    if returns.is_empty() {
+        return vec![Vec::new()];
+    }
+    let mut all = Vec::new();
+    for place in 0..returns.len() {
+        let mut rest = returns.to_vec();
+        let first = rest.remove(place);
+        for mut order in orders(&rest) {
+            order.insert(0, first);
+            all.push(order);
+        }
+    }
+    all
+}
+
+/// Rising, falling and shuffled; the returns given rise.
+fn some_orders(s: &mut Script, rising: &[Return], shuffled: usize) -> Vec<Vec<Return>> {
+    let mut all = vec![rising.to_vec(), rising.iter().rev().copied().collect()];
+    all.extend((0..shuffled).map(|_| s.draw.shuffled(rising)));
+    all
+}
+
+/// Factors that rise by a step, each with a weight of its own, so that none stands for another.
+fn sixty_four(first: u16, step: u16) -> Vec<Return> {
+    let mut returns: Vec<Return> = (0..64).map(|k| (first + step * k, 93 + 2 * k)).collect();
+    returns[31].1 += 16;
+    returns
+}
+
+fn every_order(s: &mut Script) {
+    s.part("Document 02, request (vii): three returns in every order.");
+    let three = [(7_500, 2_000), (10_400, 5_001), (16_000, 2_999)];
+    all_summed(s, SUMMED, &orders(&three));
+    s.part("Four returns in every order, two of them of one factor.");
+    let four = [
+        (9_000, 1_500),
+        (9_000, 2_500),
+        (12_500, 3_000),
+        (20_000, 3_000),
+    ];
+    let terms = Terms {
+        premium: 5,
+        top: 6,
+        ..SUMMED
+    };
+    for returns in orders(&four) {
+        s.with_rates(&[700, 0, 2_500], |s| {
+            for behaviour in 0..3 {
+                s.value(terms, &returns, behaviour, terms.work(), terms.table());
+            }
+            s.value_table(terms, &returns, terms.work(), "=");
+        });
+    }
+    s.part("64 returns rising, falling and shuffled.");
+    let lists = some_orders(s, &sixty_four(2_000, 437), 2);
+    all_summed(s, SUMMED, &lists);
+}
+
+fn equal_factors(s: &mut Script) {
+    s.part("Two and three equal factors, side by side and apart, and joined; 64 of them, and one.");
+    let sixty_four = sixty_four(12_345, 0);
+    let two = [
+        vec![(9_000, 2_500), (14_000, 5_000), (9_000, 2_500)],
+        vec![(9_000, 2_500), (9_000, 2_500), (14_000, 5_000)],
+        vec![(14_000, 5_000), (9_000, 5_000)],
+    ];
+    let three = [
+        vec![
+            (13_000, 1),
+            (8_000, 4_000),
+            (13_000, 2_999),
+            (13_000, 3_000),
+        ],
+        vec![(13_000, 6_000), (8_000, 4_000)],
+    ];
+    let all = [sixty_four, vec![(12_345, 10_000)]];
+    // Maps and searches follow the level's behaviour.
+    for (level, lists) in [(2, &two[..]), (1, &three), (3, &all)] {
+        all_summed(s, Terms { level, ..SUMMED }, lists);
+    }
+}
+
+/// From 8 they lead to 4, to top, twice to one above it by different factors, and further.
+fn same_account_other_excess(s: &mut Script) {
+    s.part("Returns to top and above it, by the same excess and by others.");
+    let rising = [
+        (5_000, 2_500),
+        (10_000, 2_000),
+        (11_250, 1_000),
+        (12_000, 3_000),
+        (15_000, 1_499),
+        (30_000, 1),
+    ];
+    let terms = Terms {
+        premium: 8,
+        level: 3,
+        top: 8,
+        fee: 0,
+        ..SUMMED
+    };
+    let lists = some_orders(s, &rising, 2);
+    all_summed(s, terms, &lists);
+}
+
+fn many_to_one_account(s: &mut Script) {
+    s.part("64 returns to few accounts, under a top of 3, and to one, under a top of 1.");
+    for (top, premium, dates, rising) in [
+        (3, 2, 4, sixty_four(1_000, 460)),
+        (1, 1, 3, sixty_four(10_100, 150)),
+    ] {
+        let terms = Terms {
+            premium,
+            level: 1,
+            top,
+            dates,
+            ..SUMMED
+        };
+        let lists = some_orders(s, &rising, 1);
+        all_summed(s, terms, &lists);
+    }
+}
+
+/// Each as drawn, shuffled, and with a return split in two that stand apart.
+fn random_orders(s: &mut Script) {
+    s.part(
+        "Random contracts whose lists have few factors: as drawn, shuffled, with a return split.",
+    );
+    for k in 0..6 {
+        let terms = match k % 2 {
+            0 => s.draw.terms(8, 4),
+            _ => s.draw.near_top(8, 4),
+        };
+        let count = 2 + s.draw.upto(14);
+        let mut returns = s.draw.lifting(count);
+        let some = s.draw.one(&[6_000, 11_000, 17_000]);
+        for (factor, _) in &mut returns {
+            *factor = s.draw.one(&[some, some + 100, some + 1_000, *factor]);
+        }
+        returns[0].1 += returns[count - 1].1 - 1;
+        returns[count - 1].1 = 1;
+        let mut split = returns.clone();
+        split[0].1 -= 1;
+        split.push((split[0].0, 1));
+        let lists = [returns.clone(), s.draw.shuffled(&returns), split];
+        let rates = s.draw.rates(terms.dates);
+        for returns in lists {
+            s.with_rates(&rates, |s| summed(s, terms, &returns));
+        }
+    }
+}
+
+fn sums(s: &mut Script) {
+    every_order(s);
+    equal_factors(s);
+    same_account_other_excess(s);
+    many_to_one_account(s);
+    random_orders(s);
+}
+
 /// The whole script.
 pub fn script() -> String {
     let mut s = Script {
@@ -1981,5 +2192,6 @@ pub fn script() -> String {
     payouts(&mut s);
     deaths(&mut s);
     fees(&mut s);
+    sums(&mut s);
     s.text
 }

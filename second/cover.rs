@@ -20,6 +20,8 @@ const LEAST_WIDE: u64 = 20;
 const LEAST_LIFTED: u64 = 50;
 const LEAST_DEATHS: u64 = 10;
 const LEAST_SEARCHED: u64 = 10;
+const LEAST_GROUPED: u64 = 2;
+const LEAST_AGAIN: u64 = 5;
 
 /// Tables up to here are also made by other versions of the rules.
 const MOST_COMPARED: u64 = 400;
@@ -699,6 +701,62 @@ enum Version {
     RoundedLater,
     ExcessNotAtDeath,
     Exchanged,
+    WithoutExcess,
+    LastGroupLost,
+    WeightOnce,
+    FactorOnce,
+    FirstPlaceLost,
+    PlaceLost,
+    LastPlaceLost,
+    Room63,
+    BalanceZero,
+    BalanceBefore,
+}
+
+/// Sums by account reached otherwise than the rules have them: each sorts the returns by factor.
+const MISGROUPED: [(Version, &str); 10] = [
+    (
+        Version::WithoutExcess,
+        "accounts grouped without their excess",
+    ),
+    (Version::LastGroupLost, "the last group lost"),
+    (Version::WeightOnce, "one weight for a whole group"),
+    (Version::FactorOnce, "equal factors counted once"),
+    (Version::FirstPlaceLost, "the first sorted place lost"),
+    (Version::PlaceLost, "a sorted place between lost"),
+    (Version::LastPlaceLost, "the last sorted place lost"),
+    (Version::Room63, "room for 63 sorted places"),
+    (
+        Version::BalanceZero,
+        "the groups of balance 0 for each balance",
+    ),
+    (
+        Version::BalanceBefore,
+        "the groups of the balance before each",
+    ),
+];
+
+fn misgroups(version: Version) -> bool {
+    MISGROUPED.iter().any(|(other, _)| *other == version)
+}
+
+/// The returns of a version, in the order it goes through them. A place that is lost holds the
+/// one beside it.
+fn gone_through(version: Version, mut returns: Vec<(u64, u64)>) -> Vec<(u64, u64)> {
+    if !misgroups(version) {
+        return returns;
+    }
+    returns.sort_unstable();
+    let last = returns.len() - 1;
+    match version {
+        Version::FactorOnce => returns.dedup_by_key(|r| r.0),
+        Version::FirstPlaceLost => returns[0] = returns[last.min(1)],
+        Version::PlaceLost => returns[last / 2] = returns[(last / 2).saturating_sub(1)],
+        Version::LastPlaceLost => returns[last] = returns[last.saturating_sub(1)],
+        Version::Room63 => returns.truncate(63),
+        _ => {}
+    }
+    returns
 }
 
 /// Payment at death otherwise than the rules have it.
@@ -754,15 +812,44 @@ impl Model<'_> {
         }
     }
 
+    /// Where the groups of a version that groups are lifted to, each with its weight. The returns
+    /// are sorted.
+    fn groups(&self, balance: u64) -> Vec<(u64, u64)> {
+        let (c, mut held) = (self.c, None);
+        let mut groups: Vec<(u64, u64)> = Vec::new();
+        for (factor, weight) in &self.returns {
+            let mark = match self.version {
+                Version::WithoutExcess => c.account_after(balance, *factor),
+                Version::BalanceZero => c.lifted(0, *factor),
+                Version::BalanceBefore => c.lifted(balance.saturating_sub(1), *factor),
+                _ => c.lifted(balance, *factor),
+            };
+            match groups.last_mut().filter(|_| held == Some(mark)) {
+                Some(_) if self.version == Version::WeightOnce => {}
+                Some(group) => group.1 += weight,
+                None => groups.push((c.lifted(balance, *factor), *weight)),
+            }
+            held = Some(mark);
+        }
+        if self.version == Version::LastGroupLost {
+            groups.pop();
+        }
+        groups
+    }
+
     /// The discounted sum over the returns of a period.
     fn average(&self, period: u64, next: &[u64], balance: u64, guarantee: u64) -> u64 {
         let (c, rate) = (self.c, self.rate(period));
-        let share = |(factor, weight): &(u64, u64)| {
-            let lifted = c.lifted(balance, *factor);
+        let share = |(lifted, weight): (u64, u64)| {
             let value = next[(lifted.min(c.top) * (c.premium + 1) + guarantee) as usize];
-            u128::from(*weight) * u128::from(self.reached(rate, value, guarantee, lifted))
+            u128::from(weight) * u128::from(self.reached(rate, value, guarantee, lifted))
         };
-        let sum: u128 = self.returns.iter().map(share).sum();
+        let sum: u128 = if misgroups(self.version) {
+            self.groups(balance).into_iter().map(share).sum()
+        } else {
+            let led = self.returns.iter().map(|r| (c.lifted(balance, r.0), r.1));
+            led.map(share).sum()
+        };
         (u128::from(c.discount) * sum / 100_000_000_000_000) as u64
     }
 
@@ -817,7 +904,7 @@ fn by_version(
     let states = drawn_in_table(c, left);
     let model = Model {
         c,
-        returns: returns(list_of(operation)),
+        returns: gone_through(version, returns(list_of(operation))),
         rates: death_rates(rates_of(operation).unwrap_or(&[])),
         version,
     };
@@ -1321,6 +1408,209 @@ fn count_searched(tally: &mut Tally, c: &Fields, operation: &Operation, answer: 
     count_misled(tally, &mut fees, (*wanted, work), answer)
 }
 
+/// How the returns of a valuation with decision dates stand in the list, and where they lead from
+/// balances of 1 or more.
+const GROUPED: [&str; 18] = [
+    "three factors or more that rise",
+    "three factors or more that fall",
+    "factors that neither rise nor fall",
+    "64 factors that rise, to 20 accounts and excesses or more",
+    "64 factors that fall, to 20 accounts and excesses or more",
+    "64 factors that neither rise nor fall, to 20 accounts and excesses or more",
+    "equal factors side by side",
+    "equal factors apart",
+    "three equal factors",
+    "64 equal factors",
+    "different factors to one account below top",
+    "different factors to one excess",
+    "different excesses",
+    "a return to top beside one above it",
+    "ten returns or more to one account",
+    "64 returns to one account",
+    "returns that join from a balance and part from another",
+    "returns that part from every balance but 0",
+];
+
+fn grouped_holds(c: &Fields, list: &[u8]) -> [bool; 18] {
+    let returns = returns(list);
+    let factors: Vec<u64> = returns.iter().map(|r| r.0).collect();
+    let count = factors.len();
+    let (rise, fall) = (
+        factors.windows(2).all(|f| f[0] < f[1]),
+        factors.windows(2).all(|f| f[0] > f[1]),
+    );
+    let mut sorted = factors.clone();
+    sorted.sort_unstable();
+    let three_equal = sorted.windows(3).any(|f| f[0] == f[2]);
+    let beside = factors.windows(2).any(|f| f[0] == f[1]);
+    let apart = (0..count)
+        .flat_map(|i| (i + 2..count).map(move |k| (i, k)))
+        .any(|(i, k)| {
+            factors[i] == factors[k] && factors[i + 1..k].iter().any(|f| *f != factors[i])
+        });
+    sorted.dedup();
+    let different = sorted.len();
+    // From a balance, where each of the different factors leads.
+    let led = |balance: u64| -> Vec<u64> { sorted.iter().map(|f| c.lifted(balance, *f)).collect() };
+    let from_some = |holds: &dyn Fn(&[u64]) -> bool| (1..=c.top).any(|b| holds(&led(b)));
+    let joins = |l: &[u64]| l.windows(2).any(|l| l[0] == l[1]);
+    let spread = from_some(&|l| l.windows(2).filter(|l| l[0] != l[1]).count() >= 19);
+    let most_to_one = |balance: u64| {
+        let to = |account: u64| move |f: &&u64| c.account_after(balance, **f) == account;
+        let accounts = 0..=c.top;
+        let counts = accounts.map(|account| factors.iter().filter(to(account)).count());
+        counts.max().unwrap_or(0)
+    };
+    let to_one = (1..=c.top).map(most_to_one).max().unwrap_or(0);
+    let holds = [
+        different > 2 && rise,
+        different > 2 && fall,
+        !rise && !fall && different > 2,
+        different == 64 && rise && spread,
+        different == 64 && fall && spread,
+        different == 64 && !rise && !fall && spread,
+        beside,
+        apart,
+        three_equal,
+        count == 64 && different == 1,
+        from_some(&|l| l.windows(2).any(|l| l[0] == l[1] && l[0] < c.top)),
+        from_some(&|l| l.windows(2).any(|l| l[0] == l[1] && l[0] > c.top)),
+        from_some(&|l| l.windows(2).any(|l| l[0] != l[1] && l[0] > c.top)),
+        from_some(&|l| l.contains(&c.top) && l.iter().any(|l| *l > c.top)),
+        to_one >= 10 && different >= 10,
+        to_one == 64 && different == 64,
+        from_some(&joins) && from_some(&|l| l.windows(2).all(|l| l[0] != l[1])) && different > 1,
+        different > 1 && !from_some(&joins),
+    ];
+    holds.map(|holds| holds && c.dates > 1)
+}
+
+/// What was asked before, by all but the order of the list and how equal factors share their
+/// weight: the lists, and the answer to the first.
+type Asked = BTreeMap<String, (Vec<Vec<u8>>, String)>;
+
+const AGAIN: [&str; 2] = ["in another order", "with equal factors split or joined"];
+const DEATHS_OR_NONE: [&str; 2] = ["zero death rates", "death rates"];
+
+fn again(name: &str, how: &str, with: &str) -> String {
+    format!("{name} of returns {how}, {with}")
+}
+
+/// The returns of a list that is asked for in each of its orders: how many, of how many factors.
+const EVERY_ORDER: [(usize, usize); 2] = [(3, 3), (4, 3)];
+
+fn every_order(name: &str, (count, factors): (usize, usize)) -> String {
+    format!("{name} of {count} returns of {factors} factors in every order")
+}
+
+fn misgrouped(name: &str, how: &str) -> String {
+    format!("{name} of returns in another list worth otherwise than with {how}")
+}
+
+/// What the answer of an accepted valuation depends on, its list as weights by factor. None where
+/// a slice is longer than needed: the answer tells of all entries, also those left as they were.
+fn asked_of(c: &Fields, operation: &Operation) -> Option<String> {
+    let (name, record, rates) = (
+        name_of(operation),
+        record_of(operation),
+        rates_of(operation)?,
+    );
+    let mut weights: BTreeMap<u64, u64> = BTreeMap::new();
+    for (factor, weight) in returns(list_of(operation)) {
+        *weights.entry(factor).or_default() += weight;
+    }
+    let exact = |length: usize, needed: u64| length as u64 == needed;
+    let (wanted, whole) = match operation {
+        Operation::Value(v) => (0, exact(v.table.len(), c.table())),
+        Operation::ValueMap(v, map) => {
+            let whole = exact(v.table.len(), c.table()) && exact(map.len(), c.map());
+            (0, whole)
+        }
+        Operation::Fee { wanted, .. } => (*wanted, true),
+        Operation::ValueTable { table, .. } => (digest(table), true),
+        _ => return None,
+    };
+    let (work, needed) = stored_in(c, operation)?;
+    let behaviour = behaviour_of(operation);
+    let asked = format!("{name} {record:?} {weights:?} {rates:?} {behaviour:?} {wanted}");
+    (whole && exact(work.len(), needed)).then_some(asked)
+}
+
+/// How the returns of an accepted valuation stand and lead; where the same ones were asked for
+/// before in another list, also what a wrong grouping would give. Gives whether they were answered
+/// alike.
+fn count_grouped(
+    tally: &mut Tally,
+    asked: &mut Asked,
+    (c, operation): (&Fields, &Operation),
+    left: &[u16],
+    answer: &str,
+) -> bool {
+    let (name, list) = (name_of(operation), list_of(operation));
+    let Some(rates) = rates_of(operation) else {
+        return true;
+    };
+    if c.top <= MOST_COMPARED {
+        let holds = grouped_holds(c, list);
+        count_held(tally, &GROUPED, &holds, |how| with(name, how));
+    }
+    let Some(key) = asked_of(c, operation) else {
+        return true;
+    };
+    let (lists, first) = asked
+        .entry(key)
+        .or_insert_with(|| (Vec::new(), answer.to_string()));
+    if lists.iter().any(|other| other == list) {
+        return first == answer;
+    }
+    let sorted = |list: &[u8]| {
+        let mut returns = returns(list);
+        returns.sort_unstable();
+        returns
+    };
+    let orders = lists.iter().filter(|o| sorted(o) == sorted(list)).count() + 1;
+    let (how, is_first) = (AGAIN[usize::from(orders == 1)], lists.is_empty());
+    lists.push(list.to_vec());
+    if is_first {
+        return true;
+    }
+    let mut factors: Vec<u64> = sorted(list).iter().map(|r| r.0).collect();
+    factors.dedup();
+    let kind = (list.len() / 4, factors.len());
+    if EVERY_ORDER.contains(&kind) && orders == (1..=kind.0).product() {
+        count(tally, every_order(name, kind));
+    }
+    let deaths = DEATHS_OR_NONE[usize::from(rates.iter().any(|byte| *byte > 0))];
+    count(tally, again(name, how, deaths));
+    if let Some(behaviour) = behaviour_of(operation) {
+        count(tally, again(name, how, &format!("behaviour {behaviour}")));
+    }
+    if compared(c) {
+        count_misgrouped(tally, c, operation, left, answer);
+    }
+    first == answer
+}
+
+/// A search is looked at by the value at the fee found.
+fn count_misgrouped(
+    tally: &mut Tally,
+    c: &Fields,
+    operation: &Operation,
+    left: &[u16],
+    answer: &str,
+) {
+    let undrawn = vec![0; c.table() as usize];
+    let (c, left) = match (operation, figure_in(answer)) {
+        (Operation::Fee { .. }, Some(fee)) => (Fields { fee, ..*c }, &undrawn[..]),
+        _ => (*c, left),
+    };
+    let value = |version: Version| by_version(&c, operation, left, version).0;
+    let ruled = value(Version::Rules);
+    for (_, how) in MISGROUPED.iter().filter(|(v, _)| value(*v) != ruled) {
+        count(tally, misgrouped(name_of(operation), how));
+    }
+}
+
 const AT_TOP: &str = "book at an account of top";
 
 fn past_highest(name: &str) -> String {
@@ -1619,6 +1909,7 @@ fn wanted() -> Vec<(String, u64)> {
     wanted.extend(wanted_lifted());
     wanted.extend(wanted_deaths());
     wanted.extend(wanted_fees());
+    wanted.extend(wanted_grouped());
     wanted.extend(SOMEWHERE.map(|case| (case.to_string(), 1)));
     wanted
 }
@@ -1683,6 +1974,29 @@ fn wanted_fees() -> Vec<(String, u64)> {
     wanted
 }
 
+/// The cases of sums by account reached.
+fn wanted_grouped() -> Vec<(String, u64)> {
+    let mut wanted = Vec::new();
+    for name in ["value", "value_map", "value_table", "fee"] {
+        let kinds = GROUPED.map(|how| (with(name, how), LEAST_GROUPED));
+        wanted.extend(kinds);
+        let deaths = |how| DEATHS_OR_NONE.map(|deaths| (again(name, how, deaths), LEAST_AGAIN));
+        wanted.extend(AGAIN.into_iter().flat_map(deaths));
+        let wrong = MISGROUPED.map(|(_, how)| (misgrouped(name, how), LEAST_AGAIN));
+        wanted.extend(wrong);
+        wanted.push((every_order(name, EVERY_ORDER[0]), LEAST_GROUPED));
+    }
+    wanted.extend(["value", "value_table"].map(|name| (every_order(name, EVERY_ORDER[1]), 1)));
+    for (name, behaviour) in ["value", "value_map", "fee"]
+        .into_iter()
+        .flat_map(|name| [0, 1, 2].map(|b| (name, format!("behaviour {b}"))))
+    {
+        let cases = AGAIN.map(|how| (again(name, how, &behaviour), LEAST_GROUPED));
+        wanted.extend(cases);
+    }
+    wanted
+}
+
 /// How a line names its table, where it is the last one.
 fn count_table(tally: &mut Tally, line: &str) {
     if line.split(' ').any(|word| word == "=") {
@@ -1694,7 +2008,12 @@ fn count_table(tally: &mut Tally, line: &str) {
 }
 
 /// Takes a line in; gives what is wrong with it.
-fn take_line(tally: &mut Tally, session: &mut Session, line: &str) -> Option<String> {
+fn take_line(
+    tally: &mut Tally,
+    asked: &mut Asked,
+    session: &mut Session,
+    line: &str,
+) -> Option<String> {
     let read = session.operation(line);
     let answer = session.answer(line, false);
     let (Ok(operation), Ok(answer)) = (read, answer) else {
@@ -1714,19 +2033,25 @@ fn take_line(tally: &mut Tally, session: &mut Session, line: &str) -> Option<Str
         0 => count_accepted(tally, &c, &operation, session.table(), &answer),
         _ => count_refused(tally, &c, &operation, number, &answer),
     };
-    (!sound).then(|| "value, amounts or place are not those of the rules".to_string())
+    if !sound {
+        return Some("value, amounts or place are not those of the rules".to_string());
+    }
+    let valuation = (&c, &operation);
+    let alike = number > 0 || count_grouped(tally, asked, valuation, session.table(), &answer);
+    (!alike).then(|| "the same returns in another list were answered otherwise".to_string())
 }
 
 /// What was found, in words, and what lacks.
 pub fn cover(script: &str) -> (String, Vec<String>) {
     let mut session = Session::default();
     let mut tally = Tally::new();
+    let mut asked = Asked::new();
     let mut lacking = Vec::new();
     for (index, line) in script.lines().enumerate() {
         if line.is_empty() || line.starts_with('#') {
             continue;
         }
-        let wrong = take_line(&mut tally, &mut session, line);
+        let wrong = take_line(&mut tally, &mut asked, &mut session, line);
         lacking.extend(wrong.map(|what| format!("line {}: {what}", index + 1)));
     }
     let found = |case: &str| tally.get(case).copied().unwrap_or(0);

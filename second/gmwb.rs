@@ -1,4 +1,4 @@
-//! GMWB valuation: the rules of document 01 (01-scope.md), with requests (i) to (vi)
+//! GMWB valuation: the rules of document 01 (01-scope.md), with requests (i) to (vii)
 //! of document 02 (02-change-requests.md), written plainly.
 //!
 //! The parts follow document 01: units and records, one date, values, lent
@@ -328,6 +328,9 @@ fn value_with_death(rate: u64, value: u64, payment: u64) -> u64 {
 /// since what is drawn is not lifted; the first return as much. A death payment is at most
 /// 10,000 × top and the excess. So a value reached is at most 81 × 10,000 × 4,000 =
 /// 3,240,000,000 and the product 32.4 × 10^18, above 2^64.
+///
+/// The sum keeps the order of the list, where an engine adds the weights by account and excess
+/// first: "Every value and table is to equal those of the list order", and here is that order.
 fn discounted(
     c: &Contract,
     lists: &Lists,

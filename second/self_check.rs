@@ -1,15 +1,17 @@
 //! `second self-check`: the figures of document 01's section "Contracts worked by
 //! hand", penalty rates that fall by document 02's request (i), maps of surrender by its request
 //! (ii), payments of what a return lifts above top by its request (iv), payment at death by
-//! its request (v), the fee that gives a price by its request (vi), every refusal on both sides
-//! of its boundary, the order of the checks, what is left in the lent slices, whose entries are
-//! 64-bit by request (iii), and properties on random small contracts.
+//! its request (v), the fee that gives a price by its request (vi), sums by account reached by
+//! its request (vii), every refusal on both sides of its boundary, the order of the checks, what
+//! is left in the lent slices, whose entries are 64-bit by request (iii), and properties on random
+//! small contracts.
 //!
 //! The operations are only called from outside here, as an engine's caller would.
 
 use crate::script::{answer, digest, fill, Session, MOD_16, MOD_64, MOD_8};
 use crate::terms::{list, rate_list, Terms, P, P_RETURNS, Q};
 use crate::{gmwb, text};
+use std::collections::BTreeMap;
 use std::fmt::Debug;
 
 /// Counts the checks made and failed.
@@ -92,6 +94,7 @@ pub fn run() -> (u64, u64) {
     for k in 0..60 {
         random_fee(&mut t, &mut draw, k);
     }
+    sums_by_account(&mut t, &mut draw);
     (t.checks, t.failed)
 }
 
@@ -1802,6 +1805,127 @@ fn table_behind_search(t: &mut Tally) {
     t.same("a table of 4", table.len(), 4);
 }
 
+// ------------------------------------------------------ Sums by account reached
+
+fn sums_by_account(t: &mut Tally, draw: &mut Draw) {
+    for k in 0..2_000 {
+        any_list_grouped(t, draw, k);
+    }
+    let mut merged = [0; 2];
+    for k in 0..60 {
+        let joins = grouped_contract(t, draw, k);
+        for (count, joins) in merged.iter_mut().zip(joins) {
+            *count += u64::from(joins);
+        }
+    }
+    t.same("lists that join below top", merged[0] >= 30, true);
+    t.same("lists that join above top", merged[1] >= 10, true);
+}
+
+/// Up to 64 records of any bytes, accepted or not, or of few factors; over any values and any
+/// balance, with any rate: the grouped sum is that of the list.
+fn any_list_grouped(t: &mut Tally, draw: &mut Draw, k: u64) {
+    let terms = draw.terms();
+    let few = [5_000, 10_000, 15_000, 30_000, draw.upto(65_535) as u16];
+    let mut list: Vec<(u16, u16)> = Vec::new();
+    for _ in 0..draw.upto([3, 8, 64][k as usize % 3]) {
+        let factor = match draw.upto(2) {
+            0 => draw.upto(65_535) as u16,
+            _ => few[draw.upto(4) as usize],
+        };
+        list.push((factor, draw.upto(65_535) as u16));
+    }
+    let values: Vec<u64> = (0..terms.layer())
+        .map(|_| draw.upto(3_240_000_000 - 1))
+        .collect();
+    let rates = [draw.upto(10_000) as u16];
+    let reached = |at: &Arrival| reached_at(&rates, at);
+    let (top, premium) = (u64::from(terms.top), u64::from(terms.premium));
+    for balance in [0, 1, draw.upto(top), top] {
+        let from = (balance, draw.upto(premium));
+        let [by_list, grouped] = [discounted, discounted_by_account]
+            .map(|sum: Sum| sum(&terms, &list, (0, &values), from, &reached));
+        let name = format!("any list {k}: {terms:?} {list:?}, from {from:?}");
+        t.same(&name, grouped, by_list);
+    }
+}
+
+/// What a valuation of the second program, which sums by the list, gives and leaves: with the
+/// sums grouped; and with the list in another order, its equal factors split or joined. Gives
+/// whether some of the returns join from a balance, below top and above it.
+fn grouped_contract(t: &mut Tally, draw: &mut Draw, k: u64) -> [bool; 2] {
+    let terms = draw.under(1 + (k % 6) as u16, 1 + (k % 4) as u16);
+    let returns = draw.alike(1 + [2, 5, 12, 63][k as usize % 4]);
+    let rates = draw.rates(terms.dates);
+    let lists = (&returns[..], &rates[..]);
+    let name = format!("grouped {k}: {terms:?} {returns:?} {rates:?}");
+    let others = draw.other_lists(&returns);
+    let reached = |at: &Arrival| reached_at(&rates, at);
+    for behaviour in 0..3 {
+        let run = valued_with(&terms, &returns, &rates, behaviour);
+        let got = (run.0.value, &run.1[..terms.layer()], &run.2);
+        let sum = discounted_by_account;
+        let (value, values, amounts) =
+            valued_summed(&terms, &returns, behaviour as usize, sum, &reached);
+        t.same(&name, got, (value, &values[..], &amounts));
+        for (how, other) in &others {
+            let again = valued_with(&terms, other, &rates, behaviour);
+            t.same(&format!("{name}: {how} {other:?}"), &again, &run);
+        }
+    }
+    if k % 5 == 0 {
+        fees_of_others(t, &name, &terms, lists, &others);
+    }
+    let joins = |above: bool| {
+        let mut balances = 1..=u64::from(terms.top);
+        balances.any(|balance| {
+            let mut led: Vec<(u64, u64)> = returns
+                .iter()
+                .map(|(factor, _)| terms.reached(balance, *factor))
+                .filter(|(_, excess)| (*excess > 0) == above)
+                .collect();
+            let count = led.len();
+            led.sort_unstable();
+            led.dedup();
+            led.len() > 1 && led.len() < count
+        })
+    };
+    [joins(false), joins(true)]
+}
+
+/// The same for a map, a supplied table and searches for a fee.
+fn fees_of_others(
+    t: &mut Tally,
+    name: &str,
+    terms: &Terms,
+    (returns, rates): Lists,
+    others: &[(&str, Vec<(u16, u16)>)],
+) {
+    let words = (usize::from(terms.dates) - 1) * terms.layer();
+    let words = words.div_ceil(64);
+    for behaviour in 0..3 {
+        let mapped = mapped_with(terms, returns, rates, behaviour, words);
+        let table = &mapped.1 .2;
+        let supplied = |returns: &[(u16, u16)]| {
+            let mut work = filled_64(2 * terms.layer());
+            let (list, rates) = (list(returns), rate_list(rates));
+            let answer = gmwb::value_table(&terms.record(), &list, &rates, &mut work, table);
+            (answer, work)
+        };
+        let wanted = at_fee(terms, (returns, rates), behaviour, 40).value;
+        let found = searched(terms, (returns, rates), behaviour, wanted);
+        for (how, other) in others {
+            let name = format!("{name}: {how} {other:?}");
+            let again = mapped_with(terms, other, rates, behaviour, words);
+            t.same(&format!("{name}: map"), &again, &mapped);
+            let again = supplied(other);
+            t.same(&format!("{name}: supplied"), again, supplied(returns));
+            let again = searched(terms, (other, rates), behaviour, wanted);
+            t.same(&format!("{name}: fee"), &again, &found);
+        }
+    }
+}
+
 // --------------------------------------------------- Random small contracts
 
 /// A small generator of its own, the same on every run.
@@ -1855,6 +1979,67 @@ impl Draw {
         }
         returns.push((5_000 + self.upto(10_000) as u16, left));
         returns
+    }
+
+    /// `count` accepted returns, many of equal or near factors.
+    fn alike(&mut self, count: usize) -> Vec<(u16, u16)> {
+        let some = self.upto(30_000) as u16;
+        let mut left = 10_000;
+        let mut returns = Vec::new();
+        for behind in (0..count as u64).rev() {
+            let weight = match behind {
+                0 => left,
+                _ => 1 + self.upto((left - behind).min(2 * left / (behind + 1)) - 1),
+            };
+            left -= weight;
+            let factor = match self.upto(4) {
+                0 => some,
+                1 => [0, 10_000, 20_000, 30_000][self.upto(3) as usize],
+                2 => (some + self.upto(20) as u16).min(30_000),
+                _ => self.upto(30_000) as u16,
+            };
+            returns.push((factor, weight as u16));
+        }
+        returns
+    }
+
+    fn shuffled(&mut self, returns: &[(u16, u16)]) -> Vec<(u16, u16)> {
+        let mut shuffled = returns.to_vec();
+        for last in (1..shuffled.len()).rev() {
+            shuffled.swap(last, self.upto(last as u64) as usize);
+        }
+        shuffled
+    }
+
+    /// The same returns in other orders, with a return split in two of its factor, and with equal
+    /// factors joined.
+    fn other_lists(&mut self, returns: &[(u16, u16)]) -> [(&'static str, Vec<(u16, u16)>); 5] {
+        let mut rising = returns.to_vec();
+        rising.sort_unstable();
+        let falling = rising.iter().rev().copied().collect();
+        let mut split = rising.clone();
+        if let Some(place) = split
+            .iter()
+            .position(|r| r.1 > 1)
+            .filter(|_| split.len() < 64)
+        {
+            let (factor, weight) = split[place];
+            let part = 1 + self.upto(u64::from(weight) - 2) as u16;
+            split[place].1 = weight - part;
+            split.push((factor, part));
+        }
+        let mut joined: BTreeMap<u16, u16> = BTreeMap::new();
+        for (factor, weight) in returns {
+            *joined.entry(*factor).or_default() += weight;
+        }
+        let joined: Vec<(u16, u16)> = joined.into_iter().collect();
+        [
+            ("rising", rising),
+            ("falling", falling),
+            ("shuffled", self.shuffled(returns)),
+            ("split", self.shuffled(&split)),
+            ("joined", self.shuffled(&joined)),
+        ]
     }
 
     /// Accepted death rates, one per period.
@@ -2021,18 +2206,57 @@ fn reached_at(rates: &[u16], at: &Arrival) -> u128 {
     whole_value(mixed_at(rates[at.period], at.alive(), at.payment()))
 }
 
-/// The discounted sum over the returns of a period from a balance and a guarantee; `reached`
-/// says what is made of each arrival, times 10,000.
+/// A way to take the discounted sum over the returns of a period from a balance and a guarantee;
+/// the last function says what is made of each arrival, times 10,000.
+type Sum = fn(&Terms, &[(u16, u16)], (usize, &[u64]), (u64, u64), &dyn Fn(&Arrival) -> u128) -> u64;
+
+/// In the order of the list.
 fn discounted(
     terms: &Terms,
     returns: &[(u16, u16)],
-    (period, next): (usize, &[u64]),
+    next: (usize, &[u64]),
     (balance, guarantee): (u64, u64),
     reached: &dyn Fn(&Arrival) -> u128,
 ) -> u64 {
-    let mut sum = 0;
+    let led = returns
+        .iter()
+        .map(|(factor, weight)| (terms.reached(balance, *factor), u64::from(*weight)));
+    discounted_over(terms, led, next, guarantee, reached)
+}
+
+/// "Weights of returns that reach the same account and the same excess shall be added first, and
+/// the products summed account by account from the lowest, then by excess."
+fn discounted_by_account(
+    terms: &Terms,
+    returns: &[(u16, u16)],
+    next: (usize, &[u64]),
+    (balance, guarantee): (u64, u64),
+    reached: &dyn Fn(&Arrival) -> u128,
+) -> u64 {
+    let groups = groups(terms, returns, balance);
+    discounted_over(terms, groups.into_iter(), next, guarantee, reached)
+}
+
+/// The weights by account and excess.
+fn groups(terms: &Terms, returns: &[(u16, u16)], balance: u64) -> BTreeMap<(u64, u64), u64> {
+    let mut groups = BTreeMap::new();
     for (factor, weight) in returns {
-        let (account, excess) = terms.reached(balance, *factor);
+        let group = groups.entry(terms.reached(balance, *factor));
+        *group.or_default() += u64::from(*weight);
+    }
+    groups
+}
+
+/// Over accounts with their excess, each with its weight.
+fn discounted_over(
+    terms: &Terms,
+    led: impl Iterator<Item = ((u64, u64), u64)>,
+    (period, next): (usize, &[u64]),
+    guarantee: u64,
+    reached: &dyn Fn(&Arrival) -> u128,
+) -> u64 {
+    let mut sum = 0;
+    for ((account, excess), weight) in led {
         let arrival = Arrival {
             period,
             account,
@@ -2040,7 +2264,7 @@ fn discounted(
             excess,
             value: next[terms.entry(account, guarantee)],
         };
-        sum += u128::from(*weight) * reached(&arrival);
+        sum += u128::from(weight) * reached(&arrival);
     }
     (u128::from(terms.discount) * sum / 100_000_000_000_000) as u64
 }
@@ -2069,6 +2293,17 @@ fn valued_by(
     behaviour: usize,
     reached: &dyn Fn(&Arrival) -> u128,
 ) -> (u64, Vec<u64>, Vec<u16>) {
+    valued_summed(terms, returns, behaviour, discounted, reached)
+}
+
+/// The same, the sums taken by `sum`.
+fn valued_summed(
+    terms: &Terms,
+    returns: &[(u16, u16)],
+    behaviour: usize,
+    sum: Sum,
+    reached: &dyn Fn(&Arrival) -> u128,
+) -> (u64, Vec<u64>, Vec<u16>) {
     let states = terms.states();
     let mut values: Vec<u64> = states.iter().map(|(w, a)| 10_000 * w.max(a)).collect();
     let mut table = Vec::new();
@@ -2078,7 +2313,7 @@ fn valued_by(
                 let figures = terms.figures(date.into(), *w, *a, *amount);
                 let [cash, _, balance, guarantee] = figures;
                 let (next, from) = ((date.into(), &values[..]), (balance, guarantee));
-                cash + discounted(terms, returns, next, from, reached)
+                cash + sum(terms, returns, next, from, reached)
             };
             // The last of the largest, so the smallest amount where they go downwards.
             let amounts = open(terms, behaviour, *w, *a).into_iter().rev();
@@ -2090,7 +2325,7 @@ fn valued_by(
         table.splice(0..0, amounts);
     }
     let premium = u64::from(terms.premium);
-    let value = discounted(terms, returns, (0, &values), (premium, premium), reached);
+    let value = sum(terms, returns, (0, &values), (premium, premium), reached);
     (value, values, table)
 }
 

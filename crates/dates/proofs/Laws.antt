@@ -12,7 +12,7 @@ use borrow.Rule.Slice.PartMut.{midOf, putMid, mid-len}
 use Rattle.slices.specs.Stored.{stored, length-stored, stored-out}
 use Rattle.slices.specs.Rows.{cells, flat, flat-at, layer-stored, within-rows, rows-le, rows-before}
 use Rattle.slices.specs.Parts.{put-long, put-in, put-above}
-use Rattle.rules.specs.Contract.{Terms, Returns, Rates, returnsOf, ratesOf}
+use Rattle.rules.specs.Contract.{Terms, Returns, Rates, ratesOf}
 use Rattle.rules.specs.Date.{Behaviour}
 use Rattle.rules.specs.Product.{recordedAmount}
 use Rattle.rules.specs.FixedTerm.{rateIn, layerSize, fixedTerm}
@@ -38,7 +38,7 @@ unfolding layerSize
 first-end c h = omega arith
 
 -- ---- the shares of the next date's values, and the sums over them
-module _ {c : Terms} {i : ℕ} {work list rates : List ℕ} (d : OneDate c i work list rates) where
+module _ {c : Terms} {i : ℕ} {work : List ℕ} {rs : Returns} {rates : List ℕ} (d : OneDate c i work rs rates) where
   abbrev stride : ℕ
   stride = c .premium + 1
 
@@ -49,7 +49,7 @@ module _ {c : Terms} {i : ℕ} {work list rates : List ℕ} (d : OneDate c i wor
   shares = shared rate (cells work 0 stride)
 
   abbrev expects : ℕ → ℕ → ℕ
-  expects = expected c (returnsOf list) shares
+  expects = expected c rs shares
 
   valid : Valid c
   valid = d .given .valid .terms
@@ -91,10 +91,10 @@ module _ {c : Terms} {i : ℕ} {work list rates : List ℕ} (d : OneDate c i wor
     }
 
     module _ (work' : List ℕ)
-        (is : work' ≡ stored work₁ (layerSize c) (flat stride (scaled (expected c (returnsOf list) (cells work₁ 0 stride)))) (layerSize c))
+        (is : work' ≡ stored work₁ (layerSize c) (flat stride (scaled (expected c rs (cells work₁ 0 stride)))) (layerSize c))
       where
-        sums-shared : (w a : ℕ) → a ≤ c .premium → expected c (returnsOf list) (cells work₁ 0 stride) w a ≡ expects w a
-        sums-shared w a l = expected-same c (returnsOf list) _ _ w a (λ x h. cells-shared x a h l)
+        sums-shared : (w a : ℕ) → a ≤ c .premium → expected c rs (cells work₁ 0 stride) w a ≡ expects w a
+        sums-shared w a l = expected-same c rs _ _ w a (λ x h. cells-shared x a h l)
 
         cells-are : (w a : ℕ) → w ≤ c .top → a ≤ c .premium → cells work' (layerSize c) stride w a ≡ 8192 * expects w a
         unfolding layerSize
@@ -124,11 +124,11 @@ module _ {c : Terms} {i : ℕ} {work list rates : List ℕ} (d : OneDate c i wor
               cells-are w a (omega arith) (omega arith) ∙ ap (λ (x : ℕ). 8192 * x) (sym (sums-of w a (omega arith) (omega arith)));
           small = λ w a h k.
               rw (sums-of w a (omega arith) (omega arith) ∙ sym (sums-shared w a (omega arith)))
-              (expected-le c (returnsOf list) _ i w a valid (d .given .valid .returns) (omega arith) (λ x l.
+              (expected-le c rs _ i w a valid (d .given .valid .returns) (omega arith) (λ x l.
               shared-values .small x a l (omega arith)));
         }
 
-        pub summed : Summed c (returnsOf list) rate work work' (dateOf c i)
+        pub summed : Summed c rs rate work work' (dateOf c i)
         summed = record {
           long = long;
           layers = two-layers;
@@ -174,10 +174,10 @@ dated {b} {c} {rs} ds {i} {work} {table} {work₁} {work'} {table'} is s x =
     }
 
 -- ---- from one date to the date before it
-module _ {behaviour : ℕ} {c : Terms} {work₀ table₀ list rates work table : List ℕ} (s : Starting behaviour c work₀ list rates)
-    {i : ℕ} (v : Valued (behaviourOf behaviour) c (returnsOf list) (ratesOf rates) work₀ table₀ work table i)
+module _ {behaviour : ℕ} {c : Terms} {work₀ table₀ work table : List ℕ} {rs : Returns} {rates : List ℕ}
+    (s : Starting behaviour c work₀ rs rates) {i : ℕ} (v : Valued (behaviourOf behaviour) c rs (ratesOf rates) work₀ table₀ work table i)
   where
-    pub dating : i < c .dates → OneDate c i work list rates
+    pub dating : i < c .dates → OneDate c i work rs rates
     dating before = record {
       before = before;
       given = s .given;
@@ -185,14 +185,14 @@ module _ {behaviour : ℕ} {c : Terms} {work₀ table₀ list rates work table :
         layers = record { valid = s .given .valid .terms; room = omega (arith, s .room, v .long) };
         small = λ w a h k.
             le-trans (le-of-eq (v .values w a h k))
-            (subst (λ (n : ℕ). valuesOn c (returnsOf list) (ratesOf rates) (behaviourOf behaviour) (suc i) w a ≤ stateMost c n)
+            (subst (λ (n : ℕ). valuesOn c rs (ratesOf rates) (behaviourOf behaviour) (suc i) w a ≤ stateMost c n)
             (sym (add-one i))
-            (values-most c (returnsOf list) (ratesOf rates) (behaviourOf behaviour) (s .given .valid) (suc i) w a h k));
+            (values-most c rs (ratesOf rates) (behaviourOf behaviour) (s .given .valid) (suc i) w a h k));
       };
     }
 
     module _ {from to : ℕ} (p : LentLayer c i (length table) from to) (some : 0 < i) (before : i < c .dates) (work₁ part₁ : List ℕ)
-        (d : Dated (behaviourOf behaviour) c (returnsOf list) (ratesOf rates) i work (midOf from (to - from) table) work₁ part₁)
+        (d : Dated (behaviourOf behaviour) c rs (ratesOf rates) i work (midOf from (to - from) table) work₁ part₁)
       where
         starts : from ≤ to
         starts = omega (arith, p .start, p .end)
@@ -208,25 +208,25 @@ module _ {behaviour : ℕ} {c : Terms} {work₀ table₀ list rates work table :
 
         -- the sums are those of the next date's values
         sums-are : (x y : ℕ) → y ≤ c .premium
-            → expected c (returnsOf list) (shared (ratesOf rates i) (cells work 0 (c .premium + 1))) x y
-            ≡ expected c (returnsOf list)
-            (shared (ratesOf rates i) (valuesOn c (returnsOf list) (ratesOf rates) (behaviourOf behaviour) (suc i))) x y
-        sums-are x y k = shared-same c (returnsOf list) (ratesOf rates i) _ _ x y (λ w h. v .values w y h k)
+            → expected c rs (shared (ratesOf rates i) (cells work 0 (c .premium + 1))) x y
+            ≡ expected c rs
+            (shared (ratesOf rates i) (valuesOn c rs (ratesOf rates) (behaviourOf behaviour) (suc i))) x y
+        sums-are x y k = shared-same c rs (ratesOf rates i) _ _ x y (λ w h. v .values w y h k)
 
         value-is : (w a : ℕ) → w ≤ c .top → a ≤ c .premium
-            → cells work₁ 0 (c .premium + 1) w a ≡ valuesOn c (returnsOf list) (ratesOf rates) (behaviourOf behaviour) i w a
+            → cells work₁ 0 (c .premium + 1) w a ≡ valuesOn c rs (ratesOf rates) (behaviourOf behaviour) i w a
         value-is w a h k =
             d .values w a h k
             ∙ value-same (behaviourOf behaviour) _ _ (rateIn c i) (c .level) w a (λ x y p q. sums-are x y (le-trans q k))
-            ∙ value-back c (returnsOf list) (ratesOf rates) (behaviourOf behaviour) i w a (s .given .valid .rates .rate i) before
+            ∙ value-back c rs (ratesOf rates) (behaviourOf behaviour) i w a (s .given .valid .rates .rate i) before
 
         amount-is : (w a : ℕ) → w ≤ c .top → a ≤ c .premium → w * (c .premium + 1) + a < to - from
             → cells part₁ 0 (c .premium + 1) w a
-            ≡ recordedAmount (fixedTerm c (returnsOf list) (ratesOf rates)) (behaviourOf behaviour) i (at w a)
+            ≡ recordedAmount (fixedTerm c rs (ratesOf rates)) (behaviourOf behaviour) i (at w a)
         amount-is w a h k l =
             d .amounts w a h k (omega (arith, mid-len from to table ends))
             ∙ amount-same (behaviourOf behaviour) _ _ (rateIn c i) (c .level) w a (λ x y p q. sums-are x y (le-trans q k))
-            ∙ amount-back c (returnsOf list) (ratesOf rates) (behaviourOf behaviour) i w a (s .given .valid .rates .rate i)
+            ∙ amount-back c rs (ratesOf rates) (behaviourOf behaviour) i w a (s .given .valid .rates .rate i)
 
         -- entries behind the layer
         behind : (x n : ℕ) → i ≤ n → n * layerSize c ≤ x → getD (putMid from (to - from) table part₁) x 0 ≡ getD table x 0
@@ -238,7 +238,7 @@ module _ {behaviour : ℕ} {c : Terms} {work₀ table₀ list rates work table :
         amount-at : (j w a : ℕ) → j < c .dates → w ≤ c .top → a ≤ c .premium → Dec (i + 1 ≤ j) → i ≤ j
             → (j - 1) * layerSize c + (w * (c .premium + 1) + a) < length table
             → getD (putMid from (to - from) table part₁) ((j - 1) * layerSize c + (w * (c .premium + 1) + a)) 0
-            ≡ recordedAmount (fixedTerm c (returnsOf list) (ratesOf rates)) (behaviourOf behaviour) j (at w a)
+            ≡ recordedAmount (fixedTerm c rs (ratesOf rates)) (behaviourOf behaviour) j (at w a)
         amount-at j w a q h k (yes y) m room =
             behind _ (j - 1) (omega arith) (omega arith) ∙ v .amounts j w a (omega arith) q h k (omega (arith, v .long-table))
         amount-at j w a q h k (no y) m room =
@@ -251,33 +251,33 @@ module _ {behaviour : ℕ} {c : Terms} {work₀ table₀ list rates work table :
             ∙ put-in from to table part₁ starts ends part-long (w * (c .premium + 1) + a) inside
             ∙ ap (λ (x : ℕ). getD part₁ x 0) (sym (zero-add (w * (c .premium + 1) + a)))
             ∙ amount-is w a h k inside
-            ∙ ap (λ (n : ℕ). recordedAmount (fixedTerm c (returnsOf list) (ratesOf rates)) (behaviourOf behaviour) n (at w a)) (sym e)
+            ∙ ap (λ (n : ℕ). recordedAmount (fixedTerm c rs (ratesOf rates)) (behaviourOf behaviour) n (at w a)) (sym e)
 
         pub valued-before :
-            Valued (behaviourOf behaviour) c (returnsOf list) (ratesOf rates) work₀ table₀ work₁ (putMid from (to - from) table part₁)
+            Valued (behaviourOf behaviour) c rs (ratesOf rates) work₀ table₀ work₁ (putMid from (to - from) table part₁)
             (i - 1)
         valued-before = record {
           long = d .long ∙ v .long;
           long-table = put-long from to table part₁ starts ends part-long ∙ v .long-table;
           values = λ w a h k. value-is w a h k
-              ∙ ap (λ (n : ℕ). valuesOn c (returnsOf list) (ratesOf rates) (behaviourOf behaviour) n w a) (sym up);
+              ∙ ap (λ (n : ℕ). valuesOn c rs (ratesOf rates) (behaviourOf behaviour) n w a) (sym up);
           amounts = λ j w a p q h k room. amount-at j w a q h k (decLe (i + 1) j) (omega arith) (omega (arith, v .long-table));
           rest = λ x h. d .rest x h ∙ v .rest x h;
           rest-table = λ x h. behind x (c .dates - 1) (omega arith) h ∙ v .rest-table x h;
         }
 
 -- before the first of them, the last date is valued
-pub valued-none : {behaviour : ℕ} {c : Terms} {work table list rates : List ℕ} → Starting behaviour c work list rates
-    → Valued (behaviourOf behaviour) c (returnsOf list) (ratesOf rates) work table work table (c .dates - 1)
-valued-none {behaviour} {c} {work} {table} {list} {rates} s =
+pub valued-none : {behaviour : ℕ} {c : Terms} {work table : List ℕ} {rs : Returns} {rates : List ℕ} → Starting behaviour c work rs rates
+    → Valued (behaviourOf behaviour) c rs (ratesOf rates) work table work table (c .dates - 1)
+valued-none {behaviour} {c} {work} {table} {rs} {rates} s =
     let last : suc (c .dates - 1) ≡ c .dates = omega (arith, s .given .valid .terms .dates-least) in
     record {
       long = refl;
       long-table = refl;
       values = λ w a h k.
           s .mature w a h k
-          ∙ sym (maturity-is c (returnsOf list) (ratesOf rates) (behaviourOf behaviour) w a)
-          ∙ ap (λ (n : ℕ). valuesOn c (returnsOf list) (ratesOf rates) (behaviourOf behaviour) n w a) (sym last);
+          ∙ sym (maturity-is c rs (ratesOf rates) (behaviourOf behaviour) w a)
+          ∙ ap (λ (n : ℕ). valuesOn c rs (ratesOf rates) (behaviourOf behaviour) n w a) (sym last);
       amounts = λ j w a p q h k room. absurd (omega arith);
       rest = λ x h. refl;
       rest-table = λ x h. refl;

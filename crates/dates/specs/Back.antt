@@ -3,19 +3,19 @@ use mathlib.Core.List.{List}
 use mathlib.Core.Path.{_≡_, sym, _∙_}
 use Prim.Native.Nat.{ℕ, suc, _+_, _-_, _*_, _≤_, _<_}
 use lib.ListN.{length, getD}
-use Rattle.decision.specs.Process.{reached, worth, recorded}
+use Rattle.decision.specs.Process.{worth, recorded}
 use Rattle.decision.specs.Optimal.{value-step, value-last}
 use Rattle.slices.specs.Rows.{cells}
 use Rattle.rules.specs.Contract.{Terms, Returns, Rates, rateMost}
-use Rattle.rules.specs.Date.{Behaviour, nextAccount, excess, excessPaid, maturityValue}
+use Rattle.rules.specs.Date.{Behaviour, maturityValue}
 use Rattle.rules.specs.Product.{stateValue, recordedAmount}
 use Rattle.laws.specs.Accepted.{ValidInput}
 use Rattle.laws.specs.Date.{share-excess, shared}
-use Rattle.laws.specs.FixedTerm.{mean-same}
+use Rattle.laws.specs.ByList.{mean-by-account-same}
 use Rattle.laws.specs.Bounds.{stateMost, state-value-le}
-use Rattle.rules.specs.FixedTerm.{State, Held, freeIn, admissibleIn, limitIn, rateIn, cashIn, afterIn, reachBy, paidBy, deathBy, expectOver}
+use Rattle.rules.specs.FixedTerm.{State, freeIn, admissibleIn, limitIn, rateIn, cashIn, afterIn, valueWith, meanOver}
 use Rattle.rules.specs.FixedTerm.{processOf, layerSize, fixedTerm}
-use Rattle.contract.specs.Accepted.{Given}
+use Rattle.returns.specs.Sorted.{OrderedInput}
 use Rattle.expect.specs.Expected.{expected}
 use Rattle.worth.specs.Worth.{worthOver, bestValue, bestAmount, value-same, amount-same}
 
@@ -28,17 +28,14 @@ valuesOn c rs ds b i w a = stateValue (fixedTerm c rs ds) b i (at w a)
 
 -- the discounted sum of the rules, over values v of the next date
 abbrev pub expectedOn : Terms → Returns → Rates → ℕ → (State → ℕ) → ℕ → ℕ → ℕ
-expectedOn c rs ds i v balance a =
-    let h : Held = record { balance = balance; guarantee = a } in expectOver c rs ds i h (reached (processOf c rs ds) v h)
+expectedOn c rs ds i v balance a = meanOver c rs ds i (record { balance = balance; guarantee = a }) v
 
--- SHARED ONCE: the share of every value that a return reaches is the excess and the share of the state's value, so the sum is one
--- over states that were shared before
+-- SHARED ONCE: the share of a value that is reached is the excess and the share of the state's value, so the sum is one over states
+-- that were shared before
 pub shared-expects : (c : Terms) (rs : Returns) (ds : Rates) (i : ℕ) (v : State → ℕ) (balance a : ℕ) → ds i ≤ rateMost
     → expectedOn c rs ds i v balance a ≡ expected c rs (shared (ds i) (λ (x y : ℕ). v (at x y))) balance a
-unfolding expectOver reached processOf reachBy paidBy deathBy excessPaid expected
-shared-expects c rs ds i v balance a small =
-    mean-same c rs (λ k l.
-    share-excess (ds i) (nextAccount (c .fee) (c .top) balance (rs .factor k)) a (excess (c .fee) (c .top) balance (rs .factor k)) _ small)
+unfolding meanOver valueWith expected
+shared-expects c rs ds i v balance a small = mean-by-account-same c rs balance (λ w over l. share-excess (ds i) w a over (v (at w a)) small)
 
 pub value-back : (c : Terms) (rs : Returns) (ds : Rates) (b : Behaviour) (i w a : ℕ) → ds i ≤ rateMost → i < c .dates
     → bestValue b (expected c rs (shared (ds i) (valuesOn c rs ds b (suc i)))) (rateIn c i) (c .level) w a ≡ valuesOn c rs ds b i w a
@@ -76,8 +73,8 @@ pub record Valued (b : Behaviour) (c : Terms) (rs : Returns) (ds : Rates) (work 
   pub rest : (x : ℕ) → layerSize c + layerSize c ≤ x → getD work' x 0 ≡ getD work x 0
   pub rest-table : (x : ℕ) → (c .dates - 1) * layerSize c ≤ x → getD table' x 0 ≡ getD table x 0
 
-pub record Starting (behaviour : ℕ) (c : Terms) (work list rates : List ℕ) : Type 0 where
+pub record Starting (behaviour : ℕ) (c : Terms) (work : List ℕ) (rs : Returns) (rates : List ℕ) : Type 0 where
   pub known : behaviour ≤ 2
-  pub given : Given c list rates
+  pub given : OrderedInput c rs rates
   pub room : layerSize c + layerSize c ≤ length work
   pub mature : (w a : ℕ) → w ≤ c .top → a ≤ c .premium → cells work 0 (c .premium + 1) w a ≡ maturityValue w a

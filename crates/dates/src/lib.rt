@@ -4,10 +4,11 @@ ghost use Prim.Native.Nat.{ℕ, _+_, _-_, _*_, _≤_, _<_};
 ghost use lib.ListN.{length};
 ghost use Rattle.slices.specs.Stored.{stored};
 ghost use Rattle.slices.specs.Rows.{flat};
-ghost use Rattle.rules.specs.Contract.{topMost, returnsOf, ratesOf};
+ghost use Rattle.rules.specs.Contract.{topMost, ratesOf};
 ghost use Rattle.rules.specs.Date.{maturityValue};
 ghost use Rattle.rules.specs.Operations.{behaviourOf};
 ghost use Rattle.contract.specs.Reading.{termsIn};
+ghost use Rattle.returns.specs.Sorted.{inOrder};
 ghost use Rattle.dates.specs.Dated.{OneDate, dateOf, Summed, Dated};
 ghost use Rattle.dates.specs.Back.{Valued, Starting};
 ghost use Rattle.dates.specs.Layer.{DateLayer, LentLayer};
@@ -46,17 +47,17 @@ pub fn clear(work: &mut [u64], from: usize, n: usize)
 
 // The discounted sums of date i, in the second layer, over the next date's values, each with its share at death. Gives where they
 // stand, with the date's terms.
-pub fn sum_date(work: &mut [u64], list: &[u8], rates: &[u8], c: Contract, i: usize) -> Date
-    requires { ⌜ OneDate (termsIn c) i (now work) (now list) (now rates) ⌝ }
+pub fn sum_date(work: &mut [u64], order: &[u32], rates: &[u8], c: Contract, i: usize) -> Date
+    requires { ⌜ OneDate (termsIn c) i (now work) (inOrder (now order)) (now rates) ⌝ }
     ensures { λ r. ⌜
         (r ≡ dateOf (termsIn c) i)
-        × Summed (termsIn c) (returnsOf (now (list .entry))) (ratesOf (now (rates .entry)) i) (now (work .entry))
+        × Summed (termsIn c) (inOrder (now (order .entry))) (ratesOf (now (rates .entry)) i) (now (work .entry))
         (now (work .exit)) r
         ⌝ }
 {
     let stride = c.premium + 1;
     death::share_layer(work, contract::rate_of(rates, i), stride, c.top + 1);
-    expect::expect_layer(work, list, contract::returns_in(list), c, i);
+    expect::expect_layer(work, order, c, i);
     Date {
         base: c.layer_size(),
         stride,
@@ -70,18 +71,18 @@ fn one_date(
     behaviour: usize,
     work: &mut [u64],
     table: &mut [u16],
-    list: &[u8],
+    order: &[u32],
     rates: &[u8],
     c: Contract,
     i: usize,
 )
-    requires { ⌜ (behaviour ≤ 2) × OneDate (termsIn c) i (now work) (now list) (now rates) ⌝ }
+    requires { ⌜ (behaviour ≤ 2) × OneDate (termsIn c) i (now work) (inOrder (now order)) (now rates) ⌝ }
     ensures { λ _. ⌜
-        Dated (behaviourOf behaviour) (termsIn c) (returnsOf (now (list .entry))) (ratesOf (now (rates .entry))) i
+        Dated (behaviourOf behaviour) (termsIn c) (inOrder (now (order .entry))) (ratesOf (now (rates .entry))) i
         (now (work .entry)) (now (table .entry)) (now (work .exit)) (now (table .exit))
         ⌝ }
 {
-    let d = sum_date(work, list, rates, c, i);
+    let d = sum_date(work, order, rates, c, i);
     states::decide_layer(behaviour, work, table, d, c.top + 1);
 }
 
@@ -121,13 +122,13 @@ pub fn all_dates(
     behaviour: usize,
     work: &mut [u64],
     table: &mut [u16],
-    list: &[u8],
+    order: &[u32],
     rates: &[u8],
     c: Contract,
 )
-    requires { ⌜ Starting behaviour (termsIn c) (now work) (now list) (now rates) ⌝ }
+    requires { ⌜ Starting behaviour (termsIn c) (now work) (inOrder (now order)) (now rates) ⌝ }
     ensures { λ _. ⌜
-        Valued (behaviourOf behaviour) (termsIn c) (returnsOf (now (list .entry))) (ratesOf (now (rates .entry)))
+        Valued (behaviourOf behaviour) (termsIn c) (inOrder (now (order .entry))) (ratesOf (now (rates .entry)))
         (now (work .entry)) (now (table .entry)) (now (work .exit)) (now (table .exit)) 0
         ⌝ }
 {
@@ -136,7 +137,7 @@ pub fn all_dates(
         let part = lent_layer(c, i, table.len());
         let from = part.from;
         let to = part.to;
-        one_date(behaviour, work, &mut table[from..to], list, rates, c, i);
+        one_date(behaviour, work, &mut table[from..to], order, rates, c, i);
         i -= 1;
     }
 }

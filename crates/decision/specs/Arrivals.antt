@@ -1,11 +1,11 @@
 -- A process that pays otherwise on arrival, but the same wherever it comes, has the same values, amounts and states met.
 -- Assumes nothing.
 use mathlib.Core.List.{List, [], _∷_}
-use mathlib.Core.Path.{_≡_, refl, ap, ap₂}
+use mathlib.Core.Path.{_≡_, refl, ap, ap₂, _∙_}
 use Prim.Native.Nat.{ℕ, zero, suc, _+_, _<_}
 use Rattle.decision.specs.Choice.{largest-eq, smallestBest-eq}
 use Rattle.decision.specs.Process.{Process, Rule, Table, reached, worth, valueOver, tableOver, left, value, recorded}
-use Rattle.decision.specs.Process.{tableValue, startValue, startTableValue, met, startMet, Monotone}
+use Rattle.decision.specs.Process.{tableValue, startValue, startTableValue, met, startMet, Averaging}
 use Rattle.decision.specs.Optimal.{expect-eq}
 
 -- the process that pays otherwise on arrival and is the same in all else
@@ -20,6 +20,7 @@ arriving pays P = record {
   reach = P .reach;
   paid = pays;
   expect = P .expect;
+  mean = λ i h v. P .expect i h (λ k. pays h k + v (P .reach h k));
   final = P .final;
 }
 
@@ -30,21 +31,21 @@ pub record Alike {S H : Type 0} (P : Process S H) (pays : H → ℕ → ℕ) (In
   pub stays : (h : H) (k : ℕ) → k < P .returns → Holds h → InRange (P .reach h k)
   pub same : (h : H) (k : ℕ) → k < P .returns → Holds h → P .paid h k ≡ pays h k
 
-module _ {S H : Type 0} (P : Process S H) (mono : Monotone P) (pays : H → ℕ → ℕ) {InRange : S → Type 0} {Holds : H → Type 0}
+module _ {S H : Type 0} (P : Process S H) (av : Averaging P) (pays : H → ℕ → ℕ) {InRange : S → Type 0} {Holds : H → Type 0}
     (a : Alike P pays InRange Holds)
   where
     abbrev Q : Process S H
     Q = arriving pays P
 
-    expect-same : (v w : S → ℕ) → ((s : S) → InRange s → v s ≡ w s) → (i : ℕ) (h : H) → Holds h
-        → P .expect i h (reached P v h) ≡ P .expect i h (reached Q w h)
+    mean-same : (v w : S → ℕ) → ((s : S) → InRange s → v s ≡ w s) → (i : ℕ) (h : H) → Holds h → P .mean i h v ≡ Q .mean i h w
     unfolding reached
-    expect-same v w e i h g = expect-eq P mono i h _ _ (λ k l. ap₂ _+_ (a .same h k l g) (e _ (a .stays h k l g)))
+    mean-same v w e i h g =
+        av .listed i h v ∙ expect-eq P av i h _ _ (λ k l. ap₂ _+_ (a .same h k l g) (e _ (a .stays h k l g)))
 
     worth-same : (v w : S → ℕ) → ((s : S) → InRange s → v s ≡ w s) → (i : ℕ) (s : S) (t : ℕ) → InRange s
         → worth P v i s t ≡ worth Q w i s t
     unfolding worth
-    worth-same v w e i s t g = ap (λ (x : ℕ). P .cash i s t + x) (expect-same v w e i _ (a .holds i s t g))
+    worth-same v w e i s t g = ap (λ (x : ℕ). P .cash i s t + x) (mean-same v w e i _ (a .holds i s t g))
 
     -- ---- values and amounts
     over-same : (r : Rule S) (n i : ℕ) (s : S) → InRange s → valueOver P r n i s ≡ valueOver Q r n i s
@@ -62,7 +63,7 @@ module _ {S H : Type 0} (P : Process S H) (mono : Monotone P) (pays : H → ℕ 
 
     pub start-same : (r : Rule S) → startValue P r ≡ startValue Q r
     unfolding startValue
-    start-same r = expect-same _ _ (value-same r 1) 0 (P .start) (a .starts)
+    start-same r = mean-same _ _ (value-same r 1) 0 (P .start) (a .starts)
 
     -- ---- a table
     table-over-same : (d : Table S) (n i : ℕ) (s : S) → InRange s → tableOver P d n i s ≡ tableOver Q d n i s
@@ -76,7 +77,7 @@ module _ {S H : Type 0} (P : Process S H) (mono : Monotone P) (pays : H → ℕ 
 
     pub start-table-same : (d : Table S) → startTableValue P d ≡ startTableValue Q d
     unfolding startTableValue
-    start-table-same d = expect-same _ _ (table-same d 1) 0 (P .start) (a .starts)
+    start-table-same d = mean-same _ _ (table-same d 1) 0 (P .start) (a .starts)
 
 -- ---- the states met do not depend on what is paid
 module _ {S H : Type 0} (P : Process S H) (pays : H → ℕ → ℕ) (d : Table S) where

@@ -1,5 +1,5 @@
 -- How large a value can be: the largest final value, and for each decision to come the most that it pays, with what is paid on
--- arrival after it. What is expected of values is at most what none of them passes, if that is no less than a final value with what
+-- arrival after it. The mean of values is at most what none of them passes, if that is no less than a final value with what
 -- is paid on arrival. Assumes nothing.
 use mathlib.Core.Path.{_≡_, sym}
 use Prim.Native.Nat.{ℕ, zero, suc, _+_, _-_, _*_, _≤_, _<_}
@@ -15,8 +15,8 @@ module _ {S H : Type 0} (P : Process S H) (r : Rule S) (o : Open P r) (InRange :
     (some : 0 < P .returns)
     (arrives : (i : ℕ) (s : S) (t k : ℕ) → InRange s → T (r s t) → k < P .returns → P .cash i s t + P .paid (P .after i s t) k ≤ C)
     (starts : (k : ℕ) → k < P .returns → P .paid (P .start) k ≤ C)
-    (averages : (i : ℕ) (h : H) (v : ℕ → ℕ) (x : ℕ) → ((k : ℕ) → k < P .returns → InRange (P .reach h k))
-    → ((k : ℕ) → k < P .returns → P .paid h k + B ≤ x) → ((k : ℕ) → k < P .returns → v k ≤ x) → P .expect i h v ≤ x)
+    (averages : (i : ℕ) (h : H) (v : S → ℕ) (x : ℕ) → ((k : ℕ) → k < P .returns → InRange (P .reach h k))
+    → ((k : ℕ) → k < P .returns → P .paid h k + B ≤ x) → ((k : ℕ) → k < P .returns → reached P v h k ≤ x) → P .mean i h v ≤ x)
   where
     -- a choice whose values reached are bounded
     worth-bounded : (v : S → ℕ) (x i : ℕ) (s : S) (t : ℕ) → B ≤ x → InRange s → T (r s t)
@@ -24,7 +24,7 @@ module _ {S H : Type 0} (P : Process S H) (r : Rule S) (o : Open P r) (InRange :
     unfolding worth reached
     worth-bounded v x i s t b g a h =
         let most = arrives i s t 0 g a some in
-        let mean = averages i (P .after i s t) (reached P v (P .after i s t)) (x + C - P .cash i s t) (λ k l. c .stays i s t k g a l)
+        let mean = averages i (P .after i s t) v (x + C - P .cash i s t) (λ k l. c .stays i s t k g a l)
         (λ k l. let y = arrives i s t k g a l in omega arith)
         (λ k l. let y = arrives i s t k g a l in let z = h k l in omega arith) in
         omega arith

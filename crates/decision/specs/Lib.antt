@@ -5,6 +5,7 @@ pub mod Bits
 pub mod Choice
 pub mod Process
 pub mod Optimal
+pub mod Means
 pub mod Layers
 pub mod Bounds
 pub mod Arrivals

@@ -10,7 +10,7 @@ use lib.ListN.{length, length-append}
 use Rattle.decision.specs.Choice.{largest, smallestBest, le-largest, Best, best-is, best-unique}
 use Rattle.decision.specs.Process.{Process, Rule, Strategy, Table, reached, worth, valueOver, tableOver, left, value}
 use Rattle.decision.specs.Process.{recorded, tableValue, startValue, startTableValue, earnedOver, KeepsOver, earned, Keeps}
-use Rattle.decision.specs.Process.{startEarned, StartKeeps, met, startMet, follow, startFollow, Decides, Attained, Monotone}
+use Rattle.decision.specs.Process.{startEarned, StartKeeps, met, startMet, follow, startFollow, Decides, Attained, Averaging}
 use Rattle.decision.specs.Process.{Open, Closed}
 
 module _ {S H : Type 0} (P : Process S H) where
@@ -19,7 +19,8 @@ module _ {S H : Type 0} (P : Process S H) where
   unfolding value valueOver
   value-last r s = rw (sub-self (P .dates))
 
-  pub value-step : (r : Rule S) (i : ℕ) (s : S) → i < P .dates → value P r i s ≡ largest (r s) (worth P (value P r (suc i)) i s) (P .limit s)
+  pub value-step : (r : Rule S) (i : ℕ) (s : S) → i < P .dates
+      → value P r i s ≡ largest (r s) (worth P (value P r (suc i)) i s) (P .limit s)
   unfolding value valueOver
   value-step r i s l = let e : left P i ≡ suc (left P (suc i)) = omega arith in rw e
 
@@ -76,13 +77,26 @@ module _ {S H : Type 0} (P : Process S H) where
     startMet-steps i k [] l e = absurd (omega arith)
     startMet-steps i k (x ∷ p) l e = met-step 1 _ i k p (omega arith)
 
-  module _ (mono : Monotone P) where
+  module _ (av : Averaging P) where
+    -- ---- what is expected and the mean, by the values reached
     pub expect-eq : (i : ℕ) (h : H) (v w : ℕ → ℕ) → ((k : ℕ) → k < P .returns → v k ≡ w k) → P .expect i h v ≡ P .expect i h w
-    expect-eq i h v w e = le-antisymm (mono i h v w (λ k l. le-of-eq (e k l))) (mono i h w v (λ k l. le-of-eq (sym (e k l))))
+    expect-eq i h v w e = le-antisymm (av .rises i h v w (λ k l. le-of-eq (e k l))) (av .rises i h w v (λ k l. le-of-eq (sym (e k l))))
+
+    expect-mean : (i : ℕ) (h : H) (x : ℕ → ℕ) (v : S → ℕ) → ((k : ℕ) → k < P .returns → x k ≤ reached P v h k)
+        → P .expect i h x ≤ P .mean i h v
+    expect-mean i h x v l = le-trans (av .rises i h x _ l) (le-of-eq (sym (av .listed i h v)))
+
+    mean-le : (i : ℕ) (h : H) (v w : S → ℕ) → ((k : ℕ) → k < P .returns → v (P .reach h k) ≤ w (P .reach h k))
+        → P .mean i h v ≤ P .mean i h w
+    mean-le i h v w l = le-trans (le-of-eq (av .listed i h v)) (expect-mean i h _ w (λ k m. reached-le v w h k (l k m)))
+
+    mean-eq : (i : ℕ) (h : H) (v w : S → ℕ) → ((k : ℕ) → k < P .returns → v (P .reach h k) ≡ w (P .reach h k))
+        → P .mean i h v ≡ P .mean i h w
+    mean-eq i h v w e = le-antisymm (mean-le i h v w (λ k l. le-of-eq (e k l))) (mean-le i h w v (λ k l. le-of-eq (sym (e k l))))
 
     worth-le : (v w : S → ℕ) (i : ℕ) (s : S) (t : ℕ) → ((x : S) → v x ≤ w x) → worth P v i s t ≤ worth P w i s t
     unfolding worth
-    worth-le v w i s t h = add-le-add (le-refl _) (mono i _ _ _ (λ k l. reached-le v w _ k (h _)))
+    worth-le v w i s t h = add-le-add (le-refl _) (mean-le i _ v w (λ k l. h _))
 
     -- ---- no strategy earns more
     earned-most : (r : Rule S) → Open P r → (σ : Strategy) (n i : ℕ) (p : List ℕ) (s : S)
@@ -91,7 +105,8 @@ module _ {S H : Type 0} (P : Process S H) where
     earned-most r o σ zero i p s k = le-refl _
     earned-most r o σ (suc n) i p s k =
         le-trans
-        (add-le-add (le-refl _) (mono i _ _ _ (λ j l. reached-le _ _ _ j (earned-most r o σ n (suc i) (p ++ (j ∷ [])) _ (k .1 j l)))))
+        (add-le-add (le-refl _)
+        (expect-mean i _ _ _ (λ j l. reached-le _ _ _ j (earned-most r o σ n (suc i) (p ++ (j ∷ [])) _ (k .1 j l)))))
         (le-largest (r s) (worth P (λ x. valueOver P r n (suc i) x) i s) (P .limit s) (σ i p) (o .within s _ (k .0)) (k .0))
 
     -- ---- what admits more is never worth less
@@ -114,7 +129,7 @@ module _ {S H : Type 0} (P : Process S H) where
 
       pub start-wider : startValue P a ≤ startValue P b
       unfolding startValue
-      start-wider = mono 0 _ _ _ (λ k l. reached-le (value P a 1) (value P b 1) _ k (wider 1 _))
+      start-wider = mean-le 0 _ _ _ (λ k l. wider 1 _)
 
     -- ---- to follow a table earns the table's value and keeps to a rule that its entries keep to
     module _ (d : Table S) where
@@ -125,15 +140,18 @@ module _ {S H : Type 0} (P : Process S H) where
       earns b at steps (suc n) i p s l e m =
           ap (λ (x : S). P .cash i s (d i x) + P .expect i (P .after i s (d i x)) (λ k.
           reached P (earnedOver P (λ j q. d j (at q)) n (suc i) (p ++ (k ∷ []))) (P .after i s (d i x)) k)) m
-          ∙ ap (λ (x : ℕ). P .cash i s (d i s) + x) (expect-eq i _ _ _ (λ k f. reached-eq _ _ _ k
+          ∙ ap (λ (x : ℕ). P .cash i s (d i s) + x)
+          (expect-eq i _ _ _ (λ k f. reached-eq _ _ _ k
           (earns b at steps n (suc i) (p ++ (k ∷ [])) _ (omega arith) (simp length-append (omega arith))
-          (steps i k p l e ∙ ap (λ (x : S). P .reach (P .after i x (d i x)) k) m))))
+          (steps i k p l e ∙ ap (λ (x : S). P .reach (P .after i x (d i x)) k) m)))
+          ∙ sym (av .listed i _ _))
 
       pub start-table-earned : startEarned P (startFollow P d) ≡ startTableValue P d
       unfolding startEarned startFollow startTableValue tableValue startMet met
       start-table-earned =
           expect-eq 0 _ _ _ (λ k l. reached-eq _ _ _ k
           (earns 0 (startMet P d) (startMet-steps d) (left P 1) 1 (k ∷ []) _ (le-refl 1) refl refl))
+          ∙ sym (av .listed 0 _ _)
 
       pub table-earned : (i : ℕ) (s : S) → 1 ≤ i → earned P (follow P d i s) i s ≡ tableValue P d i s
       unfolding earned follow tableValue met
@@ -150,8 +168,8 @@ module _ {S H : Type 0} (P : Process S H) where
               let a = admits i s (record { from = l; before = omega arith; range = g }) in
               let t : T (r s (d i (at p))) = subst (λ (x : S). T (r s (d i x))) (sym m) a in (
                 t,
-                λ k f. keeps b at steps n (suc i) (p ++ (k ∷ [])) _ (omega arith) (omega arith) (c .stays i s _ k g t f) (simp length-append (omega arith))
-                    (steps i k p l h ∙ ap (λ (x : S). P .reach (P .after i x (d i (at p))) k) m),
+                λ k f. keeps b at steps n (suc i) (p ++ (k ∷ [])) _ (omega arith) (omega arith) (c .stays i s _ k g t f)
+                    (simp length-append (omega arith)) (steps i k p l h ∙ ap (λ (x : S). P .reach (P .after i x (d i (at p))) k) m),
               )
 
           pub start-table-kept : 1 ≤ P .dates → StartKeeps P r (startFollow P d)
@@ -179,21 +197,21 @@ module _ {S H : Type 0} (P : Process S H) where
         filled-value (suc n) i s l e g =
             let q : Decides P InRange i s = record { from = l; before = omega arith; range = g } in
             table-step d i s (q .before)
-            ∙ ap (λ (x : ℕ). P .cash i s (d i s) + x) (expect-eq i _ _ _ (λ k f. reached-eq _ _ _ k
-            (filled-value n (suc i) _ (omega arith) (omega arith) (c .stays i s _ k g (admits i s q) f))))
+            ∙ ap (λ (x : ℕ). P .cash i s (d i s) + x) (mean-eq i _ _ _ (λ k f.
+            filled-value n (suc i) _ (omega arith) (omega arith) (c .stays i s _ k g (admits i s q) f)))
             ∙ ap (worth P (value P r (suc i)) i s) (filled i s q)
             ∙ recorded-best r o i s (q .before) .worth
 
         pub start-filled : 1 ≤ P .dates → startTableValue P d ≡ startValue P r
         unfolding startTableValue startValue
         start-filled one =
-            expect-eq 0 _ _ _ (λ k l. reached-eq _ _ _ k (filled-value (left P 1) 1 _ (le-refl 1) (omega arith) (c .starts k l)))
+            mean-eq 0 _ _ _ (λ k l. filled-value (left P 1) 1 _ (le-refl 1) (omega arith) (c .starts k l))
 
         -- the whole claim
         pub attained : 1 ≤ P .dates → Attained P r InRange d
         unfolding startEarned StartKeeps startValue earned Keeps value
         attained one = record {
-          start-most = λ σ k. mono 0 _ _ _ (λ j l. reached-le _ _ _ j (earned-most r o σ (left P 1) 1 (j ∷ []) _ (k j l)));
+          start-most = λ σ k. expect-mean 0 _ _ _ (λ j l. reached-le _ _ _ j (earned-most r o σ (left P 1) 1 (j ∷ []) _ (k j l)));
           start-kept = start-table-kept d r InRange c admits one;
           start-earned = start-table-earned d ∙ start-filled one;
           most = λ σ i s g k. earned-most r o σ (left P i) i [] s k;

@@ -23,8 +23,9 @@ pub record Process (S H : Type 0) : Type 0 where
   -- the state that a return leads to on the next date, and what it pays on arrival there
   pub reach : H → ℕ → S
   pub paid : H → ℕ → ℕ
-  -- the worth on a date of what is held, where each return number has its value reached
+  -- the worth on a date of what is held: where each return number has its value reached, and where each state has its value
   pub expect : ℕ → H → (ℕ → ℕ) → ℕ
+  pub mean : ℕ → H → (S → ℕ) → ℕ
   -- the value of a state on the last date
   pub final : S → ℕ
 
@@ -46,9 +47,9 @@ module _ {S H : Type 0} (P : Process S H) where
   unfoldable pub reached : (S → ℕ) → H → ℕ → ℕ
   reached v h k = P .paid h k + v (P .reach h k)
 
-  -- a choice is worth its cash and what is expected of the values reached
+  -- a choice is worth its cash and the mean of the values to come
   unfoldable pub worth : (S → ℕ) → ℕ → S → ℕ → ℕ
-  worth v i s t = let h = P .after i s t in P .cash i s t + P .expect i h (reached v h)
+  worth v i s t = P .cash i s t + P .mean i (P .after i s t) v
 
   -- the value on date i of state s, with n decisions to come: the largest worth among the admissible amounts
   unfoldable pub valueOver : Rule S → ℕ → ℕ → S → ℕ
@@ -74,12 +75,12 @@ module _ {S H : Type 0} (P : Process S H) where
   unfoldable pub tableValue : Table S → ℕ → S → ℕ
   tableValue d i s = tableOver d (left i) i s
 
-  -- of the whole: what is expected from date 0, without cash
+  -- of the whole: the mean from date 0, without cash
   unfoldable pub startValue : Rule S → ℕ
-  startValue r = P .expect 0 (P .start) (reached (value r 1) (P .start))
+  startValue r = P .mean 0 (P .start) (value r 1)
 
   unfoldable pub startTableValue : Table S → ℕ
-  startTableValue d = P .expect 0 (P .start) (reached (tableValue d 1) (P .start))
+  startTableValue d = P .mean 0 (P .start) (tableValue d 1)
 
   -- ---- strategies
   -- what a strategy earns on date i in state s, after the return numbers in p and with n decisions to come
@@ -146,10 +147,10 @@ module _ {S H : Type 0} (P : Process S H) where
     pub followed : (i : ℕ) (s : S) → Decides InRange i s → earned (follow d i s) i s ≡ value r i s
 
   -- ---- what has to hold of a process and a rule
-  -- more reached is never worth less
-  abbrev pub Monotone : Type 0
-  Monotone =
-      (i : ℕ) (h : H) (v w : ℕ → ℕ) → ((k : ℕ) → k < P .returns → v k ≤ w k) → P .expect i h v ≤ P .expect i h w
+  -- more reached is never worth less, and the mean of the values of states is what is expected of the values reached
+  pub record Averaging : Type 0 where
+    pub rises : (i : ℕ) (h : H) (v w : ℕ → ℕ) → ((k : ℕ) → k < P .returns → v k ≤ w k) → P .expect i h v ≤ P .expect i h w
+    pub listed : (i : ℕ) (h : H) (v : S → ℕ) → P .mean i h v ≡ P .expect i h (reached v h)
 
   -- in every state some amount is admissible, and none above the limit
   pub record Open (r : Rule S) : Type 0 where

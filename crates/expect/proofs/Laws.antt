@@ -3,10 +3,10 @@ use mathlib.Core.List.{List}
 use mathlib.Core.Logic.{inl, inr}
 use mathlib.Core.Path.{_≡_, refl, ap, ap₂, sym, _∙_, subst}
 use Prim.Native.Nat.{ℕ, zero, suc, _+_, _*_, _%_, _≤_, _<_}
-use native.Mathlib.Nat.{le-trans, le-of-eq, mul-le-mul, zero-add, add-zero, mod-eq-of-lt}
+use native.Mathlib.Nat.{le-trans, le-of-eq, mul-le-mul, mul-one, zero-add, mod-eq-of-lt}
 use native.Mathlib.Omega.{arith}
-use lib.ListN.{getD, length, replicate, getD-replicate}
-use Rattle.decision.specs.Index.{sum, sum-eq, sum-next, weighted-le}
+use lib.ListN.{getD, length}
+use Rattle.decision.specs.Index.{sum, sum-eq, sum-next, sum-term, weighted-le}
 use Rattle.slices.specs.Stored.{stored, length-stored, stored-out, stored-first, stored-join}
 use Rattle.slices.specs.Rows.{cells, flat, flat-at, within-rows, rows-le, rows-step}
 use Rattle.rules.specs.Contract.{Terms, Returns, word, returnsOf, topMost, rateMost, factorMost, weightTotal, weightMost}
@@ -15,9 +15,11 @@ use Rattle.rules.specs.FixedTerm.{meanOf, layerSize}
 use Rattle.laws.specs.Bounds.{stateMost, value-room, value-most, entryMost}
 use Rattle.laws.specs.Narrow.{lowMost, value-narrow}
 use Rattle.laws.specs.Date.{account-le, shared, shared-le}
-use Rattle.laws.specs.FixedTerm.{mean-same}
-use Rattle.expect.specs.Expected.{reachedFrom, expected, expected-le, paidSum, stateSum, two-sums, paid-sum-le, scaled, term}
-use Rattle.expect.specs.Expected.{productMost, Reached, Run, Adding, Summed, Row, Listing, Layers, Values, Within, Balance, Starting}
+use Rattle.laws.specs.Accepted.{ValidReturns}
+use Rattle.returns.specs.Grouped.{Grouped}
+use Rattle.expect.specs.Expected.{expected, reachedFrom, expected-listed, expected-le, expected-same, stateSum, two-sums}
+use Rattle.expect.specs.Expected.{paid-sum-le, scaled, term, productMost, Reached, Run, Adding, Summed, Row, Layers, Values}
+use Rattle.expect.specs.Expected.{Within, Balance, Starting}
 
 -- ---- sums along the guarantees
 -- a product is small
@@ -27,10 +29,13 @@ product-small h l = mul-le-mul {n₂ = weightMost} {m₂ = lowMost} h l
 pub sum-four : (f : ℕ → ℕ) (k : ℕ) → sum f (k + 4) ≡ sum f k + (f k + f (k + 1) + f (k + 2) + f (k + 3))
 sum-four f k =
     let one = sum-next f k in
-    let two : sum f (k + 2) ≡ sum f (k + 1) + f (k + 1) = ap (sum f) (let e : k + 2 ≡ k + 1 + 1 = omega arith in e) ∙ sum-next f (k + 1) in
-    let three : sum f (k + 3) ≡ sum f (k + 2) + f (k + 2) = ap (sum f) (let e : k + 3 ≡ k + 2 + 1 = omega arith in e) ∙ sum-next f (k + 2) in
-    let four : sum f (k + 4) ≡ sum f (k + 3) + f (k + 3) = ap (sum f) (let e : k + 4 ≡ k + 3 + 1 = omega arith in e) ∙ sum-next f (k + 3) in
+    let two : sum f (k + 2) ≡ sum f (k + 1) + f (k + 1) = next (k + 2) (k + 1) (omega arith) in
+    let three : sum f (k + 3) ≡ sum f (k + 2) + f (k + 2) = next (k + 3) (k + 2) (omega arith) in
+    let four : sum f (k + 4) ≡ sum f (k + 3) + f (k + 3) = next (k + 4) (k + 3) (omega arith) in
     omega arith
+  where
+    next : (n m : ℕ) → n ≡ m + 1 → sum f n ≡ sum f m + f m
+    next n m e = ap (sum f) e ∙ sum-next f m
 
 pub twice-four : (f : ℕ → ℕ) (k x y : ℕ) → sum f (k + 4) ≡ sum f k + x → sum f (k + 4 + 4) ≡ sum f (k + 4) + y
     → sum f (k + 8) ≡ sum f k + (x + y)
@@ -117,6 +122,7 @@ module _ {work starts weights : List ℕ} {count discount most paid to stride : 
         → Row work' starts weights count discount most paid to m
     row-part work' g n m e h = record {
       few = r .few;
+      eights = r .eights;
       discount-is = r .discount-is;
       most-is = r .most-is;
       paid-small = r .paid-small;
@@ -140,11 +146,6 @@ row-run from n r h = record {
   reached = λ k j l m. row-reached r k (from + j) l (omega arith);
 }
 
--- no returns yet
-pub summed-none : {work starts weights : List ℕ} (paid from n : ℕ) → n ≤ 512 → Summed work starts weights (replicate 512 paid) paid from n 0
-unfolding sum
-summed-none paid from n h = record { long = le-of-eq refl; each = λ j l. getD-replicate 512 j paid 0 (omega arith) ∙ sym (add-zero paid) }
-
 -- the row of a balance in the second layer
 pub row-room : {c : Terms} {work : List ℕ} (b : ℕ) → Layers c work → b ≤ c .top
     → (c .top + 1) * (c .premium + 1) + b * (c .premium + 1) + (c .premium + 1) ≤ length work
@@ -153,8 +154,8 @@ row-room {c} b v top =
     let l = rows-le (c .premium + 1) (b + 1) (c .top + 1) (omega arith) in omega (arith, rows-step (c .premium + 1) b, v .room)
 
 -- ---- the row of one balance
-module _ {c : Terms} {i : ℕ} {work list weights : List ℕ} {count discount most paid balance stride size : ℕ}
-    (b : Balance c i work list weights count discount most paid balance stride size)
+module _ {c : Terms} {i : ℕ} {rs : Returns} {work starts weights : List ℕ} {discount most balance stride size count paid : ℕ}
+    (b : Balance c i rs work discount most balance stride size) (g : Grouped c rs balance stride starts weights count paid)
   where
     -- a row of the first layer ends within it
     reached-within : (x : ℕ) → x ≤ c .top → x * stride + stride ≤ size
@@ -162,7 +163,7 @@ module _ {c : Terms} {i : ℕ} {work list weights : List ℕ} {count discount mo
 
     -- what is paid on arrival
     paid-le : paid ≤ weightTotal * (20000 * c .top)
-    paid-le = le-trans (le-of-eq (b .paid-is)) (paid-sum-le c (returnsOf list) balance (b .listing .valid) (b .balance-is))
+    paid-le = le-trans (le-of-eq (g .paid-is)) (paid-sum-le c rs balance (b .returns) (b .balance-is))
 
     -- .. and with it the values of the layer
     most-room : 20000 * c .top + most ≤ entryMost
@@ -174,62 +175,63 @@ module _ {c : Terms} {i : ℕ} {work list weights : List ℕ} {count discount mo
     balance-room : size + balance * stride + stride ≤ length work
     balance-room = rw (b .size-is, b .stride-is) (row-room balance (b .layers) (b .balance-is))
 
-    module _ (starts : List ℕ)
-        (starts-are : (k : ℕ) → k < count → getD starts k 0 ≡ nextAccount (c .fee) (c .top) balance (returnsOf list .factor k) * stride)
-      where
-        place : (k a : ℕ) → k < count
-            → 0 + (nextAccount (c .fee) (c .top) balance (returnsOf list .factor k) * (c .premium + 1) + a) ≡ getD starts k 0 + a
-        place k a l =
-            let x = nextAccount (c .fee) (c .top) balance (returnsOf list .factor k) in
-            zero-add _ ∙ ap (λ (y : ℕ). y + a) (ap (λ (z : ℕ). x * z) (sym (b .stride-is)) ∙ sym (starts-are k l))
+    -- the groups weigh what the returns weigh
+    total : sum (λ k. getD weights k 0) count ≡ weightTotal
+    total =
+        sum-eq _ _ count (λ k l. sym (mul-one (getD weights k 0)))
+        ∙ g .sums (λ x. 1)
+        ∙ sum-eq _ _ (rs .count) (λ k l. mul-one (rs .weight k))
+        ∙ b .returns .total
 
-        pub balance-row : Row work starts weights count discount most paid (size + balance * stride) stride
-        balance-row = record {
-          few = b .listing .few;
-          discount-is = le-trans (le-of-eq (b .discount-is)) (b .layers .valid .discount);
-          most-is = most-low;
-          paid-small = omega (arith, paid-le, b .layers .valid .top);
-          sums-small = omega (arith, paid-le, most-room);
-          total = sum-eq _ _ count (b .weights-are) ∙ ap (sum (returnsOf list .weight)) (b .listing .all) ∙ b .listing .valid .total;
-          light = λ k l. rw (b .weights-are k l) (b .listing .valid .weight k (omega (arith, b .listing .all)));
-          small = λ k a l m.
-              let x = account-le (c .fee) (c .top) balance (returnsOf list .factor k) in
-              subst (λ (z : ℕ). getD work z 0 ≤ most) (place k a l) (b .small _ a x (omega (arith, b .stride-is)));
-          below = λ k l.
-              let m = reached-within _ (account-le (c .fee) (c .top) balance (returnsOf list .factor k)) in
-              rw (starts-are k l) (omega arith);
-          room = balance-room;
-        }
+    -- where the entry of an account stands
+    place : (w a : ℕ) → 0 + (w * (c .premium + 1) + a) ≡ w * stride + a
+    place w a = zero-add _ ∙ ap (λ (x : ℕ). w * x + a) (sym (b .stride-is))
 
-        states-are : (a : ℕ) → sum (term work starts weights a) count ≡ stateSum c (returnsOf list) (cells work 0 stride) balance a
-        unfolding stateSum
-        states-are a =
-            sum-eq _ _ count (λ k l.
-            ap₂ (λ (x y : ℕ). x * getD work y 0) (b .weights-are k l) (ap (λ (x : ℕ). x + a) (starts-are k l) ∙ sym (zero-add _)))
-            ∙ ap (sum _) (b .listing .all)
+    pub balance-row : Row work starts weights count discount most paid (size + balance * stride) stride
+    balance-row = record {
+      few = g .few;
+      eights = record { some = g .some; whole = g .eights };
+      discount-is = le-trans (le-of-eq (b .discount-is)) (b .layers .valid .discount);
+      most-is = most-low;
+      paid-small = omega (arith, paid-le, b .layers .valid .top);
+      sums-small = omega (arith, paid-le, most-room);
+      total = total;
+      light = λ k l. let one = sum-term (λ j. getD weights j 0) count k l in omega (arith, total);
+      small = λ k a l m.
+          let r = g .rows k l in
+          rw (r .start)
+          (subst (λ (z : ℕ). getD work z 0 ≤ most) (place (r .account) a)
+          (b .small (r .account) a (r .within) (omega (arith, b .stride-is))));
+      below = λ k l. let r = g .rows k l in let m = reached-within (r .account) (r .within) in rw (r .start) (omega arith);
+      room = balance-room;
+    }
 
-        pub balance-cells : (a : ℕ)
-            → discounted discount (paid + sum (term work starts weights a) count)
-            ≡ expected c (returnsOf list) (cells work 0 stride) balance a
-        unfolding expected meanOf
-        balance-cells a =
-            ap₂ discounted (b .discount-is)
-            (ap₂ _+_ (b .paid-is) (states-are a) ∙ two-sums c (returnsOf list) (cells work 0 stride) balance a)
+    states-are : (a : ℕ) → sum (term work starts weights a) count ≡ stateSum c rs (cells work 0 (c .premium + 1)) balance a
+    unfolding stateSum
+    states-are a =
+        g .sums (λ x. getD work (x + a) 0)
+        ∙ sum-eq _ _ (rs .count) (λ k l. ap (λ (x : ℕ). rs .weight k * getD work x 0) (sym (place _ a)))
+
+    pub balance-cells : (a : ℕ)
+        → discounted discount (paid + sum (term work starts weights a) count)
+        ≡ expected c rs (cells work 0 (c .premium + 1)) balance a
+    unfolding meanOf
+    balance-cells a =
+        ap₂ discounted (b .discount-is)
+        (ap₂ _+_ (g .paid-is) (states-are a) ∙ two-sums c rs (cells work 0 (c .premium + 1)) balance a)
+        ∙ sym (expected-listed c rs (cells work 0 (c .premium + 1)) balance a)
 
 -- ---- the balances: the first layer stays as the second is filled
-pub layer-balance : {c : Terms} {work list weights : List ℕ} {count i most paid : ℕ} (work' : List ℕ) (f : ℕ → ℕ) (n b : ℕ)
-    → Listing list count → Values c i work → most ≡ stateMost c (i + 1)
-    → ((k : ℕ) → k < count → getD weights k 0 ≡ returnsOf list .weight k) → paid ≡ paidSum c (returnsOf list) b
+pub layer-balance : {c : Terms} {rs : Returns} {work : List ℕ} {i most : ℕ} (work' : List ℕ) (f : ℕ → ℕ) (n b : ℕ)
+    → ValidReturns rs → Values c i work → most ≡ stateMost c (i + 1)
     → work' ≡ stored work ((c .top + 1) * (c .premium + 1)) f n → b ≤ c .top
-    → Balance c i work' list weights count (c .discount) most paid b (c .premium + 1) ((c .top + 1) * (c .premium + 1))
-layer-balance {c = c} {work = work} {most = most} work' f n b h v m w p e top = record {
-  listing = h;
+    → Balance c i rs work' (c .discount) most b (c .premium + 1) ((c .top + 1) * (c .premium + 1))
+layer-balance {c = c} {work = work} {most = most} work' f n b h v m e top = record {
+  returns = h;
   layers = record { valid = v .layers .valid; room = omega (arith, v .layers .room, ap length e ∙ length-stored _ _ _ _) };
   discount-is = refl;
   most-is = m;
-  paid-is = p;
   small = kept-within;
-  weights-are = w;
   balance-is = top;
   stride-is = refl;
   size-is = refl;
@@ -247,14 +249,10 @@ module _ (c : Terms) (rs : Returns) (work : List ℕ) (stride size : ℕ) (size-
 
   -- the rows filled so far are not read
   kept : (n b a : ℕ) → a < stride → expected c rs (cells (stored work size sums n) 0 stride) b a ≡ expected c rs (cells work 0 stride) b a
-  unfolding expected
   kept n b a l =
-      mean-same c rs (λ k m.
-      let x = nextAccount (c .fee) (c .top) b (rs .factor k) in
-      let h = account-le (c .fee) (c .top) b (rs .factor k) in
-      let i = within-rows stride (c .top + 1) x a (omega arith) l in
-      ap (λ (y : ℕ). excessPaid (c .fee) (c .top) b (rs .factor k) + y)
-      (stored-out work size sums n (0 + (x * stride + a)) (inl (omega arith))))
+      expected-same c rs _ _ b a (λ w h.
+      let i = within-rows stride (c .top + 1) w a (omega arith) l in
+      stored-out work size sums n (0 + (w * stride + a)) (inl (omega arith)))
 
   pub expect-step : (b : ℕ) (work' : List ℕ)
       → work' ≡ stored work size (flat stride (scaled (expected c rs (cells work 0 stride)))) (b * stride)

@@ -6,19 +6,20 @@ ghost use lib.ListN.{length, getD};
 ghost use Rattle.decision.specs.Index.{sum};
 ghost use Rattle.slices.specs.Stored.{stored};
 ghost use Rattle.slices.specs.Rows.{cells, flat};
-ghost use Rattle.rules.specs.Contract.{topMost, datesMost, weightTotal, weightMost, returnsMost, discountMost, returnsOf};
+ghost use Rattle.rules.specs.Contract.{datesMost, weightTotal, returnsMost, discountMost, returnsOf};
 ghost use Rattle.laws.specs.Bounds.{stateMost, entryMost};
-ghost use Rattle.rules.specs.Date.{nextAccount, discounted};
+ghost use Rattle.rules.specs.Date.{discounted};
 ghost use Rattle.rules.specs.FixedTerm.{layerSize};
 ghost use Rattle.laws.specs.Accepted.{Valid};
 ghost use Rattle.laws.specs.Date.{shared};
 ghost use Rattle.contract.specs.Reading.{termsIn};
-ghost use Rattle.expect.specs.Expected.{term, productMost, Reached, Run, Adding, Summed, Row, Listing, Values};
-ghost use Rattle.expect.specs.Expected.{reachedFrom, paidSum, expected, scaled, Starting};
+ghost use Rattle.returns.specs.Sorted.{inOrder, Ordered};
+ghost use Rattle.expect.specs.Expected.{term, productMost, Reached, Run, Adding, Summed, Eights, Row, Values};
+ghost use Rattle.expect.specs.Expected.{reachedFrom, expected, scaled, Starting};
 use contract::Contract;
 
-// How many returns are averaged, by what they are discounted, what no value of the layer passes, and what the returns pay on
-// arrival, by weight.
+// How many groups of returns are averaged, by what they are discounted, what no value of the layer passes, and what the returns
+// pay on arrival, by weight.
 struct Average {
     count: usize,
     discount: usize,
@@ -26,7 +27,7 @@ struct Average {
     paid: usize,
 }
 
-// The value that return k reaches with guarantee a.
+// The value that group k reaches with guarantee a.
 fn reached(work: &[u64], starts: &[usize; 64], k: usize, a: usize) -> u64
     requires { ⌜ (k < returnsMost) × (getD (now starts) k 0 + a < length (now work)) ⌝ }
     ensures { λ r. ⌜ r ≡ getD (now (work .entry)) (getD (now (starts .entry)) k 0 + a) 0 ⌝ }
@@ -34,7 +35,7 @@ fn reached(work: &[u64], starts: &[usize; 64], k: usize, a: usize) -> u64
     work[starts[k] + a]
 }
 
-// What return k adds to the sum of guarantee a. Of a value the low half is taken, which is all of it: a product of two numbers of
+// What group k adds to the sum of guarantee a. Of a value the low half is taken, which is all of it: a product of two numbers of
 // 32 bits can be widened.
 fn product(work: &[u64], starts: &[usize; 64], weights: &[u32; 64], k: usize, a: usize) -> usize
     requires { ⌜ (k < returnsMost) × Reached (now work) (now starts) (now weights) a k ⌝ }
@@ -43,7 +44,7 @@ fn product(work: &[u64], starts: &[usize; 64], weights: &[u32; 64], k: usize, a:
     weights[k] as usize * date::wide(reached(work, starts, k, a) % 4294967296)
 }
 
-// .. and of four returns.
+// .. and of four groups.
 fn four_products(
     work: &[u64],
     starts: &[usize; 64],
@@ -83,31 +84,7 @@ fn eight_products(
     four_products(work, starts, weights, k, a) + four_products(work, starts, weights, k + 4, a)
 }
 
-// Return k, for n guarantees.
-fn add_one(
-    sums: &mut [usize; 512],
-    work: &[u64],
-    starts: &[usize; 64],
-    weights: &[u32; 64],
-    k: usize,
-    from: usize,
-    n: usize,
-)
-    requires { ⌜ Run (now work) (now starts) (now weights) (k + 1) from n × Adding (now sums) n k ⌝ }
-    ensures { λ _. ⌜
-        now (sums .exit)
-        ≡ stored (now (sums .entry)) 0
-        (λ (j : ℕ).
-        getD (now (sums .entry)) j 0 + term (now (work .entry)) (now (starts .entry)) (now (weights .entry)) (from + j) k)
-        n
-        ⌝ }
-{
-    for j in 0..n {
-        sums[j] += product(work, starts, weights, k, from + j);
-    }
-}
-
-// Eight returns at once: one load and one store of a sum for eight products.
+// Eight groups, for n guarantees: one load and one store of a sum for eight products.
 fn add_eight(
     sums: &mut [usize; 512],
     work: &[u64],
@@ -151,66 +128,6 @@ fn set_eight(
     }
 }
 
-// What is paid on arrival, and the sums of the first eight returns, or of none where there are fewer. Gives the number of the
-// return after them.
-fn set_first(
-    sums: &mut [usize; 512],
-    work: &[u64],
-    starts: &[usize; 64],
-    weights: &[u32; 64],
-    average: Average,
-    from: usize,
-    n: usize,
-) -> usize
-    requires { ⌜
-        Run (now work) (now starts) (now weights) (average .count) from n
-        × (512 ≤ length (now sums))
-        × (average .paid ≤ productMost)
-        ⌝ }
-    ensures { λ r. ⌜
-        Summed (now (work .entry)) (now (starts .entry)) (now (weights .entry)) (now (sums .exit)) (average .paid) from n r
-        × (r ≤ average .count)
-        ⌝ }
-{
-    if 8 <= average.count {
-        set_eight(sums, work, starts, weights, average.paid, from, n);
-        return 8;
-    }
-    *sums = [average.paid; 512];
-    0
-}
-
-// The next eight returns, or one where fewer are left. Gives the number of the return after them.
-fn add_next(
-    sums: &mut [usize; 512],
-    work: &[u64],
-    starts: &[usize; 64],
-    weights: &[u32; 64],
-    average: Average,
-    k: usize,
-    from: usize,
-    n: usize,
-) -> usize
-    requires { ⌜
-        Run (now work) (now starts) (now weights) (average .count) from n
-        × Summed (now work) (now starts) (now weights) (now sums) (average .paid) from n k
-        × (k < average .count)
-        × (average .paid ≤ productMost)
-        ⌝ }
-    ensures { λ r. ⌜
-        Summed (now (work .entry)) (now (starts .entry)) (now (weights .entry)) (now (sums .exit)) (average .paid) from n r
-        × (k < r)
-        × (r ≤ average .count)
-        ⌝ }
-{
-    if k + 8 <= average.count {
-        add_eight(sums, work, starts, weights, k, from, n);
-        return k + 8;
-    }
-    add_one(sums, work, starts, weights, k, from, n);
-    k + 1
-}
-
 // The sums of n guarantees, from `from` on, with what is paid on arrival; whatever stood in `sums`.
 fn add_all(
     sums: &mut [usize; 512],
@@ -223,6 +140,7 @@ fn add_all(
 )
     requires { ⌜
         Run (now work) (now starts) (now weights) (average .count) from n
+        × Eights (average .count)
         × (512 ≤ length (now sums))
         × (average .paid ≤ productMost)
         ⌝ }
@@ -231,9 +149,11 @@ fn add_all(
         (average .count)
         ⌝ }
 {
-    let mut k = set_first(sums, work, starts, weights, average, from, n);
+    set_eight(sums, work, starts, weights, average.paid, from, n);
+    let mut k: usize = 8;
     while k < average.count {
-        k = add_next(sums, work, starts, weights, average, k, from, n);
+        add_eight(sums, work, starts, weights, k, from, n);
+        k += 8;
     }
 }
 
@@ -342,59 +262,6 @@ fn expect_row(
     }
 }
 
-fn fill_weights(weights: &mut [u32; 64], list: &[u8], count: usize)
-    requires { ⌜ Listing (now list) count ⌝ }
-    ensures { λ _. ⌜ now (weights .exit) ≡ stored (now (weights .entry)) 0 (returnsOf (now (list .entry)) .weight) count ⌝ }
-{
-    for k in 0..count {
-        weights[k] = contract::word(list, Contract::RETURN_BYTES * k + 2) as u32;
-    }
-}
-
-// What one more return pays on arrival, by its weight. Below top there is nothing to multiply.
-fn with_excess(paid: usize, weight: usize, lifted: usize, top: usize) -> usize
-    requires { ⌜ (paid ≤ productMost * returnsMost) × (weight ≤ weightMost) × (lifted ≤ 3 * topMost) ⌝ }
-    ensures { λ r. ⌜ r ≡ paid + weight * (10000 * (lifted - top)) ⌝ }
-{
-    if lifted <= top {
-        return paid;
-    }
-    paid + weight * (10000 * (lifted - top))
-}
-
-// Where the rows start to which the returns lead from a balance. Gives what they pay on arrival, by weight.
-fn fill_starts(
-    starts: &mut [usize; 64],
-    list: &[u8],
-    count: usize,
-    c: Contract,
-    balance: usize,
-    stride: usize,
-) -> usize
-    requires { ⌜ Listing (now list) count × Valid (termsIn c) × (balance ≤ topMost) × (stride ≤ 4001) ⌝ }
-    ensures { λ r. ⌜
-        (r ≡ paidSum (termsIn c) (returnsOf (now (list .entry))) balance)
-        × (now (starts .exit)
-        ≡ stored (now (starts .entry)) 0
-        (λ (k : ℕ). nextAccount (c .fee) (c .top) balance (returnsOf (now (list .entry)) .factor k) * stride)
-        count)
-        ⌝ }
-{
-    let mut paid: usize = 0;
-    for k in 0..count {
-        let factor = contract::word(list, Contract::RETURN_BYTES * k);
-        let weight = contract::word(list, Contract::RETURN_BYTES * k + 2);
-        starts[k] = date::next_account(c.fee, c.top, balance, factor) * stride;
-        paid = with_excess(
-            paid,
-            weight,
-            date::lifted_account(c.fee, balance, factor),
-            c.top,
-        );
-    }
-    paid
-}
-
 // What no value of date i + 1 passes.
 fn most_after(c: Contract, i: usize) -> usize
     requires { ⌜ Valid (termsIn c) × (i ≤ datesMost) ⌝ }
@@ -404,32 +271,33 @@ fn most_after(c: Contract, i: usize) -> usize
 }
 
 // The second layer: the discounted sum of every balance and guarantee, times 8,192, where the first holds the values of date i + 1.
-pub fn expect_layer(work: &mut [u64], list: &[u8], count: usize, c: Contract, i: usize)
-    requires { ⌜ Listing (now list) count × Values (termsIn c) i (now work) × (i ≤ datesMost) ⌝ }
+// The returns are in order of their factors.
+pub fn expect_layer(work: &mut [u64], order: &[u32], c: Contract, i: usize)
+    requires { ⌜ Ordered (inOrder (now order)) × Values (termsIn c) i (now work) × (i ≤ datesMost) ⌝ }
     ensures { λ _. ⌜
         now (work .exit)
         ≡ stored (now (work .entry)) (layerSize (termsIn c))
         (flat (c .premium + 1)
-        (scaled (expected (termsIn c) (returnsOf (now (list .entry))) (cells (now (work .entry)) 0 (c .premium + 1)))))
+        (scaled (expected (termsIn c) (inOrder (now (order .entry)))
+        (cells (now (work .entry)) 0 (c .premium + 1)))))
         (layerSize (termsIn c))
         ⌝ }
 {
     let stride = c.premium + 1;
     let size = (c.top + 1) * stride;
-    let mut weights = [0u32; 64];
-    fill_weights(&mut weights, list, count);
     let most = most_after(c, i);
     // One array of each kind for all balances: what a balance leaves there does not matter to the next, and clearing takes time.
     let mut sums = [0usize; 512];
     let mut starts = [0usize; 64];
+    let mut weights = [0u32; 64];
     let end = c.top + 1;
     for balance in 0..end {
-        let paid = fill_starts(&mut starts, list, count, c, balance, stride);
+        let groups = returns::group(&mut starts, &mut weights, order, c, balance, stride);
         let average = Average {
-            count,
+            count: groups.count,
             discount: c.discount,
             most,
-            paid,
+            paid: groups.paid,
         };
         let to = size + balance * stride;
         expect_row(work, &mut sums, &starts, &weights, average, to, stride);

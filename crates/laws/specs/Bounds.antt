@@ -6,14 +6,15 @@ use native.Mathlib.Nat.{sub-le-sub-left, max-le, min-le-left}
 use native.Mathlib.Omega.{arith}
 use lib.Dec.{T}
 use Rattle.decision.specs.Index.{weighted-le}
-use Rattle.decision.specs.Process.{Table, tableValue, startTableValue, Decides}
+use Rattle.decision.specs.Process.{reached, Table, tableValue, startTableValue, Decides}
 use Rattle.decision.specs.Optimal.{recorded-best}
 use Rattle.decision.specs.Bounds.{value-bounded, start-bounded, table-bounded, start-table-bounded}
 use Rattle.rules.specs.Contract.{Terms, Returns, Rates, topMost, datesMost, factorMost, discountMost, weightTotal}
 use Rattle.rules.specs.Date.{Behaviour, dynamic, liftedAccount, nextAccount, excessPaid, maturityValue, discounted}
 use Rattle.rules.specs.Product.{stateValue, recordedAmount, contractValue}
 use Rattle.rules.specs.FixedTerm.{State, Held, InRange, freeIn, admissibleIn, rateIn, cashIn, afterIn, reachBy, paidBy}
-use Rattle.rules.specs.FixedTerm.{deathBy, meanOf, expectOver, startOf, processOf, fixedTerm}
+use Rattle.rules.specs.FixedTerm.{deathBy, meanOf, expectOver, meanOver, startOf, processOf, fixedTerm}
+use Rattle.rules.specs.ByList.{mean-by-list}
 use Rattle.laws.specs.Accepted.{Valid, ValidReturns, ValidInput}
 use Rattle.laws.specs.Date.{admits-within, amount-most, excess-paid-le, period-le, share-le, death-le}
 use Rattle.laws.specs.FixedTerm.{opened, closed}
@@ -90,12 +91,13 @@ module _ (c : Terms) (rs : Returns) (ds : Rates) (v : ValidInput c rs ds) where
   unfolding deathBy paidBy excessPaid
   dies h k x g room = le-trans (death-le _ _ _ (c .top) (g .account) (le-trans (g .guarantee) (v .terms .premium))) room
 
-  averages : (i : ℕ) (h : Held) (x : ℕ → ℕ) (y : ℕ) → ((k : ℕ) → k < rs .count → InRange c (reachBy c rs h k))
-      → ((k : ℕ) → k < rs .count → paidBy c rs h k + 10000 * c .top ≤ y) → ((k : ℕ) → k < rs .count → x k ≤ y)
-      → expectOver c rs ds i h x ≤ y
+  within : (i : ℕ) (h : Held) (x : State → ℕ) (y : ℕ) → ((k : ℕ) → k < rs .count → InRange c (reachBy c rs h k))
+      → ((k : ℕ) → k < rs .count → paidBy c rs h k + 10000 * c .top ≤ y)
+      → ((k : ℕ) → k < rs .count → reached (processOf c rs ds) x h k ≤ y) → meanOver c rs ds i h x ≤ y
   unfolding expectOver
-  averages i h x y range room g =
-      mean-le y (v .terms) (v .returns) (λ k l. share-le y (v .rates .rate i) (g k l) (dies h k y (range k l) (room k l)))
+  within i h x y range room g =
+      rw (mean-by-list c rs ds i h x)
+      (mean-le y (v .terms) (v .returns) (λ k l. share-le y (v .rates .rate i) (g k l) (dies h k y (range k l) (room k l))))
 
   -- a state's value is at most a bound in N and top
   pub state-value-le : (b : Behaviour) (i : ℕ) (s : State) → InRange c s → stateValue (fixedTerm c rs ds) b i s ≤ stateMost c i
@@ -103,7 +105,7 @@ module _ (c : Terms) (rs : Returns) (ds : Rates) (v : ValidInput c rs ds) where
   state-value-le b =
       value-bounded (processOf c rs ds) (admissibleIn c b) (opened c rs ds b) (InRange c) (closed c rs ds b) (10000 * c .top)
       (20000 * c .top)
-      (ends (v .terms)) (v .returns .count-least) (arrives b) starts averages
+      (ends (v .terms)) (v .returns .count-least) (arrives b) starts within
 
   -- .. also where a table is followed
   pub table-value-le : (d : Table State)
@@ -114,7 +116,7 @@ module _ (c : Terms) (rs : Returns) (ds : Rates) (v : ValidInput c rs ds) where
   table-value-le d admits i s l m g =
       table-bounded (processOf c rs ds) (admissibleIn c dynamic) (opened c rs ds dynamic) (InRange c) (closed c rs ds dynamic)
       (10000 * c .top)
-      (20000 * c .top) (ends (v .terms)) (v .returns .count-least) (arrives dynamic) starts averages d admits i s l m g
+      (20000 * c .top) (ends (v .terms)) (v .returns .count-least) (arrives dynamic) starts within d admits i s l m g
 
   -- the contract's, with what the first return pays on arrival
   pub contract-value-le : (b : Behaviour) → contractValue (fixedTerm c rs ds) b ≤ 20000 * c .top + stateMost c 1
@@ -122,7 +124,7 @@ module _ (c : Terms) (rs : Returns) (ds : Rates) (v : ValidInput c rs ds) where
   contract-value-le b =
       start-bounded (processOf c rs ds) (admissibleIn c b) (opened c rs ds b) (InRange c) (closed c rs ds b) (10000 * c .top)
       (20000 * c .top)
-      (ends (v .terms)) (v .returns .count-least) (arrives b) starts averages
+      (ends (v .terms)) (v .returns .count-least) (arrives b) starts within
 
   pub table-start-le : (d : Table State)
       → ((i : ℕ) (s : State) → Decides (processOf c rs ds) (InRange c) i s → T (admissibleIn c dynamic s (d i s)))
@@ -130,7 +132,7 @@ module _ (c : Terms) (rs : Returns) (ds : Rates) (v : ValidInput c rs ds) where
   unfolding processOf
   table-start-le d admits =
       start-table-bounded (processOf c rs ds) (admissibleIn c dynamic) (opened c rs ds dynamic) (InRange c) (closed c rs ds dynamic)
-      (10000 * c .top) (20000 * c .top) (ends (v .terms)) (v .returns .count-least) (arrives dynamic) starts averages d admits
+      (10000 * c .top) (20000 * c .top) (ends (v .terms)) (v .returns .count-least) (arrives dynamic) starts within d admits
       (v .terms .dates-least)
 
   pub recorded-fits : (b : Behaviour) (i : ℕ) (s : State) → i < c .dates → InRange c s → recordedAmount (fixedTerm c rs ds) b i s < 2 ^ 16

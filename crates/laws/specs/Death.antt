@@ -7,17 +7,19 @@ use native.Mathlib.Omega.{arith}
 use lib.ListN.{getD, replicate}
 use Rattle.decision.specs.Process.{reached, startValue, startTableValue}
 use Rattle.rules.specs.Contract.{Terms, Returns, Rates, word, termsOf, returnsOf, rateBytes, ratesOf}
-use Rattle.rules.specs.Date.{Behaviour, deathShare}
+use Rattle.rules.specs.Date.{Behaviour, deathPayment, deathShare}
 use Rattle.rules.specs.Product.{Product, stateValue, contractValue, valueLayer, amountLayers, suppliedValue, suppliedLayer}
-use Rattle.rules.specs.FixedTerm.{State, Held, deathBy, meanOf, expectOver, startOf, processOf, fixedTerm, livingTerm}
+use Rattle.rules.specs.FixedTerm.{State, Held, deathBy, meanOf, expectOver, meanByAccount, valueWith, meanOver, startOf, processOf}
+use Rattle.rules.specs.FixedTerm.{fixedTerm, livingTerm}
+use Rattle.rules.specs.ByList.{mean-by-list}
 use Rattle.rules.specs.Refusals.{onSuccess}
 use Rattle.rules.specs.Operations.{productOf, recordVerdict}
 use Rattle.rules.specs.Printed.{zeroRates, programOf}
 use Rattle.laws.specs.Date.{share-living, share-certain}
 
--- a product that expects by another rule, and is the same in all else
-abbrev pub expecting : {S H : Type 0} → (ℕ → H → (ℕ → ℕ) → ℕ) → Product S H → Product S H
-expecting expects X = record {
+-- a product that expects and averages by other rules, and is the same in all else
+abbrev pub expecting : {S H : Type 0} → (ℕ → H → (ℕ → ℕ) → ℕ) → (ℕ → H → (S → ℕ) → ℕ) → Product S H → Product S H
+expecting expects means X = record {
   process = record {
     dates = X .process .dates;
     start = X .process .start;
@@ -28,6 +30,7 @@ expecting expects X = record {
     reach = X .process .reach;
     paid = X .process .paid;
     expect = expects;
+    mean = means;
     final = X .process .final;
   };
   admissible = X .admissible;
@@ -36,7 +39,10 @@ expecting expects X = record {
 
 -- the contract without death, as it is up to (iv)
 unfoldable pub deathless : Terms → Returns → Product State Held
-deathless c rs = expecting (λ i h. meanOf c rs) (livingTerm c rs)
+deathless c rs =
+    expecting (λ i h. meanOf c rs)
+    (λ i h v. meanByAccount c rs (h .balance) (λ w over. 10000 * over + v (record { account = w; guarantee = h .guarantee })))
+    (livingTerm c rs)
 
 -- ---- zero rates
 module _ (c : Terms) (rs : Returns) (ds : Rates) (none : (i : ℕ) → ds i ≡ 0) where
@@ -45,8 +51,12 @@ module _ (c : Terms) (rs : Returns) (ds : Rates) (none : (i : ℕ) → ds i ≡ 
 
   -- the whole product, so all that is said of it
   pub zero-rates : fixedTerm c rs ds ≡ deathless c rs
-  unfolding fixedTerm processOf expectOver deathless
-  zero-rates j = expecting (λ i h x. meanOf c rs (λ k. shared-none i (x k) (deathBy c rs h k) j)) (livingTerm c rs)
+  unfolding fixedTerm processOf expectOver meanOver valueWith deathless
+  zero-rates j =
+      expecting (λ i h x. meanOf c rs (λ k. shared-none i (x k) (deathBy c rs h k) j))
+      (λ i h v. meanByAccount c rs (h .balance) (λ w over.
+      shared-none i (10000 * over + v (record { account = w; guarantee = h .guarantee })) (deathPayment w (h .guarantee) over) j))
+      (livingTerm c rs)
 
   -- values: of the contract, of every state, of the first layer left
   pub zero-rates-value : (b : Behaviour) → contractValue (fixedTerm c rs ds) b ≡ contractValue (deathless c rs) b
@@ -87,13 +97,14 @@ program-deathless bytes list =
 
 -- ---- a rate of 10,000 on the first period: the discounted mean of the death payments, whatever is withdrawn later
 module _ (c : Terms) (rs : Returns) (ds : Rates) (sure : ds 0 ≡ 10000) where
-  only-death : (v : State → ℕ)
-      → expectOver c rs ds 0 (startOf c) (reached (processOf c rs ds) v (startOf c)) ≡ meanOf c rs (deathBy c rs (startOf c))
+  certain : (value payment : ℕ) → deathShare (ds 0) value payment ≡ payment
+  certain value payment = ap (λ (r : ℕ). deathShare r value payment) sure ∙ share-certain value payment
+
+  only-death : (v : State → ℕ) → meanOver c rs ds 0 (startOf c) v ≡ meanOf c rs (deathBy c rs (startOf c))
   unfolding expectOver
-  only-death v j = meanOf c rs (λ k. certain (reached (processOf c rs ds) v (startOf c) k) (deathBy c rs (startOf c) k) j)
-    where
-      certain : (value payment : ℕ) → deathShare (ds 0) value payment ≡ payment
-      certain value payment = ap (λ (r : ℕ). deathShare r value payment) sure ∙ share-certain value payment
+  only-death v =
+      mean-by-list c rs ds 0 (startOf c) v
+      ∙ (λ j. meanOf c rs (λ k. certain (reached (processOf c rs ds) v (startOf c) k) (deathBy c rs (startOf c) k) j))
 
   pub certain-death : (b : Behaviour) → contractValue (fixedTerm c rs ds) b ≡ meanOf c rs (deathBy c rs (startOf c))
   unfolding contractValue startValue fixedTerm processOf

@@ -4,7 +4,7 @@ use mathlib.Core.Path.{_≡_}
 use Prim.Native.Nat.{ℕ, suc, _-_, _≤_, _<_}
 use native.Mathlib.Omega.{arith}
 use lib.Dec.{T}
-use Rattle.decision.specs.Process.{Process, Monotone, Open, Closed, Decides, Attained}
+use Rattle.decision.specs.Process.{Process, Averaging, Open, Closed, Decides, Attained}
 use Rattle.decision.specs.Optimal.{attained, wider, start-wider}
 use Rattle.decision.specs.Layers.{Layout, Placed, lookup, lookup-layers}
 use Rattle.rules.specs.Date.{Behaviour, static, mixed, dynamic}
@@ -14,7 +14,7 @@ module _ {S H : Type 0} (X : Product S H) where
   -- what a product owes
   pub record Sound : Type 0 where
     pub dates : 1 ≤ X .process .dates
-    pub monotone : Monotone (X .process)
+    pub averages : Averaging (X .process)
     pub opened : (b : Behaviour) → Open (X .process) (X .admissible b)
     pub closed : (b : Behaviour) → Closed (X .process) (X .admissible b) (X .layout .InRange)
     pub static-mixed : (s : S) (t : ℕ) → T (X .admissible static s t) → T (X .admissible mixed s t)
@@ -33,13 +33,14 @@ module _ {S H : Type 0} (X : Product S H) where
         → Attained (X .process) (X .admissible b) (X .layout .InRange) (lookup (X .layout) (amountLayers X b ++ rest))
     unfolding recordedAmount
     table-attains b rest =
-        attained (X .process) (h .monotone) (X .admissible b) (h .opened b) (X .layout .InRange) (h .closed b) _ (table-filled b rest) (h .dates)
+        attained (X .process) (h .averages) (X .admissible b) (h .opened b) (X .layout .InRange) (h .closed b) _
+        (table-filled b rest) (h .dates)
 
     at-most : (a b : Behaviour) → ((s : S) (t : ℕ) → T (X .admissible a s t) → T (X .admissible b s t)) → AtMost X a b
     unfolding contractValue stateValue
     at-most a b more = record {
-      contract = start-wider (X .process) (h .monotone) (X .admissible a) (X .admissible b) (h .opened a) (h .opened b) more;
-      state = wider (X .process) (h .monotone) (X .admissible a) (X .admissible b) (h .opened a) (h .opened b) more;
+      contract = start-wider (X .process) (h .averages) (X .admissible a) (X .admissible b) (h .opened a) (h .opened b) more;
+      state = wider (X .process) (h .averages) (X .admissible a) (X .admissible b) (h .opened a) (h .opened b) more;
     }
 
     pub demand : (rest : Behaviour → List ℕ) → ThirdDemand X (λ b. amountLayers X b ++ rest b)

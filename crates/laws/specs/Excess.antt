@@ -16,7 +16,7 @@ use Rattle.rules.specs.Product.{suppliedLayer, walkState, walkAmount, walkHeld,
 use Rattle.rules.specs.FixedTerm.{State, Held, InRange, admissibleIn, cashIn, afterIn, paidBy, startOf, processOf, layerSize}
 use Rattle.rules.specs.FixedTerm.{layoutOf, fixedTerm, livingTerm}
 use Rattle.laws.specs.Accepted.{Valid}
-use Rattle.laws.specs.FixedTerm.{monotone, reached-in-range, after-falls, placed-in-range, size-some}
+use Rattle.laws.specs.FixedTerm.{averages, reached-in-range, after-falls, placed-in-range, size-some}
 use Rattle.laws.specs.Walk.{walk-held}
 
 -- the contract whose ceiling pays nothing, as document 01 has it
@@ -63,12 +63,12 @@ module _ (c : Terms) (rs : Returns) (v : Valid c) (none : NoneAbove c rs) where
     -- values: of the contract, of every state, of the first layer left
     pub no-excess-value : (b : Behaviour) → contractValue (fixedTerm c rs ds) b ≡ contractValue (unpaid c rs ds) b
     unfolding contractValue fixedTerm unpaid
-    no-excess-value b = start-same (processOf c rs ds) (monotone c rs ds) (λ h k. 0) alike (admissibleIn c b)
+    no-excess-value b = start-same (processOf c rs ds) (averages c rs ds) (λ h k. 0) alike (admissibleIn c b)
 
     pub no-excess-state : (b : Behaviour) (i : ℕ) (s : State) → InRange c s
         → stateValue (fixedTerm c rs ds) b i s ≡ stateValue (unpaid c rs ds) b i s
     unfolding stateValue fixedTerm unpaid
-    no-excess-state b i s g = value-same (processOf c rs ds) (monotone c rs ds) (λ h k. 0) alike (admissibleIn c b) i s g
+    no-excess-state b i s g = value-same (processOf c rs ds) (averages c rs ds) (λ h k. 0) alike (admissibleIn c b) i s g
 
     pub no-excess-layer : (b : Behaviour) → valueLayer (fixedTerm c rs ds) b ≡ valueLayer (unpaid c rs ds) b
     unfolding valueLayer fixedTerm unpaid
@@ -78,18 +78,18 @@ module _ (c : Terms) (rs : Returns) (v : Valid c) (none : NoneAbove c rs) where
     pub no-excess-table : (b : Behaviour) → amountLayers (fixedTerm c rs ds) b ≡ amountLayers (unpaid c rs ds) b
     unfolding amountLayers recordedAmount layers fixedTerm unpaid layoutOf processOf
     no-excess-table b = tabulate-eq ((c .dates - 1) * layerSize c) _ _ (λ e l.
-        recorded-same (processOf c rs ds) (monotone c rs ds) (λ h k. 0) alike (admissibleIn c b) _ _
+        recorded-same (processOf c rs ds) (averages c rs ds) (λ h k. 0) alike (admissibleIn c b) _ _
         (placed-in-range c _ (mod-lt e (size-some c))))
 
     -- a supplied table
     pub no-excess-supplied : (table : List ℕ) → suppliedValue (fixedTerm c rs ds) table ≡ suppliedValue (unpaid c rs ds) table
     unfolding suppliedValue fixedTerm unpaid
-    no-excess-supplied table = start-table-same (processOf c rs ds) (monotone c rs ds) (λ h k. 0) alike (lookup (layoutOf c) table)
+    no-excess-supplied table = start-table-same (processOf c rs ds) (averages c rs ds) (λ h k. 0) alike (lookup (layoutOf c) table)
 
     pub no-excess-supplied-layer : (table : List ℕ) → suppliedLayer (fixedTerm c rs ds) table ≡ suppliedLayer (unpaid c rs ds) table
     unfolding suppliedLayer fixedTerm unpaid
     no-excess-supplied-layer table =
-        same-layer _ _ (table-same (processOf c rs ds) (monotone c rs ds) (λ h k. 0) alike (lookup (layoutOf c) table) 1)
+        same-layer _ _ (table-same (processOf c rs ds) (averages c rs ds) (λ h k. 0) alike (lookup (layoutOf c) table) 1)
 
   -- a walk whose numbers are those of returns
   module _ (table path : List ℕ) (long : length path ≡ c .dates) (numbers : (j : ℕ) → j < c .dates → getD path j 0 < rs .count) where

@@ -15,7 +15,7 @@ use Rattle.rules.specs.FixedTerm.{State, Held, freeIn, admissibleIn, rateIn, ca
 use Rattle.rules.specs.FixedTerm.{expectOver, startOf, processOf, fixedTerm}
 use Rattle.rules.specs.Fee.{withFee, feeValue, meets, smallestFee}
 use Rattle.laws.specs.Date.{dynamic-is, share-mono}
-use Rattle.laws.specs.FixedTerm.{mean-mono, opened}
+use Rattle.laws.specs.FixedTerm.{mean-mono, averages, opened}
 use Rattle.laws.specs.Rising.{account-rises, excess-rises, excess-paid-rises, maturity-rises, death-rises, free-rises}
 use Rattle.laws.specs.Rising.{dynamic-rises, cash-rises, balance-rises, guarantee-rises, answered, Answers, mixed-answers}
 use Rattle.laws.specs.Rising.{static-answers}
@@ -161,14 +161,14 @@ module _ (c : Terms) (rs : Returns) (ds : Rates) (small : c .penalty ≤ rateMos
   unfolding stateValue fixedTerm
   state-falls-with-fee b =
       value-less (processOf dear rs ds) (processOf cheap rs ds) (admissibleIn dear b) (admissibleIn cheap b) (fee-answers b)
-      (opened dear rs ds b) (opened cheap rs ds b)
+      (averages dear rs ds) (averages cheap rs ds) (opened dear rs ds b) (opened cheap rs ds b)
 
   -- .. nor for the contract
   pub value-falls-with-fee : (b : Behaviour) → feeValue c rs ds b high ≤ feeValue c rs ds b low
   unfolding feeValue contractValue fixedTerm
   value-falls-with-fee b =
       start-less (processOf dear rs ds) (processOf cheap rs ds) (admissibleIn dear b) (admissibleIn cheap b) (fee-answers b)
-      (opened dear rs ds b) (opened cheap rs ds b)
+      (averages dear rs ds) (averages cheap rs ds) (opened dear rs ds b) (opened cheap rs ds b)
 
 -- at one fee: what rises with the account
 pub value-rises : (c : Terms) (rs : Returns) (ds : Rates) → c .penalty ≤ rateMost → (b : Behaviour) (i : ℕ) (s u : State) → Below b s u

@@ -16,7 +16,8 @@ use Rattle.rules.specs.Date.{guaranteeAfter, balanceAfter, liftedAccount, nextA
 use Rattle.rules.specs.Date.{deathPayment, deathShare, discounted}
 use Rattle.rules.specs.Product.{contractValue}
 use Rattle.rules.specs.FixedTerm.{freeIn, admissibleIn, limitIn, cashIn, afterIn, reachBy, paidBy, deathBy, meanOf, expectOver}
-use Rattle.rules.specs.FixedTerm.{startOf, processOf, fixedTerm}
+use Rattle.rules.specs.FixedTerm.{startOf, processOf, listedTerm}
+use Rattle.rules.specs.ByList.{listed-contract}
 use Rattle.rules.specs.Fee.{feeValue, smallestFee}
 use Rattle.rules.specs.Cases.{P, returnsP}
 use Rattle.laws.specs.Date.{or-elim}
@@ -103,15 +104,15 @@ pub fee-figures : Each figures
 unfolding sum largest reached worth valueOver value startValue word long bytesOf termsOf returnsOf freeAmount largestAmount surrenders
     admits rateOn penalty cash guaranteeAfter balanceAfter liftedAccount nextAccount excess excessPaid maturityValue deathPayment
     deathShare discounted contractValue freeIn admissibleIn limitIn cashIn afterIn reachBy paidBy deathBy meanOf expectOver startOf
-    processOf fixedTerm feeValue P returnsP row valueAt found all-found figures
-fee-figures = each figures tt
+    processOf listedTerm feeValue P returnsP row valueAt found all-found figures
+fee-figures = each figures (rw listed-contract tt)
 
 -- "Contract P, static, wanted 99,999 has no fee, since the guarantee alone is worth 100,000."
 pub no-fee-case : rateMost < smallestFee P (returnsOf returnsP) living static 99999
 unfolding sum largest reached worth valueOver value startValue word long bytesOf termsOf returnsOf freeAmount largestAmount surrenders
     admits rateOn penalty cash guaranteeAfter balanceAfter liftedAccount nextAccount excess excessPaid maturityValue deathPayment
     deathShare discounted contractValue freeIn admissibleIn limitIn cashIn afterIn reachBy paidBy deathBy meanOf expectOver startOf
-    processOf fixedTerm feeValue P returnsP
+    processOf listedTerm feeValue P returnsP
 no-fee-case =
     fee-none P (returnsOf returnsP) living static 99999 P-penalty
-    (ltb→lt 99999 (feeValue P (returnsOf returnsP) living static rateMost) tt)
+    (ltb→lt 99999 (feeValue P (returnsOf returnsP) living static rateMost) (rw listed-contract tt))

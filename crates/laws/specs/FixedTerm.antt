@@ -4,12 +4,13 @@ use Prim.Native.Nat.{ℕ, _+_, _-_, _*_, _≤_, _<_}
 use native.Mathlib.Nat.{le-refl, le-trans, mod-lt, div-lt-iff-lt-mul, mul-le-mul, mul-le-mul-left, mul-pos}
 use native.Mathlib.Omega.{arith}
 use Rattle.decision.specs.Index.{sum-le, sum-eq}
-use Rattle.decision.specs.Process.{Monotone, Open, Closed}
+use Rattle.decision.specs.Process.{Averaging, Open, Closed}
 use Rattle.decision.specs.Layers.{Placed, low-digit, high-digit, two-digits}
 use Rattle.rules.specs.Contract.{Terms, Returns, Rates}
 use Rattle.rules.specs.Date.{Behaviour, largestAmount, discounted}
 use Rattle.rules.specs.FixedTerm.{State, Held, InRange, freeIn, admissibleIn, limitIn, afterIn, reachBy, deathBy, meanOf, expectOver}
 use Rattle.rules.specs.FixedTerm.{startOf, processOf, layerSize, layoutOf, fixedTerm}
+use Rattle.rules.specs.ByList.{mean-by-list}
 use Rattle.rules.specs.Operations.{tableSize}
 use Rattle.laws.specs.Accepted.{Valid}
 use Rattle.laws.specs.Date.{static-mixed, mixed-dynamic, admits-free, admits-within, guarantee-le, account-le, share-mono}
@@ -29,9 +30,12 @@ pub mean-mono : (c : Terms) (rs : Returns) {f g : ℕ → ℕ} → ((k : ℕ) �
 unfolding meanOf
 mean-mono c rs h = discounted-le (c .discount) _ _ (sum-le _ _ (rs .count) (λ k l. mul-le-mul-left (rs .weight k) (h k l)))
 
-pub monotone : (c : Terms) (rs : Returns) (ds : Rates) → Monotone (processOf c rs ds)
+pub averages : (c : Terms) (rs : Returns) (ds : Rates) → Averaging (processOf c rs ds)
 unfolding processOf expectOver
-monotone c rs ds i h v w g = mean-mono c rs (λ k l. share-mono (ds i) (g k l) (le-refl (deathBy c rs h k)))
+averages c rs ds = record {
+  rises = λ i h v w g. mean-mono c rs (λ k l. share-mono (ds i) (g k l) (le-refl (deathBy c rs h k)));
+  listed = mean-by-list c rs ds;
+}
 
 pub opened : (c : Terms) (rs : Returns) (ds : Rates) (b : Behaviour) → Open (processOf c rs ds) (admissibleIn c b)
 unfolding processOf admissibleIn limitIn largestAmount
@@ -92,7 +96,8 @@ table-most {c} v = let d : c .dates - 1 ≤ 39 = omega (arith, v .dates) in mul-
 pub placed : (c : Terms) → Placed (layoutOf c)
 unfolding layoutOf layerSize
 placed c = record {
-  placed = λ s g. two-digits (s .account) (s .guarantee) (c .top + 1) (c .premium + 1) (omega (arith, g .account)) (omega (arith, g .guarantee));
+  placed = λ s g.
+      two-digits (s .account) (s .guarantee) (c .top + 1) (c .premium + 1) (omega (arith, g .account)) (omega (arith, g .guarantee));
   state-place = λ s g.
       let l : s .guarantee < c .premium + 1 = omega (arith, g .guarantee) in
       let p = high-digit (s .account) (s .guarantee) (c .premium + 1) l in
@@ -104,7 +109,7 @@ pub sound : (c : Terms) (rs : Returns) (ds : Rates) → Valid c → Sound (fixed
 unfolding fixedTerm processOf admissibleIn layoutOf
 sound c rs ds v = record {
   dates = v .dates-least;
-  monotone = monotone c rs ds;
+  averages = averages c rs ds;
   opened = opened c rs ds;
   closed = closed c rs ds;
   static-mixed = λ s t p. static-mixed (freeIn c s) (s .account) t p;

@@ -3,6 +3,8 @@ pub mod Accepted
 pub mod Date
 pub mod Demand
 pub mod FixedTerm
+pub mod ByList
+pub mod AnyOrder
 pub mod Valuing
 pub mod ThirdDemand
 pub mod Bounds

@@ -47,6 +47,7 @@ paying pays X = record {
     reach = X .process .reach;
     paid = X .process .paid;
     expect = X .process .expect;
+    mean = X .process .mean;
     final = X .process .final;
   };
   admissible = X .admissible;

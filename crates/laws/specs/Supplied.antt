@@ -17,7 +17,8 @@ use Rattle.rules.specs.Date.{Behaviour, static, mixed, dynamic}
 use Rattle.rules.specs.Product.{recordedAmount, contractValue, suppliedValue, amountLayers}
 use Rattle.rules.specs.FixedTerm.{State, InRange, admissibleIn, layerSize, layoutOf, processOf, fixedTerm}
 use Rattle.rules.specs.Refusals.{checkEach, accepted, refused, verdict, short, inputChecks}
-use Rattle.rules.specs.Operations.{productOf, answer, behaviourOf, tableSize, valuingChecks, valuingVerdict, valuingAnswer, valuingTable, badAt, badEntry, tableChecks, suppliedChecks, suppliedVerdict, suppliedAnswer}
+use Rattle.rules.specs.Operations.{productOf, answer, behaviourOf, tableSize, valuingChecks, valuingVerdict, valuingAnswer, valuingTable}
+use Rattle.rules.specs.Operations.{badAt, badEntry, tableChecks, suppliedChecks, suppliedVerdict, suppliedAnswer}
 use Rattle.rules.specs.Facts.{supplied-order}
 use Rattle.laws.specs.Accepted.{Valid, Positive, zero-accepts, AllPass, all-pass, pass-right, not-not, then-accepted}
 use Rattle.laws.specs.Accepted.{then-earlier, input-valid, success-reports}
@@ -26,11 +27,13 @@ use Rattle.laws.specs.Demand.{table-attains}
 use Rattle.laws.specs.ThirdDemand.{valuing-accepts, valuing-valid, valuing-leaves}
 
 module _ (c : Terms) (work table : List ℕ) where
-  lent-long : 2 * layerSize c ≤ length work → tableSize c ≤ length table → (short (2 * layerSize c) work || short (tableSize c) table) ≡ false
+  lent-long : 2 * layerSize c ≤ length work → tableSize c ≤ length table
+      → (short (2 * layerSize c) work || short (tableSize c) table) ≡ false
   unfolding short
   lent-long h l = rw (le-ltb (length work) (2 * layerSize c) h, le-ltb (length table) (tableSize c) l)
 
-  pub slices-refused : (short (2 * layerSize c) work || short (tableSize c) table) ≡ true → verdict (tableChecks c work table) ≡ refused 11 0
+  pub slices-refused : (short (2 * layerSize c) work || short (tableSize c) table) ≡ true
+      → verdict (tableChecks c work table) ≡ refused 11 0
   unfolding tableChecks verdict
   slices-refused e = rw e
 
@@ -53,14 +56,16 @@ all-admitted c rs ds table valid h i s g =
     let e = entry (layoutOf c) i s in
     let within = entry-within (layoutOf c) placed (c .dates - 1) i s (g .from) (omega (arith, g .before)) (g .range) in
     let good = all-fail (badEntry c table) ((c .dates - 1) * layerSize c) h e within in
-    not-not (admissibleIn c dynamic s (getD table e 0)) (subst (λ (x : State). T (not (not (admissibleIn c dynamic x (getD table e 0))))) (entry-state (layoutOf c) placed i s (g .range)) (rw good tt))
+    not-not (admissibleIn c dynamic s (getD table e 0))
+    (subst (λ (x : State). T (not (not (admissibleIn c dynamic x (getD table e 0)))))
+    (entry-state (layoutOf c) placed i s (g .range)) (rw good tt))
 
 -- the value of a table is what following it earns
 supplied-earned : (c : Terms) (rs : Returns) (ds : Rates) → Valid c → (table : List ℕ)
     → startEarned (processOf c rs ds) (startFollow (processOf c rs ds) (lookup (layoutOf c) table))
     ≡ suppliedValue (fixedTerm c rs ds) table
 unfolding suppliedValue fixedTerm
-supplied-earned c rs ds valid table = start-table-earned (processOf c rs ds) (sound c rs ds valid .monotone) (lookup (layoutOf c) table)
+supplied-earned c rs ds valid table = start-table-earned (processOf c rs ds) (sound c rs ds valid .averages) (lookup (layoutOf c) table)
 
 -- ---- a call that answers number 0
 module _ (bytes list rates work table : List ℕ) (zero-number : suppliedAnswer bytes list rates work table .number ≡ 0) where
@@ -101,7 +106,7 @@ module _ (bytes list rates work table : List ℕ) (zero-number : suppliedAnswer 
       let s = sound c rs ds valid in
       let d = lookup (layoutOf c) table in
       let kept =
-      start-table-kept (processOf c rs ds) (s .monotone) d (admissibleIn c dynamic) (InRange c) (s .closed dynamic)
+      start-table-kept (processOf c rs ds) (s .averages) d (admissibleIn c dynamic) (InRange c) (s .closed dynamic)
       (all-admitted c rs ds table valid none-bad) (s .dates) in
       le-trans (le-of-eq (sym supplied-follows))
       (table-attains (fixedTerm c rs ds) s dynamic [] .start-most (startFollow (processOf c rs ds) d) kept)

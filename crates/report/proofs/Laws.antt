@@ -32,7 +32,7 @@ use Rattle.contract.specs.declared.Contract.{Contract}
 use Rattle.contract.specs.Reading.{termsIn}
 use Rattle.contract.specs.Accepted.{Both}
 use Rattle.contract.specs.declared.Returns as listed
-use Rattle.expect.specs.Expected.{listing}
+use Rattle.returns.specs.Listed.{listing}
 use Rattle.valuing.specs.declared.Answer as declared
 use Rattle.valuing.specs.Answered.{answerOf}
 use Rattle.report.specs.Tables.{accountBy, entryBy, tableLine, Tabled, Filled, one-layer, tableLeft, workLeft}

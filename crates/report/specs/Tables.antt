@@ -14,7 +14,7 @@ use Rattle.rules.specs.Refusals.{accepted, verdict, onSuccess, recordChecks, li
 use Rattle.rules.specs.Operations.{workAfter, tableSize}
 use Rattle.rules.specs.Printed.{decimal, line, programOf, programVerdict}
 use Rattle.laws.specs.Accepted.{Valid}
-use Rattle.expect.specs.Expected.{Listing}
+use Rattle.returns.specs.Listed.{Listing}
 
 -- the account at date 1 after return k
 unfoldable pub accountBy : Terms → Returns → ℕ → ℕ

@@ -2,24 +2,28 @@
 -- the definitions; and cases of document 02, by its requests. Assumes nothing.
 use mathlib.Core.Bool.{Bool, false}
 use mathlib.Core.List.{List, [], _∷_, _++_, map}
-use mathlib.Core.Path.{_≡_, refl}
+use mathlib.Core.Path.{_≡_, refl, ap, _∙_, fun-ext}
 use Prim.Native.Nat.{ℕ, _+_, _*_}
 use lib.IntN.{ℤ, pos}
-use lib.ListN.{replicate}
+use lib.Dec.{leb, ltb}
+use lib.ListN.{replicate, drop}
 use Rattle.decision.specs.Index.{sum, tabulate, first, firstFrom}
+use Rattle.decision.specs.Groups.{most}
 use Rattle.decision.specs.Bits.{bit, fromBits, wordsFor, wordOf, wordsOf, setBits}
 use Rattle.decision.specs.Layers.{lookup, layers, entry}
 use Rattle.decision.specs.Choice.{largest, smallestBest}
 use Rattle.decision.specs.Process.{reached, worth, valueOver, value, recorded, startValue, met, startMet}
-use Rattle.rules.specs.Contract.{word, long, bytesOf, Terms, termsOf, returnsOf, ratesOf, living}
+use Rattle.rules.specs.Contract.{word, long, bytesOf, Terms, Returns, Rates, termsOf, returnsOf, ratesOf, living, rateMost}
 use Rattle.rules.specs.Date.{Behaviour, static, mixed, dynamic, freeAmount, largestAmount, surrenders, admits, rateOn}
 use Rattle.rules.specs.Date.{penalty, cash, guaranteeAfter, balanceAfter, liftedAccount, nextAccount, excess, excessPaid}
 use Rattle.rules.specs.Date.{maturityValue, deathPayment, deathShare, discounted, margin}
-use Rattle.rules.specs.Product.{stateValue, recordedAmount, contractValue, amountLayers, walkState, walkAmount, walkHeld}
+use Rattle.rules.specs.Product.{Product, stateValue, recordedAmount, contractValue, amountLayers, walkState, walkAmount, walkHeld}
 use Rattle.rules.specs.Product.{walkPaid, walkCashOn, walkCashLast, walkCash}
 use Rattle.rules.specs.FixedTerm.{State, freeIn, admissibleIn, limitIn, cashIn, afterIn, reachBy, paidBy, deathBy}
-use Rattle.rules.specs.FixedTerm.{meanOf, expectOver, startOf, processOf, layerSize, layoutOf, fixedTerm}
-use Rattle.rules.specs.Refusals.{checkEach, Verdict, accepted, refused, verdict, numberOf, placeOf, onSuccess, outside}
+use Rattle.rules.specs.FixedTerm.{Held, meanOf, expectOver, startOf, processOf, layerSize, layoutOf, fixedTerm, listedTerm}
+use Rattle.rules.specs.FixedTerm.{weightTo, excessMost, byAccount, meanByAccount, valueWith, meanOver}
+use Rattle.rules.specs.ByList.{listed-contract}
+use Rattle.rules.specs.Refusals.{check, checkEach, Verdict, accepted, refused, verdict, numberOf, placeOf, onSuccess, outside}
 use Rattle.rules.specs.Refusals.{short, termsChecks, recordChecks, badReturn, listChecks, ratesChecks, inputChecks}
 use Rattle.rules.specs.Operations.{productOf, livingOf, Answer, answer, behaviourNumber, behaviourOf, tableSize, lentChecks}
 use Rattle.rules.specs.Operations.{recordVerdict, valuingChecks, valuingVerdict, valuingAnswer, amountChecks, bookingChecks}
@@ -27,7 +31,7 @@ use Rattle.rules.specs.Operations.{bookingVerdict, bookingBytes, booking
 use Rattle.rules.specs.Operations.{walkVerdict, walkCashes, workChecks, aloneChecks, aloneVerdict}
 use Rattle.rules.specs.Map.{surrendered, surrenderMap, surrenderCount, mapSize, mapChecks, mappingChecks, mappingVerdict}
 use Rattle.rules.specs.Map.{mappingTable, mappingMap, mappingCount}
-use Rattle.rules.specs.Fee.{feeValue, meets, smallestFee, wantedChecks, feeChecks, feeVerdict, feeFound, feeAnswer, feeWork}
+use Rattle.rules.specs.Fee.{withFee, feeValue, meets, smallestFee, wantedChecks, feeChecks, feeVerdict, feeFound, feeAnswer, feeWork}
 use Rattle.rules.specs.Printed.{digits, decimal, numbered, line, nameOf, linesOf, valueLine, returnLine, lineCount}
 use Rattle.rules.specs.Printed.{valuesText, textOf, zeroRates, programVerdict, printed}
 
@@ -146,6 +150,21 @@ valuedWith c rates b =
     (valuingVerdict (packed c) returnsP rates (behaviourNumber b) work table)
     (valuingAnswer (packed c) returnsP rates (behaviourNumber b) work table)
 
+walkedAlong : Terms → List ℕ → List ℕ → Told
+walkedAlong c path table =
+    let before : List ℕ = replicate (c .dates + 1) 7 in
+    unless-refused (walkVerdict (packed c) returnsP table path before) (cashes (walkCashes (packed c) returnsP table path before))
+
+surrenderTold : Terms → ℕ → ℕ → Told
+surrenderTold c w a = allowed (surrenders (freeIn c (at w a)) w w)
+
+recordTold : Terms → Told
+recordTold c = let v = recordVerdict (packed c) in number-place (numberOf v) (placeOf v)
+
+bookingTold : Terms → ℕ → ℕ → ℕ → ℕ → Told
+bookingTold c i w a t =
+    unless-refused (bookingVerdict (packed c) i w a t (replicate 16 0)) (booked (bookingBuffer (packed c) i w a t (replicate 16 0)))
+
 pub tell : Question → Told
 tell (contractOf c b) = valuedWith c (zeroRates (packed c)) b
 tell (ratedOf c rates b) = valuedWith c (packedRates rates) b
@@ -162,10 +181,7 @@ tell (mapOf c b words word) =
 tell (stateOf c b w a) =
     let X = fixedTerm c (returnsOf returnsP) living in
     value-amount (stateValue X b 1 (at w a)) (recordedAmount X b 1 (at w a))
-tell (walkOf c b path) =
-    let table : List ℕ = amountLayers (livingOf (packed c) returnsP) b in
-    let before : List ℕ = replicate (c .dates + 1) 7 in
-    unless-refused (walkVerdict (packed c) returnsP table path before) (cashes (walkCashes (packed c) returnsP table path before))
+tell (walkOf c b path) = walkedAlong c path (amountLayers (livingOf (packed c) returnsP) b)
 tell (feeOf c b wanted) =
     let rates : List ℕ = zeroRates (packed c) in
     let work : List ℕ = replicate (2 * layerSize c + 1) 7 in
@@ -173,10 +189,75 @@ tell (feeOf c b wanted) =
     unless-refused
     (feeVerdict (packed c) returnsP rates (behaviourNumber b) wanted work)
     (fee-value-margin (feeFound (packed c) returnsP rates (behaviourNumber b) wanted work) (a .value) (a .margin))
-tell (surrenderAt c w a) = allowed (surrenders (freeIn c (at w a)) w w)
-tell (recordOf c) = let v = recordVerdict (packed c) in number-place (numberOf v) (placeOf v)
-tell (bookingOf c i w a t) =
-    unless-refused (bookingVerdict (packed c) i w a t (replicate 16 0)) (booked (bookingBuffer (packed c) i w a t (replicate 16 0)))
+tell (surrenderAt c w a) = surrenderTold c w a
+tell (recordOf c) = recordTold c
+tell (bookingOf c i w a t) = bookingTold c i w a t
+
+-- ---- (vii) what is told of a contract whose means are summed in another way, and so computed sooner
+abbrev Family : Type 1
+Family = Terms → Returns → Rates → Product State Held
+
+contractBy : Family → List ℕ → List ℕ → Product State Held
+contractBy F bytes rates = F (termsOf bytes) (returnsOf returnsP) (ratesOf rates)
+
+valuedBy : Family → Terms → List ℕ → Behaviour → Told
+valuedBy F c rates b =
+    let v = valuingVerdict (packed c) returnsP rates (behaviourNumber b) (replicate (2 * layerSize c) 0) (replicate (tableSize c) 0) in
+    valued v (answer v (contractValue (contractBy F (packed c) rates) (behaviourOf (behaviourNumber b))) (termsOf (packed c) .premium))
+
+mapBy : Family → Terms → Behaviour → ℕ → ℕ → Told
+mapBy F c b words filler =
+    let bytes = packed c in
+    let rates = zeroRates bytes in
+    let table : List ℕ = replicate (tableSize c) 0 in
+    let map : List ℕ = replicate words filler in
+    let v = mappingVerdict bytes returnsP rates (behaviourNumber b) (replicate (2 * layerSize c) 0) table map in
+    let after =
+    onSuccess v
+    (amountLayers (contractBy F bytes rates) (behaviourOf (behaviourNumber b)) ++ drop (tableSize (termsOf bytes)) table) table in
+    unless-refused v
+    (words-count (onSuccess v (surrenderMap (termsOf bytes) after ++ drop (mapSize (termsOf bytes)) map) map)
+    (onSuccess v (surrenderCount (termsOf bytes) after) 0))
+
+feeBy : Family → Terms → Behaviour → ℕ → Told
+feeBy F c b wanted =
+    let bytes = packed c in
+    let rates = zeroRates bytes in
+    let n = behaviourNumber b in
+    let value : ℕ → ℕ = λ fee. contractValue (F (withFee (termsOf bytes) fee) (returnsOf returnsP) (ratesOf rates)) (behaviourOf n) in
+    let fee = first (λ x. leb (value x) wanted) (rateMost + 1) in
+    let v = verdict (aloneChecks bytes returnsP rates n (replicate (2 * layerSize c + 1) 7) ++ (check 19 0 (ltb rateMost fee) ∷ [])) in
+    let a = answer v (value fee) (termsOf bytes .premium) in
+    unless-refused v (fee-value-margin (onSuccess v fee 0) (a .value) (a .margin))
+
+tellBy : Family → Question → Told
+tellBy F (contractOf c b) = valuedBy F c (zeroRates (packed c)) b
+tellBy F (ratedOf c rates b) = valuedBy F c (packedRates rates) b
+tellBy F (stateOf c b w a) =
+    let X = F c (returnsOf returnsP) living in value-amount (stateValue X b 1 (at w a)) (recordedAmount X b 1 (at w a))
+tellBy F (surrenderAt c w a) = surrenderTold c w a
+tellBy F (recordOf c) = recordTold c
+tellBy F (mapOf c b words word) = mapBy F c b words word
+tellBy F (walkOf c b path) = walkedAlong c path (amountLayers (F (termsOf (packed c)) (returnsOf returnsP) living) b)
+tellBy F (feeOf c b wanted) = feeBy F c b wanted
+tellBy F (bookingOf c i w a t) = bookingTold c i w a t
+
+tell-by : (q : Question) → tell q ≡ tellBy fixedTerm q
+unfolding tell tellBy valuedWith valuedBy mapBy feeBy contractBy valuingAnswer mappingTable mappingMap mappingCount feeVerdict feeChecks
+    wantedChecks feeFound feeAnswer smallestFee meets feeValue productOf livingOf
+tell-by (contractOf c b) = refl
+tell-by (ratedOf c rates b) = refl
+tell-by (stateOf c b w a) = refl
+tell-by (surrenderAt c w a) = refl
+tell-by (recordOf c) = refl
+tell-by (mapOf c b words word) = refl
+tell-by (walkOf c b path) = refl
+tell-by (feeOf c b wanted) = refl
+tell-by (bookingOf c i w a t) = refl
+
+-- return by return
+tell-listed : tell ≡ tellBy listedTerm
+tell-listed = fun-ext tell-by ∙ ap tellBy listed-contract
 
 -- ---- the marked cases
 pub record Row : Type 0 where
@@ -213,12 +294,12 @@ pub marked-cases : map (λ r. tell (r .asked)) marked ≡ map (λ r. r .told) ma
 unfolding sum first firstFrom largest smallestBest reached worth valueOver value recorded startValue word long bytesOf termsOf returnsOf
     ratesOf freeAmount largestAmount surrenders admits rateOn penalty cash guaranteeAfter balanceAfter liftedAccount nextAccount excess
     excessPaid maturityValue discounted margin stateValue recordedAmount contractValue freeIn admissibleIn limitIn cashIn afterIn reachBy
-    paidBy deathPayment deathShare deathBy meanOf expectOver startOf processOf layerSize layoutOf fixedTerm checkEach verdict numberOf
+    paidBy deathPayment deathShare deathBy meanOf expectOver startOf processOf layerSize layoutOf listedTerm checkEach verdict numberOf
     placeOf onSuccess outside short termsChecks recordChecks badReturn listChecks ratesChecks inputChecks productOf answer behaviourNumber
     behaviourOf tableSize lentChecks valuingChecks valuingVerdict valuingAnswer amountChecks bookingChecks bookingVerdict bookingBytes
-    bookingBuffer packed P P-one P-discounted Q returnsP at unless-refused booked valued valuedWith recordVerdict zeroRates tell row
-    marked
-marked-cases = refl
+    bookingBuffer packed P P-one P-discounted Q returnsP at unless-refused booked valued valuedBy recordVerdict zeroRates contractBy
+    bookingTold surrenderTold tellBy row marked
+marked-cases = rw tell-listed refl
 
 -- ---- document 02 (i): contract P with N 4 at steps 0, 100 and 1,000; bookings by date; the ends of the two fields
 pub step-rows : List Row
@@ -245,11 +326,12 @@ pub step-cases : map (λ r. tell (r .asked)) step-rows ≡ map (λ r. r .told) s
 unfolding sum first firstFrom largest smallestBest reached worth valueOver value recorded startValue word long bytesOf termsOf returnsOf
     ratesOf freeAmount largestAmount surrenders admits rateOn penalty cash guaranteeAfter balanceAfter liftedAccount nextAccount excess
     excessPaid maturityValue discounted margin stateValue recordedAmount contractValue freeIn admissibleIn limitIn cashIn afterIn reachBy
-    paidBy deathPayment deathShare deathBy meanOf expectOver startOf processOf layerSize layoutOf fixedTerm checkEach verdict numberOf
+    paidBy deathPayment deathShare deathBy meanOf expectOver startOf processOf layerSize layoutOf listedTerm checkEach verdict numberOf
     placeOf onSuccess outside short termsChecks recordChecks badReturn listChecks ratesChecks inputChecks productOf answer behaviourNumber
     behaviourOf tableSize lentChecks recordVerdict valuingChecks valuingVerdict valuingAnswer amountChecks bookingChecks bookingVerdict
-    bookingBytes bookingBuffer packed P-spare P-step returnsP at unless-refused booked valued valuedWith zeroRates tell row step-rows
-step-cases = refl
+    bookingBytes bookingBuffer packed P-spare P-step returnsP at unless-refused booked valued valuedBy zeroRates contractBy
+    bookingTold recordTold tellBy row step-rows
+step-cases = rw tell-listed refl
 
 -- ---- document 02 (ii): the maps of contract P, in words that held ones before; a word too few; of a contract with two decision
 -- dates, a word behind them; of one with none
@@ -268,12 +350,12 @@ pub map-cases : map (λ r. tell (r .asked)) map-rows ≡ map (λ r. r .told) map
 unfolding sum tabulate first firstFrom largest smallestBest reached worth valueOver value recorded startValue word long bytesOf termsOf
     returnsOf ratesOf freeAmount largestAmount surrenders admits rateOn penalty cash guaranteeAfter balanceAfter liftedAccount nextAccount
     excess excessPaid maturityValue discounted recordedAmount amountLayers layers freeIn admissibleIn limitIn cashIn afterIn reachBy
-    paidBy deathPayment deathShare deathBy meanOf expectOver startOf processOf layerSize layoutOf fixedTerm checkEach verdict onSuccess
+    paidBy deathPayment deathShare deathBy meanOf expectOver startOf processOf layerSize layoutOf listedTerm checkEach verdict onSuccess
     outside short termsChecks recordChecks badReturn listChecks ratesChecks inputChecks productOf behaviourNumber behaviourOf tableSize
     lentChecks valuingChecks bit fromBits wordsFor wordOf wordsOf setBits surrendered surrenderMap surrenderCount mapSize mapChecks
     mappingChecks mappingVerdict mappingTable mappingMap mappingCount packed P P-one small returnsP unless-refused recordVerdict
-    zeroRates tell row map-rows
-map-cases = refl
+    zeroRates contractBy mapBy tellBy row map-rows
+map-cases = rw tell-listed refl
 
 -- ---- document 02 (iv): contract P with N 3, and its walks along the dynamic table; with top 12, where the first return pays
 pub excess-rows : List Row
@@ -298,11 +380,11 @@ unfolding sum tabulate first firstFrom largest smallestBest reached worth valueO
     bytesOf termsOf returnsOf ratesOf freeAmount largestAmount surrenders admits rateOn penalty cash guaranteeAfter balanceAfter
     liftedAccount nextAccount excess excessPaid maturityValue discounted margin recordedAmount contractValue amountLayers walkState
     walkAmount walkHeld walkPaid walkCashOn walkCashLast walkCash lookup layers entry freeIn admissibleIn limitIn cashIn afterIn reachBy
-    paidBy deathPayment deathShare deathBy meanOf expectOver startOf processOf layerSize layoutOf fixedTerm checkEach verdict onSuccess
-    outside short termsChecks recordChecks badReturn listChecks ratesChecks inputChecks productOf livingOf answer behaviourNumber
+    paidBy deathPayment deathShare deathBy meanOf expectOver startOf processOf layerSize layoutOf fixedTerm listedTerm checkEach verdict
+    onSuccess outside short termsChecks recordChecks badReturn listChecks ratesChecks inputChecks productOf livingOf answer behaviourNumber
     behaviourOf tableSize lentChecks valuingChecks valuingVerdict valuingAnswer badDate pathChecks walkChecks walkVerdict walkCashes
-    packed P-three P-tight returnsP unless-refused valued valuedWith recordVerdict zeroRates tell row excess-rows
-excess-cases = refl
+    packed P-three P-tight returnsP unless-refused valued valuedBy recordVerdict zeroRates contractBy walkedAlong tellBy row excess-rows
+excess-cases = rw tell-listed refl
 
 -- ---- document 02 (v): contract P with death rates, also of three and four periods, of a discount, and of top 12, where a death
 -- pays an excess; rates too few, too many and too high
@@ -335,11 +417,11 @@ pub death-cases : map (λ r. tell (r .asked)) death-rows ≡ map (λ r. r .told)
 unfolding sum first firstFrom largest smallestBest reached worth valueOver value startValue word long bytesOf termsOf returnsOf ratesOf
     freeAmount largestAmount surrenders admits rateOn penalty cash guaranteeAfter balanceAfter liftedAccount nextAccount excess excessPaid
     maturityValue deathPayment deathShare discounted margin contractValue freeIn admissibleIn limitIn cashIn afterIn reachBy paidBy
-    deathBy meanOf expectOver startOf processOf layerSize layoutOf fixedTerm checkEach verdict numberOf placeOf onSuccess outside short
+    deathBy meanOf expectOver startOf processOf layerSize layoutOf listedTerm checkEach verdict numberOf placeOf onSuccess outside short
     termsChecks recordChecks badReturn listChecks ratesChecks inputChecks productOf answer behaviourNumber behaviourOf tableSize
     lentChecks valuingChecks valuingVerdict valuingAnswer packed packedRates P P-three P-four P-discounted P-tight returnsP unless-refused
-    valued valuedWith recordVerdict zeroRates tell row death-rows
-death-cases = refl
+    valued valuedBy recordVerdict zeroRates contractBy tellBy row death-rows
+death-cases = rw tell-listed refl
 
 -- ---- document 02 (vi): contract P; Q, whose record has a fee; a contract of one unit. Fees further from 0, and a value that no fee
 -- gives: crates/laws/specs/FeeCases.antt
@@ -360,11 +442,39 @@ pub fee-cases : map (λ r. tell (r .asked)) fee-rows ≡ map (λ r. r .told) fee
 unfolding sum first firstFrom largest smallestBest reached worth valueOver value startValue word long bytesOf termsOf returnsOf ratesOf
     freeAmount largestAmount surrenders admits rateOn penalty cash guaranteeAfter balanceAfter liftedAccount nextAccount excess excessPaid
     maturityValue deathPayment deathShare discounted margin contractValue freeIn admissibleIn limitIn cashIn afterIn reachBy paidBy
-    deathBy meanOf expectOver startOf processOf layerSize layoutOf fixedTerm checkEach verdict numberOf placeOf onSuccess outside short
+    deathBy meanOf expectOver startOf processOf layerSize layoutOf listedTerm checkEach verdict numberOf placeOf onSuccess outside short
     termsChecks recordChecks badReturn listChecks ratesChecks inputChecks productOf answer behaviourNumber behaviourOf workChecks
     aloneChecks feeValue meets smallestFee wantedChecks feeChecks feeVerdict feeFound feeAnswer packed P Q tiny returnsP unless-refused
-    recordVerdict zeroRates tell row fee-rows
-fee-cases = refl
+    recordVerdict zeroRates contractBy feeBy tellBy row fee-rows
+fee-cases = rw tell-listed refl
+
+-- ---- document 02 (vii): contracts of few states, computed by account, as the definitions are
+two : Terms
+two = record { premium = 2; level = 1; top = 2; dates = 1; fee = 0; penalty = 0; discount = 1000000; step = 0; spare = 0 }
+
+two-dated : Terms
+two-dated = record { premium = 1; level = 1; top = 1; dates = 2; fee = 0; penalty = 0; discount = 1000000; step = 0; spare = 0 }
+
+pub tiny-rows : List Row
+tiny-rows =
+    row 1 (contractOf two static) (value-margin 25000 (pos 5000))
+    ∷ row 2 (feeOf two static 25000) (fee-value-margin 0 25000 (pos 5000))
+    ∷ row 3 (feeOf two static 24999) (fee-value-margin 1 20000 (pos 0))
+    ∷ row 4 (mapOf two-dated mixed 2 7) (words-count (4 ∷ 7 ∷ []) 1)
+    ∷ []
+
+pub tiny-cases : map (λ r. tell (r .asked)) tiny-rows ≡ map (λ r. r .told) tiny-rows
+unfolding sum first firstFrom largest smallestBest worth valueOver value startValue word long bytesOf termsOf returnsOf ratesOf
+    freeAmount largestAmount surrenders admits rateOn penalty cash guaranteeAfter balanceAfter liftedAccount nextAccount excess
+    excessPaid maturityValue deathPayment deathShare discounted margin contractValue freeIn admissibleIn limitIn cashIn afterIn startOf
+    processOf layerSize layoutOf checkEach verdict numberOf placeOf onSuccess outside short termsChecks recordChecks badReturn
+    listChecks ratesChecks inputChecks productOf answer behaviourNumber behaviourOf workChecks aloneChecks feeValue meets smallestFee
+    wantedChecks feeChecks feeVerdict feeFound feeAnswer packed returnsP unless-refused recordVerdict zeroRates row tabulate recorded
+    recordedAmount amountLayers layers tableSize lentChecks valuingChecks bit fromBits wordsFor wordOf wordsOf setBits surrendered
+    surrenderMap surrenderCount mapSize mapChecks mappingChecks mappingVerdict mappingTable mappingMap mappingCount most weightTo
+    excessMost byAccount meanByAccount valueWith meanOver fixedTerm valuingVerdict valuingAnswer valuedWith valued tell two two-dated
+    tiny-rows
+tiny-cases = refl
 
 -- "After the search, found or not, the needed working entries are zero": both layers of four entries, and the one behind them as it
 -- was; a slice that is too short keeps what it held
@@ -385,11 +495,11 @@ pub printed-P : printed (packed P) returnsP
 unfolding sum first firstFrom largest smallestBest reached worth valueOver value recorded startValue word long bytesOf termsOf returnsOf
     ratesOf freeAmount largestAmount surrenders admits rateOn penalty cash guaranteeAfter balanceAfter liftedAccount nextAccount excess
     excessPaid maturityValue discounted stateValue recordedAmount contractValue freeIn admissibleIn limitIn cashIn afterIn reachBy paidBy
-    deathPayment deathShare deathBy meanOf expectOver startOf processOf layerSize layoutOf fixedTerm checkEach verdict outside short
+    deathPayment deathShare deathBy meanOf expectOver startOf processOf layerSize layoutOf listedTerm checkEach verdict outside short
     termsChecks recordChecks badReturn listChecks ratesChecks inputChecks productOf behaviourNumber tableSize lentChecks valuingChecks
     valuingVerdict digits decimal numbered line nameOf linesOf valueLine returnLine lineCount valuesText textOf recordVerdict onSuccess
     zeroRates programVerdict printed packed P returnsP
-printed-P = refl
+printed-P = rw listed-contract refl
 
 -- "the program lends 4,096 working numbers, refusing by 11 what needs more": two layers of 64 × 32 entries, and of 683 × 3
 abbrev pub P-wide : ℕ → ℕ → Terms

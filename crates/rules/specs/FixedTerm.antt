@@ -1,8 +1,11 @@
 -- The fixed-term contract of documents 01 and 02 as a product: its states, its one date, its values, its layers. Assumes nothing.
-use mathlib.Core.Bool.{Bool}
-use Prim.Native.Nat.{ℕ, _+_, _*_, _/_, _%_, _≤_}
+use mathlib.Core.Bool.{Bool, cond, _&&_}
+use Prim.Native.Nat.{ℕ, suc, _+_, _*_, _/_, _%_, _≤_}
+use lib.Dec.{eqb}
 use Rattle.decision.specs.Index.{sum}
+use Rattle.decision.specs.Groups.{most}
 use Rattle.decision.specs.Process.{Process}
+use Rattle.decision.specs.Means.{listed}
 use Rattle.decision.specs.Layers.{Layout}
 use Rattle.rules.specs.Contract.{Terms, Returns, Rates, living}
 use Rattle.rules.specs.Date.{Behaviour, freeAmount, largestAmount, admits, rateOn, cash, guaranteeAfter, balanceAfter}
@@ -72,6 +75,34 @@ meanOf c rs reached = discounted (c .discount) (sum (λ k. rs .weight k * reache
 unfoldable pub expectOver : Terms → Returns → Rates → ℕ → Held → (ℕ → ℕ) → ℕ
 expectOver c rs ds i h reached = meanOf c rs (λ k. deathShare (ds i) (reached k) (deathBy c rs h k))
 
+-- (vii) "Weights of returns that reach the same account and the same excess shall be added first"
+unfoldable pub weightTo : Terms → Returns → ℕ → ℕ → ℕ → ℕ
+weightTo c rs balance w over =
+    sum (λ k.
+    cond (eqb (nextAccount (c .fee) (c .top) balance (rs .factor k)) w && eqb (excess (c .fee) (c .top) balance (rs .factor k)) over)
+    (rs .weight k) 0) (rs .count)
+
+-- no return reaches a larger excess
+unfoldable pub excessMost : Terms → Returns → ℕ → ℕ
+excessMost c rs balance = most (λ k. excess (c .fee) (c .top) balance (rs .factor k)) (rs .count)
+
+-- ".. and the products summed account by account from the lowest, then by excess."
+unfoldable pub byAccount : Terms → Returns → ℕ → (ℕ → ℕ → ℕ) → ℕ
+byAccount c rs balance reached =
+    sum (λ w. sum (λ over. weightTo c rs balance w over * reached w over) (suc (excessMost c rs balance))) (suc (c .top))
+
+-- ".. That sum is the definition the engine's contract cites": the mean of what each account with its excess is worth
+unfoldable pub meanByAccount : Terms → Returns → ℕ → (ℕ → ℕ → ℕ) → ℕ
+meanByAccount c rs balance reached = discounted (c .discount) (byAccount c rs balance reached)
+
+-- what a state reached with an excess is worth, where its value is known
+unfoldable pub valueWith : Rates → ℕ → ℕ → (State → ℕ) → ℕ → ℕ → ℕ
+valueWith ds i a value w over =
+    deathShare (ds i) (10000 * over + value (record { account = w; guarantee = a })) (deathPayment w a over)
+
+unfoldable pub meanOver : Terms → Returns → Rates → ℕ → Held → (State → ℕ) → ℕ
+meanOver c rs ds i h value = meanByAccount c rs (h .balance) (valueWith ds i (h .guarantee) value)
+
 -- "Start: balance U and guarantee U, then the first return."
 unfoldable pub startOf : Terms → Held
 startOf c = record { balance = c .premium; guarantee = c .premium }
@@ -87,6 +118,7 @@ processOf c rs ds = record {
   reach = reachBy c rs;
   paid = paidBy c rs;
   expect = expectOver c rs ds;
+  mean = meanOver c rs ds;
   final = λ s. maturityValue (s .account) (s .guarantee);
 }
 
@@ -104,6 +136,10 @@ layoutOf c = record {
 
 unfoldable pub fixedTerm : Terms → Returns → Rates → Product State Held
 fixedTerm c rs ds = record { process = processOf c rs ds; admissible = admissibleIn c; layout = layoutOf c }
+
+-- the contract whose means are summed return by return, as document 01 has it
+unfoldable pub listedTerm : Terms → Returns → Rates → Product State Held
+listedTerm c rs ds = record { process = listed (processOf c rs ds); admissible = admissibleIn c; layout = layoutOf c }
 
 -- the contract of a holder who lives, as a walk follows it
 abbrev pub livingTerm : Terms → Returns → Product State Held

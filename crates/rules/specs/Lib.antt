@@ -3,6 +3,7 @@ pub mod Contract
 pub mod Date
 pub mod Product
 pub mod FixedTerm
+pub mod ByList
 pub mod Refusals
 pub mod Operations
 pub mod Map

@@ -27,7 +27,9 @@ use Rattle.laws.specs.Supplied.{all-admitted}
 use Rattle.laws.specs.Date.{dynamic-is, shared}
 use Rattle.laws.specs.Accepted.{Valid, ValidInput, then-accepted, then-refused}
 use Rattle.laws.specs.Bounds.{table-value-le, stateMost, entryMost}
+use Rattle.laws.specs.AnyOrder.{Reordered, any-order-table}
 use Rattle.contract.specs.Accepted.{Given}
+use Rattle.returns.specs.Sorted.{Sorted, ordered-input}
 use Rattle.expect.specs.Expected.{expected, shared-same}
 use Rattle.keys.specs.declared.Date.{Date}
 use Rattle.keys.specs.Sums.{sums, Sums, sum-in, row-in, sums-less, sums-kept, sums-same}
@@ -99,11 +101,11 @@ module _ {work layer : List ℕ} {d : Date} {n : ℕ} (f : Following work layer 
         ap (λ (e : ℕ → ℕ → ℕ). followed e (cells layer 0 (d .stride)) (d .rate) (d .level) w a) same)
 
 -- ---- one date
-module _ {c : Terms} {i : ℕ} {work layer list rates work₁ : List ℕ} {date : Date} (d : Dating c i work layer list rates)
-    (is : date ≡ dateOf c i) (told : Summed c (returnsOf list) (ratesOf rates i) work work₁ date)
+module _ {c : Terms} {i : ℕ} {work layer work₁ : List ℕ} {rs : Returns} {rates : List ℕ} {date : Date} (d : Dating c i work layer rs rates)
+    (is : date ≡ dateOf c i) (told : Summed c rs (ratesOf rates i) work work₁ date)
   where
-    s : Summed c (returnsOf list) (ratesOf rates i) work work₁ (dateOf c i)
-    s = subst (Summed c (returnsOf list) (ratesOf rates i) work work₁) is told
+    s : Summed c rs (ratesOf rates i) work work₁ (dateOf c i)
+    s = subst (Summed c rs (ratesOf rates i) work work₁) is told
 
     pub following : Following work₁ layer date (c .top + 1)
     unfolding layerSize
@@ -114,10 +116,11 @@ module _ {c : Terms} {i : ℕ} {work layer list rates work₁ : List ℕ} {date 
     })
 
     pub back : {work₂ : List ℕ} → work₂ ≡ stored work₁ 0 (flat (date .stride) (followedOn date work₁ layer)) ((c .top + 1) * date .stride)
-        → Back c (returnsOf list) (ratesOf rates) i work layer work₂
+        → Back c rs (ratesOf rates) i work layer work₂
     unfolding layerSize
     back e =
-        let values = e ∙ ap (λ (x : Date). stored work₁ 0 (flat (x .stride) (followedOn x work₁ layer)) ((c .top + 1) * x .stride)) is in record {
+        let values =
+        e ∙ ap (λ (x : Date). stored work₁ 0 (flat (x .stride) (followedOn x work₁ layer)) ((c .top + 1) * x .stride)) is in record {
           long = ap length values ∙ length-stored work₁ 0 _ _ ∙ s .long;
           values = λ w a h l.
               let first = layer-stored work₁ 0 (c .premium + 1) (c .top + 1) _ (let r = s .layers .room in omega arith) in
@@ -133,7 +136,8 @@ module _ (c : Terms) (table : List ℕ) (j : ℕ) (h : j < c .dates - 1) where
   search-fits = let l = rows-le (layerSize c) (j + 1) (c .dates - 1) (omega arith) in let s = rows-step (layerSize c) j in omega arith
 
   pub search-same : (e : ℕ) → e < layerSize c
-      → badEntry c table (j * layerSize c + e) ≡ badAt c e (getD (midOf (j * layerSize c) ((j + 1) * layerSize c - j * layerSize c) table) e 0)
+      → badEntry c table (j * layerSize c + e)
+      ≡ badAt c e (getD (midOf (j * layerSize c) ((j + 1) * layerSize c - j * layerSize c) table) e 0)
   search-same e l =
       let s = rows-step (layerSize c) j in
       ap₂ (badAt c) (low-digit j e (layerSize c) l) (sym (part-at (j * layerSize c) ((j + 1) * layerSize c) e table (omega arith)))
@@ -169,9 +173,9 @@ table-on-most {c} rs ds table v none i w a some before h l =
     let good = all-admitted c rs ds table (v .terms) none in
     table-value-le c rs ds v (lookup (layoutOf c) table) good i (at w a) some before (record { account = h; guarantee = l })
 
-module _ {c : Terms} {work₀ table list rates work : List ℕ} (s : Starting c work₀ table list rates)
+module _ {c : Terms} {work₀ table work : List ℕ} {rs : Returns} {rates : List ℕ} (s : Starting c work₀ table rs rates)
     {i from to : ℕ} (p : DateLayer c i from to) (some : 0 < i) (before : i < c .dates)
-    (v : First (tableOn c (returnsOf list) (ratesOf rates) table (suc i)) c work₀ work)
+    (v : First (tableOn c rs (ratesOf rates) table (suc i)) c work₀ work)
   where
     -- the entries of the date's layer
     amount-is : (w a : ℕ) → w ≤ c .top → a ≤ c .premium
@@ -180,7 +184,7 @@ module _ {c : Terms} {work₀ table list rates work : List ℕ} (s : Starting c 
         ap (λ (x : ℕ). getD (midOf from (to - from) table) x 0) (zero-add (w * (c .premium + 1) + a))
         ∙ layer-entry p table (s .entries) h l
 
-    pub dating : Dating c i work (midOf from (to - from) table) list rates
+    pub dating : Dating c i work (midOf from (to - from) table) rs rates
     dating = record {
       date = record {
         before = before;
@@ -189,57 +193,67 @@ module _ {c : Terms} {work₀ table list rates work : List ℕ} (s : Starting c 
           layers = record { valid = s .given .valid .terms; room = omega (arith, s .room, v .long) };
           small = λ w a h l.
               le-trans (le-of-eq (v .values w a h l))
-              (subst (λ (n : ℕ). tableOn c (returnsOf list) (ratesOf rates) table (suc i) w a ≤ stateMost c n) (sym (add-one i))
-              (table-on-most (returnsOf list) (ratesOf rates) table (s .given .valid) (s .none-bad) (suc i) w a (omega arith) (omega arith)
+              (subst (λ (n : ℕ). tableOn c rs (ratesOf rates) table (suc i) w a ≤ stateMost c n) (sym (add-one i))
+              (table-on-most rs (ratesOf rates) table (s .given .valid) (s .none-bad) (suc i) w a (omega arith) (omega arith)
               h l));
         };
       };
       layer-is = layer-long p table (s .entries);
       admitted = λ w a h l.
           subst (λ (t : ℕ). T (admits dynamic (freeAmount (c .level) a) w t)) (sym (amount-is w a h l))
-          (admitted-at c (returnsOf list) (ratesOf rates) table (s .given .valid .terms) (s .none-bad) i w a some before h l);
+          (admitted-at c rs (ratesOf rates) table (s .given .valid .terms) (s .none-bad) i w a some before h l);
     }
 
     -- the sums are those of the next date's values
     next-sums : (x y : ℕ) → y ≤ c .premium
-        → expected c (returnsOf list) (shared (ratesOf rates i) (cells work 0 (c .premium + 1))) x y
-        ≡ expected c (returnsOf list) (shared (ratesOf rates i) (tableOn c (returnsOf list) (ratesOf rates) table (suc i))) x y
-    next-sums x y k = shared-same c (returnsOf list) (ratesOf rates i) _ _ x y (λ w h. v .values w y h k)
+        → expected c rs (shared (ratesOf rates i) (cells work 0 (c .premium + 1))) x y
+        ≡ expected c rs (shared (ratesOf rates i) (tableOn c rs (ratesOf rates) table (suc i))) x y
+    next-sums x y k = shared-same c rs (ratesOf rates i) _ _ x y (λ w h. v .values w y h k)
 
-    pub first-before : (work₁ : List ℕ) → Back c (returnsOf list) (ratesOf rates) i work (midOf from (to - from) table) work₁
-        → First (tableOn c (returnsOf list) (ratesOf rates) table (suc (i - 1))) c work₀ work₁
+    pub first-before : (work₁ : List ℕ) → Back c rs (ratesOf rates) i work (midOf from (to - from) table) work₁
+        → First (tableOn c rs (ratesOf rates) table (suc (i - 1))) c work₀ work₁
     first-before work₁ d = record {
       long = d .long ∙ v .long;
       values = λ w a h l.
-          let sums = expected c (returnsOf list) (shared (ratesOf rates i) (cells work 0 (c .premium + 1))) in
+          let sums = expected c rs (shared (ratesOf rates i) (cells work 0 (c .premium + 1))) in
           let m = freeAmount (c .level) a in
           let up : i ≡ suc (i - 1) = omega arith in
           d .values w a h l
           ∙ ap (worthOver sums (rateIn c i) m w a) (amount-is w a h l)
           ∙ worth-same _ _ (rateIn c i) m w a (lookup (layoutOf c) table i (at w a)) (λ x y p q. next-sums x y (le-trans q l))
-          ∙ tableOn-back c (returnsOf list) (ratesOf rates) table i w a (s .given .valid .rates .rate i) before
-          ∙ ap (λ (n : ℕ). tableOn c (returnsOf list) (ratesOf rates) table n w a) up;
+          ∙ tableOn-back c rs (ratesOf rates) table i w a (s .given .valid .rates .rate i) before
+          ∙ ap (λ (n : ℕ). tableOn c rs (ratesOf rates) table n w a) up;
       rest = λ x h. d .rest x h ∙ v .rest x h;
     }
 
-pub first-none : {c : Terms} {work table list rates : List ℕ} → Starting c work table list rates
-    → First (tableOn c (returnsOf list) (ratesOf rates) table (suc (c .dates - 1))) c work work
-first-none {c} {work} {table} {list} {rates} s =
+pub first-none : {c : Terms} {work table : List ℕ} {rs : Returns} {rates : List ℕ} → Starting c work table rs rates
+    → First (tableOn c rs (ratesOf rates) table (suc (c .dates - 1))) c work work
+first-none {c} {work} {table} {rs} {rates} s =
     let last : c .dates ≡ suc (c .dates - 1) = omega (arith, s .given .valid .terms .dates-least) in
     record {
       long = refl;
       values = λ w a h l.
           s .mature w a h l
-          ∙ sym (last-is c (returnsOf list) (ratesOf rates) table w a)
-          ∙ ap (λ (n : ℕ). tableOn c (returnsOf list) (ratesOf rates) table n w a) last;
+          ∙ sym (last-is c rs (ratesOf rates) table w a)
+          ∙ ap (λ (n : ℕ). tableOn c rs (ratesOf rates) table n w a) last;
       rest = λ x h. refl;
     }
 
-pub starting : {c : Terms} {list rates work' table : List ℕ} (work : List ℕ) → Given c list rates
+-- the values of the returns in another order are those of the list
+pub of-the-list : {c : Terms} {rs us : Returns} (ds : Rates) (table : List ℕ) {work work' : List ℕ} → Reordered rs us
+    → First (tableOn c us ds table 1) c work work' → First (tableOn c rs ds table 1) c work work'
+of-the-list {c} ds table same v = record {
+  long = v .long;
+  values = λ w a h l. v .values w a h l ∙ sym (any-order-table same c ds (lookup (layoutOf c) table) 1 (at w a));
+  rest = v .rest;
+}
+
+pub starting : {c : Terms} {list rates work' table : List ℕ} {rs : Returns} (work : List ℕ) → Given c list rates
+    → Sorted (returnsOf list) rs
     → layerSize c + layerSize c ≤ length work → tableSize c ≤ length table → tableSize c ≤ first (badEntry c table) (tableSize c)
-    → work' ≡ stored work 0 (flat (c .premium + 1) maturityValue) (layerSize c) → Starting c work' table list rates
-starting {c} {work' = work'} work given room room-table none e = record {
-  given = given;
+    → work' ≡ stored work 0 (flat (c .premium + 1) maturityValue) (layerSize c) → Starting c work' table rs rates
+starting {c} {work' = work'} work given sorted room room-table none e = record {
+  given = ordered-input given sorted;
   room = let l = ap length e ∙ length-stored work 0 (flat (c .premium + 1) maturityValue) (layerSize c) in omega arith;
   entries = room-table;
   none-bad = none;

@@ -15,7 +15,7 @@ use Rattle.rules.specs.FixedTerm.{rateIn, layerSize, layoutOf, processOf, fixed
 use Rattle.rules.specs.Refusals.{Verdict}
 use Rattle.rules.specs.Operations.{answer, workAfter, tableSize, badEntry, suppliedAnswer, suppliedWork}
 use Rattle.laws.specs.Date.{shared}
-use Rattle.contract.specs.Accepted.{Given}
+use Rattle.returns.specs.Sorted.{OrderedInput}
 use Rattle.expect.specs.Expected.{expected}
 use Rattle.keys.specs.declared.Date.{Date}
 use Rattle.keys.specs.Sums.{sums, Sums}
@@ -41,10 +41,11 @@ pub record Following (work layer : List ℕ) (d : Date) (n : ℕ) : Type 0 where
       → T (admits dynamic (freeAmount (d .level) a) w (cells layer 0 (d .stride) w a))
 
 -- one date back, by its layer of the table
-pub record Dating (c : Terms) (i : ℕ) (work layer list rates : List ℕ) : Type 0 where
-  pub date : OneDate c i work list rates
+pub record Dating (c : Terms) (i : ℕ) (work layer : List ℕ) (rs : Returns) (rates : List ℕ) : Type 0 where
+  pub date : OneDate c i work rs rates
   pub layer-is : length layer ≡ layerSize c
-  pub admitted : (w a : ℕ) → w ≤ c .top → a ≤ c .premium → T (admits dynamic (freeAmount (c .level) a) w (cells layer 0 (c .premium + 1) w a))
+  pub admitted : (w a : ℕ) → w ≤ c .top → a ≤ c .premium
+      → T (admits dynamic (freeAmount (c .level) a) w (cells layer 0 (c .premium + 1) w a))
 
 pub record Back (c : Terms) (rs : Returns) (ds : Rates) (i : ℕ) (work layer work' : List ℕ) : Type 0 where
   pub long : length work' ≡ length work
@@ -58,8 +59,8 @@ pub record Back (c : Terms) (rs : Returns) (ds : Rates) (i : ℕ) (work layer wo
 abbrev pub tableOn : Terms → Returns → Rates → List ℕ → ℕ → ℕ → ℕ → ℕ
 tableOn c rs ds table i w a = tableValue (processOf c rs ds) (lookup (layoutOf c) table) i (at w a)
 
-pub record Starting (c : Terms) (work table list rates : List ℕ) : Type 0 where
-  pub given : Given c list rates
+pub record Starting (c : Terms) (work table : List ℕ) (rs : Returns) (rates : List ℕ) : Type 0 where
+  pub given : OrderedInput c rs rates
   pub room : layerSize c + layerSize c ≤ length work
   pub entries : tableSize c ≤ length table
   pub none-bad : tableSize c ≤ first (badEntry c table) (tableSize c)

@@ -13,6 +13,7 @@ ghost use Rattle.rules.specs.Refusals.{verdict, short};
 ghost use Rattle.rules.specs.Operations.{tableSize, badAt, badEntry, tableChecks};
 ghost use Rattle.laws.specs.Accepted.{Valid};
 ghost use Rattle.contract.specs.Reading.{termsIn};
+ghost use Rattle.returns.specs.Sorted.{inOrder};
 ghost use Rattle.keys.specs.Sums.{sums, Sums};
 ghost use Rattle.worth.specs.Worth.{worthOver};
 ghost use Rattle.contract.specs.Accepted.{Given};
@@ -115,23 +116,23 @@ fn follow_layer(work: &mut [u64], layer: &[u16], d: Date, n: usize)
 }
 
 // The values of date i.
-fn follow_date(work: &mut [u64], layer: &[u16], list: &[u8], rates: &[u8], c: Contract, i: usize)
-    requires { ⌜ Dating (termsIn c) i (now work) (now layer) (now list) (now rates) ⌝ }
+fn follow_date(work: &mut [u64], layer: &[u16], order: &[u32], rates: &[u8], c: Contract, i: usize)
+    requires { ⌜ Dating (termsIn c) i (now work) (now layer) (inOrder (now order)) (now rates) ⌝ }
     ensures { λ _. ⌜
-        Back (termsIn c) (returnsOf (now (list .entry))) (ratesOf (now (rates .entry))) i (now (work .entry))
+        Back (termsIn c) (inOrder (now (order .entry))) (ratesOf (now (rates .entry))) i (now (work .entry))
         (now (layer .entry)) (now (work .exit))
         ⌝ }
 {
-    let d = dates::sum_date(work, list, rates, c, i);
+    let d = dates::sum_date(work, order, rates, c, i);
     follow_layer(work, layer, d, c.top + 1);
 }
 
 // Every decision date, from the last to the first, each by its own layer of the table.
-fn follow_dates(work: &mut [u64], table: &[u16], list: &[u8], rates: &[u8], c: Contract)
-    requires { ⌜ Starting (termsIn c) (now work) (now table) (now list) (now rates) ⌝ }
+fn follow_dates(work: &mut [u64], table: &[u16], order: &[u32], rates: &[u8], c: Contract)
+    requires { ⌜ Starting (termsIn c) (now work) (now table) (inOrder (now order)) (now rates) ⌝ }
     ensures { λ _. ⌜
         First
-        (tableOn (termsIn c) (returnsOf (now (list .entry))) (ratesOf (now (rates .entry))) (now (table .entry)) 1)
+        (tableOn (termsIn c) (inOrder (now (order .entry))) (ratesOf (now (rates .entry))) (now (table .entry)) 1)
         (termsIn c) (now (work .entry)) (now (work .exit))
         ⌝ }
 {
@@ -140,7 +141,7 @@ fn follow_dates(work: &mut [u64], table: &[u16], list: &[u8], rates: &[u8], c: C
         let part = dates::layer_of(c, i);
         let from = part.from;
         let to = part.to;
-        follow_date(work, &table[from..to], list, rates, c, i);
+        follow_date(work, &table[from..to], order, rates, c, i);
         i -= 1;
     }
 }
@@ -178,8 +179,10 @@ fn valued(c: Contract, list: &[u8], rates: &[u8], work: &mut [u64], table: &[u16
             place: bad as u64,
         });
     }
+    let mut order = [0u32; 64];
+    let count = returns::sort(&mut order, list);
     dates::fill_maturity(work, c.premium + 1, c.top + 1);
-    follow_dates(work, table, list, rates, c);
+    follow_dates(work, table, &order[0..count], rates, c);
     valuing::settle(work, list, rates, c)
 }
 

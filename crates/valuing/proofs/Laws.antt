@@ -33,6 +33,8 @@ use Rattle.contract.specs.declared.Outcome.{Outcome}
 use Rattle.contract.specs.declared.Returns as listed
 use Rattle.contract.specs.Accepted.{Agreed, disagreed, input-not-read}
 use Rattle.contract.specs.Reading.{termsIn, contractOf, outcomeAt, inputRead}
+use Rattle.laws.specs.AnyOrder.{Reordered, any-order-state, any-order-amount}
+use Rattle.returns.specs.Sorted.{Sorted, ordered-input}
 use Rattle.expect.specs.Expected.{expected, shared-same}
 use Rattle.dates.specs.Back.{at, valuesOn, shared-expects, Valued, Starting}
 use Rattle.valuing.specs.declared.Answer as declared
@@ -108,16 +110,35 @@ module _ {b : Behaviour} {c : Terms} {rs : Returns} {ds : Rates} {work table wor
 pub from-start : {b : Behaviour} {c : Terms} {rs : Returns} {ds : Rates} {work work₁ table work' table' : List ℕ} (f : ℕ → ℕ)
     → work₁ ≡ stored work 0 f (layerSize c) → Valued b c rs ds work₁ table work' table' 0 → Valued b c rs ds work table work' table' 0
 from-start f e v =
-    let x = first-from f e (first v) in
-    record { long = x .long; long-table = v .long-table; values = v .values; amounts = v .amounts; rest = x .rest; rest-table = v .rest-table }
+    let x = first-from f e (first v) in record {
+      long = x .long;
+      long-table = v .long-table;
+      values = v .values;
+      amounts = v .amounts;
+      rest = x .rest;
+      rest-table = v .rest-table;
+    }
+
+-- the values and amounts of the returns in another order are those of the list
+pub of-the-list : {b : Behaviour} {c : Terms} {rs us : Returns} {ds : Rates} {work table work' table' : List ℕ} → Reordered rs us
+    → Valued b c us ds work table work' table' 0 → Valued b c rs ds work table work' table' 0
+of-the-list {b} {c} {ds = ds} same v = record {
+  long = v .long;
+  long-table = v .long-table;
+  values = λ w a h l. v .values w a h l ∙ sym (any-order-state same c ds b 1 (at w a));
+  amounts = λ j w a i l h k m. v .amounts j w a i l h k m ∙ sym (any-order-amount same c ds b j (at w a));
+  rest = v .rest;
+  rest-table = v .rest-table;
+}
 
 -- the first layer at maturity
-pub starting : {c : Terms} {behaviour : ℕ} {list rates work work' : List ℕ} (lent : Alone behaviour c list rates work)
-    → work' ≡ stored work 0 (flat (c .premium + 1) maturityValue) (layerSize c) → Starting behaviour c work' list rates
+pub starting : {c : Terms} {behaviour : ℕ} {list rates work work' : List ℕ} {rs : Returns} (lent : Alone behaviour c list rates work)
+    → Sorted (returnsOf list) rs → work' ≡ stored work 0 (flat (c .premium + 1) maturityValue) (layerSize c)
+    → Starting behaviour c work' rs rates
 unfolding layerSize
-starting {c} {work = work} lent e = record {
+starting {c} {work = work} lent sorted e = record {
   known = lent .known;
-  given = lent .given;
+  given = ordered-input (lent .given) sorted;
   room =
       let l = ap length e ∙ length-stored work 0 (flat (c .premium + 1) maturityValue) ((c .top + 1) * (c .premium + 1)) in
       omega (arith, lent .room);

@@ -128,8 +128,10 @@ pub fn valued(
         (now (work .entry)) (now (table .entry)) r (now (work .exit)) (now (table .exit))
         ⌝ }
 {
+    let mut order = [0u32; 64];
+    let count = returns::sort(&mut order, list);
     dates::fill_maturity(work, c.premium + 1, c.top + 1);
-    dates::all_dates(behaviour, work, table, list, rates, c);
+    dates::all_dates(behaviour, work, table, &order[0..count], rates, c);
     settle(work, list, rates, c)
 }
 

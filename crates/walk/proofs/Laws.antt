@@ -22,9 +22,9 @@ use Rattle.rules.specs.FixedTerm.{layoutOf, fixedTerm, livingTerm}
 use Rattle.rules.specs.Refusals.{Verdict, accepted, refused, verdict, numberOf, placeOf, onSuccess, recordChecks, listChecks}
 use Rattle.rules.specs.Operations.{livingOf, tableSize, badDate, pathChecks, walkChecks, walkVerdict, walkCashes}
 use Rattle.laws.specs.Accepted.{Valid, not-not, then-accepted, then-refused}
+use Rattle.returns.specs.Listed.{Listing}
 use Rattle.contract.specs.declared.Outcome.{Outcome}
 use Rattle.contract.specs.Reading.{outcomeAt, outcomeOf}
-use Rattle.expect.specs.Expected.{Listing}
 use Rattle.dates.specs.Back.{at}
 use Rattle.dates.specs.Layer.{DateLayer, entry-within, layer-long, layer-entry}
 use Rattle.laws.specs.Date.{account-le, amount-most, guarantee-le, dynamic-is, excess-paid-le}

@@ -15,7 +15,7 @@ use Rattle.contract.specs.declared.Returns as declared
 use Rattle.contract.specs.declared.Outcome.{Outcome}
 use Rattle.contract.specs.Accepted.{Both}
 use Rattle.contract.specs.Reading.{termsIn, outcomeOf}
-use Rattle.expect.specs.Expected.{Listing, listing}
+use Rattle.returns.specs.Listed.{Listing, listing}
 use Rattle.dates.specs.Back.{at}
 use Rattle.walk.specs.declared.Place.{Place}
 

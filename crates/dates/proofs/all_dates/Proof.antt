@@ -6,17 +6,18 @@ use Prim.Native.Nat.{_<_}
 use Rattle.contract.specs.Reading.{termsIn}
 use Rattle.dates.proofs.Laws.{dating, valued-before, valued-none}
 use Rattle.dates.specs.Back.{Valued}
-use Rattle.rules.specs.Contract.{returnsOf, ratesOf}
+use Rattle.returns.specs.Sorted.{inOrder}
+use Rattle.rules.specs.Contract.{ratesOf}
 use Rattle.rules.specs.Operations.{behaviourOf}
 use Rattle.dates.proofs.all_dates.Statement.{statement}
 use Rattle.dates.proofs.all_dates.Tie as tie
 
 abbrev Inv-loop : tie.InvT-loop
-Inv-loop behaviour work₀ table₀ list rates c i₀ work table i =
-    (i < c .dates) × Valued (behaviourOf behaviour) (termsIn c) (returnsOf list) (ratesOf rates) work₀ table₀ work table i
+Inv-loop behaviour work₀ table₀ order rates c i₀ work table i =
+    (i < c .dates) × Valued (behaviourOf behaviour) (termsIn c) (inOrder order) (ratesOf rates) work₀ table₀ work table i
 
 abbrev μ-loop : tie.MeasureT-loop
-μ-loop behaviour work₀ table₀ list rates c i₀ work table i = i
+μ-loop behaviour work₀ table₀ order rates c i₀ work table i = i
 
 sub-i : tie.Need-sub-i Inv-loop μ-loop
 sub-i c = omega (arith, c .before .before .before .before .before .pre .given .valid .terms .dates-least)

@@ -5,13 +5,13 @@ use mathlib.Core.Path.{_≡_, ap, sym, _∙_, subst}
 use native.Mathlib.Omega.{arith}
 use Prim.Native.Nat.{ℕ, _+_, _*_}
 use Rattle.contract.specs.Reading.{termsIn}
-use Rattle.expect.specs.Expected.{listing}
 use Rattle.laws.specs.Date.{shared}
 use Rattle.slices.specs.Rows.{cells, flat}
 use Rattle.slices.specs.Stored.{stored}
 use Rattle.dates.proofs.Laws.{sharing, shared-values, summed}
 use Rattle.dates.specs.Dated.{Summed, dateOf}
-use Rattle.rules.specs.Contract.{returnsOf, ratesOf}
+use Rattle.returns.specs.Sorted.{inOrder}
+use Rattle.rules.specs.Contract.{ratesOf}
 use Rattle.dates.proofs.sum_date.Statement.{statement}
 use Rattle.dates.proofs.sum_date.Tie as tie
 
@@ -27,7 +27,7 @@ add-share-layer c = search needs
 share-layer-requires : tie.Need-share-layer-requires
 share-layer-requires c κs = rw (c .before .rate-of .ensures) (sharing (c .before .before .before .before .before .before .before .pre))
 
--- what the shares leave, by the list's own rate
+-- what the shares leave, by the period's rate
 module _ (c : tie.After-share-layer) where
   abbrev start : tie.Start
   start = c .before .before .before .before .before .before .before .before
@@ -41,16 +41,15 @@ module _ (c : tie.After-share-layer) where
   left : c .share-layer .last .0 ≡ leaves (ratesOf (start .args .rates .now) (start .args .i))
   left = c .share-layer .ensures ∙ ap leaves (c .before .before .rate-of .ensures)
 
-returns-in-requires : tie.Need-returns-in-requires
-returns-in-requires c κs = search needs
-
 expect-layer-requires : tie.Need-expect-layer-requires
 expect-layer-requires c κs =
-    let c4 = c .before .before .before .before in
-    let c12 = c4 .before .before .before .before .before .before .before .before in
-    let pre = c12 .pre in
-    let valid = pre .given .valid in
-    (listing (c .returns-in .ensures) (valid .returns), shared-values pre _ (left (c4)), omega (arith, pre .before, valid .terms .dates))
+    let start = c .before .before .before .before .before .before .before .before .before .before .before in
+    let pre = start .pre in
+    let given = pre .given in (
+      record { valid = given .valid .returns; climbing = given .climbing },
+      shared-values pre _ (left (c .before .before .before)),
+      omega (arith, pre .before, given .valid .terms .dates),
+    )
 
 layer-size-requires : tie.Need-layer-size-requires
 layer-size-requires c κs = search needs
@@ -64,17 +63,16 @@ same-length c = search needs
 returns : tie.Need-returns
 returns c =
     let c4 = c .before .before .before .before in
-    let c9 = c4 .before .before .before .before .before in
-    let c17 = c9 .before .before .before .before .before .before .before .before in
-    let start = c17 in
+    let c8 = c4 .before .before .before .before in
+    let start = c8 .before .before .before .before .before .before .before .before in
     let args = start .args in
     let size = c .before .layer-size .ensures .0 in
     let rate = c .rate-on .ensures .0 in
     let is : record { base = _; stride = args .c .premium + 1; level = args .c .level; rate = _ } ≡ dateOf (termsIn (args .c)) (args .i) =
     λ x. record { base = size x; stride = args .c .premium + 1; level = args .c .level; rate = rate x } in (
       is,
-      subst (Summed (termsIn (args .c)) (returnsOf (args .list .now)) (ratesOf (args .rates .now) (args .i)) (args .work .now) _) (sym is)
-          (summed (start .pre) _ (left (c9)) _ (c4 .expect-layer .ensures)),
+      subst (Summed (termsIn (args .c)) (inOrder (args .order .now)) (ratesOf (args .rates .now) (args .i)) (args .work .now) _) (sym is)
+          (summed (start .pre) _ (left (c8)) _ (c4 .expect-layer .ensures)),
     )
 
 pub sum-date-spec : {M : Type 1} → statement M
@@ -85,7 +83,6 @@ sum-date-spec =
     rate-of-requires
     add-share-layer
     share-layer-requires
-    returns-in-requires
     expect-layer-requires
     layer-size-requires
     rate-on-requires

@@ -12,7 +12,8 @@ use Rattle.expect.proofs.expect_run.Tie as tie
 add-all-requires : tie.Need-add-all-requires
 add-all-requires c κs =
     let start = c .before .before .before in
-    (row-run (start .args .p .from) (start .args .p .n) (start .pre .0) (start .pre .1), start .pre .2, start .pre .0 .paid-small)
+    let row = start .pre .0 in
+    (row-run (start .args .p .from) (start .args .p .n) row (start .pre .1), row .eights, start .pre .2, row .paid-small)
 
 add-store-sums : tie.Need-add-store-sums
 add-store-sums c = search needs

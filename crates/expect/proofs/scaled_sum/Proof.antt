@@ -13,7 +13,10 @@ mul-result c = omega (arith, mul-le-mul {n₂ = 1000000} {m₂ = 18000000000000}
 
 mul-result-2 : tie.Need-mul-result-2
 unfolding discounted
-mul-result-2 c = omega (arith, discounted-average (c .before .args .discount) (c .before .args .sum) entryMost (c .before .pre .0) (c .before .pre .1))
+mul-result-2 c =
+    let args = c .before .args in
+    let pre = c .before .pre in
+    omega (arith, discounted-average (args .discount) (args .sum) entryMost (pre .0) (pre .1))
 
 returns : tie.Need-returns
 unfolding discounted
@@ -23,7 +26,8 @@ discounted-requires : tie.Need-discounted-requires
 discounted-requires c κs = search needs
 
 mul-result-3 : tie.Need-mul-result-3
-mul-result-3 c = omega (arith, c .discounted .ensures, discounted-average _ _ entryMost (c .before .before .pre .0) (c .before .before .pre .1))
+mul-result-3 c =
+    let pre = c .before .before .pre in omega (arith, c .discounted .ensures, discounted-average _ _ entryMost (pre .0) (pre .1))
 
 returns-2 : tie.Need-returns-2
 returns-2 c = search needs

@@ -12,7 +12,7 @@ use Rattle.rules.specs.Date.{discounted}
 use Rattle.rules.specs.FixedTerm.{meanOf}
 use Rattle.contract.specs.Reading.{termsIn}
 use Rattle.slices.specs.Rows.{cells}
-use Rattle.expect.specs.Expected.{reachedFrom, expected}
+use Rattle.expect.specs.Expected.{reachedFrom, expected-listed}
 use Rattle.expect.proofs.Laws.{start-le, return-in, return-number, weight-is, weight-small}
 use Rattle.expect.proofs.start_value.Statement.{statement}
 use Rattle.expect.proofs.start_value.Tie as tie
@@ -98,12 +98,16 @@ discounted-requires c κs =
     (pre .first .layers .valid .discount, omega (arith, c .before .loop .inv .2))
 
 returns : tie.Need-returns Inv-loop μ-loop
-unfolding expected meanOf
+unfolding meanOf
 returns c =
     let start = c .before .before .before .before .before .before in
     let is =
     c .discounted .ensures
-    ∙ ap (discounted (start .args .c .discount)) (c .before .before .loop .inv .1 ∙ ap (sum _) (all (c .before))) in
+    ∙ ap (discounted (start .args .c .discount)) (c .before .before .loop .inv .1 ∙ ap (sum _) (all (c .before)))
+    ∙ sym
+    (expected-listed (termsIn (start .args .c)) (returnsOf (start .args .list .now))
+    (shared (start .args .rate) (cells (start .args .work .now) 0 (start .args .c .premium + 1))) (start .args .c .premium)
+    (start .args .c .premium)) in
     (is, rw is (start-le (start .pre)))
 
 pub start-value-spec : {M : Type 1} → statement M

@@ -4,7 +4,8 @@ use borrow.Author.Needs.{needs}
 use mathlib.Core.Path.{_≡_}
 use native.Mathlib.Omega.{arith}
 use Rattle.contract.specs.Reading.{termsIn}
-use Rattle.rules.specs.Contract.{returnsOf, ratesOf}
+use Rattle.returns.specs.Sorted.{inOrder}
+use Rattle.rules.specs.Contract.{ratesOf}
 use Rattle.supplied.specs.Followed.{tableOn}
 use Rattle.valuing.specs.First.{First}
 use Rattle.supplied.proofs.Laws.{dating, first-before, first-none}
@@ -12,11 +13,11 @@ use Rattle.supplied.proofs.follow_dates.Statement.{statement}
 use Rattle.supplied.proofs.follow_dates.Tie as tie
 
 abbrev Inv-loop : tie.InvT-loop
-Inv-loop work₀ table list rates c i₀ work i =
-    (i < c .dates) × First (tableOn (termsIn c) (returnsOf list) (ratesOf rates) table (suc i)) (termsIn c) work₀ work
+Inv-loop work₀ table order rates c i₀ work i =
+    (i < c .dates) × First (tableOn (termsIn c) (inOrder order) (ratesOf rates) table (suc i)) (termsIn c) work₀ work
 
 abbrev μ-loop : tie.MeasureT-loop
-μ-loop work₀ table list rates c i₀ work i = i
+μ-loop work₀ table order rates c i₀ work i = i
 
 sub-i : tie.Need-sub-i Inv-loop μ-loop
 sub-i c = omega (arith, c .before .before .before .before .before .pre .given .valid .terms .dates-least)
