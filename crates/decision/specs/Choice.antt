@@ -1,13 +1,13 @@
 -- The largest worth among the amounts from 0 to a limit that pass a test, and the smallest amount that has it.
 -- Assumes nothing.
-use mathlib.Core.Bool.{Bool, true, false, cond, not, _&&_}
+use mathlib.Core.Bool.{Bool, true, false, cond, _&&_}
 use mathlib.Core.Logic.{_⊎_, inl, inr, _≢_}
-use mathlib.Core.Path.{_≡_, refl, ap, sym, _∙_, subst, subst₃}
-use Prim.Native.Nat.{ℕ, zero, suc, _+_, _-_, max, _≤_, _<_, zero-le}
+use mathlib.Core.Path.{_≡_, refl, ap, sym, _∙_, subst}
+use Prim.Native.Nat.{ℕ, zero, suc, _-_, max, _≤_, _<_, zero-le}
 use native.Mathlib.Decide.{decLe}
 use native.Mathlib.Nat.{le-of-eq, le-trans, le-refl, le-step, le-antisymm, le-max-left, le-max-right, le-suc-iff}
 use native.Mathlib.Omega.{arith}
-use lib.Dec.{T, ltb, ltb→lt, nltb→le, eqb, eqb→eq, eqb-refl}
+use lib.Dec.{T, eqb, eqb→eq, eqb-refl}
 use Rattle.decision.specs.Index.{first, firstFrom, First, first-is, first-least, first-eq}
 
 -- both tests, taken apart and put together
@@ -144,93 +144,6 @@ best-unique {ok} {f} {n} {c} {v} {d} {w} x y = (le-antisymm (low x y (sym same))
     low : {a b u z : ℕ} → Best ok f n a u → Best ok f n b z → z ≡ u → a ≤ b
     low {a} {b} p q e =
         elim (decLe a b) [ yes l ↦ l | no l ↦ absurd (let s = p .smallest b (omega arith) (q .passes) in omega (arith, q .worth)) ]
-
--- ---- the best of a range of amounts, all of which count: what a search holds
-pub record Leading (f : ℕ → ℕ) (lo hi c v : ℕ) : Type 0 where
-  pub from : lo ≤ c
-  pub to : c ≤ hi
-  pub worth : f c ≡ v
-  pub most : (t : ℕ) → lo ≤ t → t ≤ hi → f t ≤ v
-  pub smallest : (t : ℕ) → lo ≤ t → t < c → f t < v
-
-pub leading-one : (f : ℕ → ℕ) (t : ℕ) → Leading f t t t (f t)
-leading-one f t = record {
-  from = le-refl t;
-  to = le-refl t;
-  worth = refl;
-  most = λ u l m. let e : u ≡ t = omega arith in le-of-eq (ap f e);
-  smallest = λ u l m. absurd (omega arith);
-}
-
--- two ranges that meet: the second leads only where it is worth more
-pub leading-first : {f : ℕ → ℕ} {lo mid hi c v d u : ℕ} → Leading f lo mid c v → Leading f (mid + 1) hi d u → u ≤ v → Leading f lo hi c v
-leading-first {f} {lo} {mid} {hi} {c} {v} {d} {u} x y h = record {
-  from = x .from;
-  to = omega (arith, x .to, y .from, y .to);
-  worth = x .worth;
-  most = λ t l m. go t l m (decLe t mid);
-  smallest = x .smallest;
-}
-  where
-    go : (t : ℕ) → lo ≤ t → t ≤ hi → Dec (t ≤ mid) → f t ≤ v
-    go t l m (yes z) = x .most t l z
-    go t l m (no z) = le-trans (y .most t (omega arith) m) h
-
-pub leading-second : {f : ℕ → ℕ} {lo mid hi c v d u : ℕ} → Leading f lo mid c v → Leading f (mid + 1) hi d u → v < u → Leading f lo hi d u
-leading-second {f} {lo} {mid} {hi} {c} {v} {d} {u} x y h = record {
-  from = omega (arith, x .from, x .to, y .from);
-  to = y .to;
-  worth = y .worth;
-  most = λ t l m. go t l m (decLe t mid);
-  smallest = λ t l m. less t l m (decLe t mid);
-}
-  where
-    go : (t : ℕ) → lo ≤ t → t ≤ hi → Dec (t ≤ mid) → f t ≤ u
-    go t l m (yes z) = le-trans (x .most t l z) (le-trans (le-step (le-refl v)) h)
-    go t l m (no z) = y .most t (omega arith) m
-
-    less : (t : ℕ) → lo ≤ t → t < d → Dec (t ≤ mid) → f t < u
-    less t l m (yes z) = let p = x .most t l z in omega arith
-    less t l m (no z) = y .smallest t (omega arith) m
-
--- amounts counted from another start, each worth as much more
-pub leading-shift : {f g : ℕ → ℕ} {hi s v : ℕ} (base extra : ℕ) → ((x : ℕ) → x ≤ hi → f (base + x) ≡ extra + g x)
-    → Leading g 0 hi s v → Leading f base (base + hi) (base + s) (extra + v)
-leading-shift {f} {g} {hi} {s} {v} base extra same x = record {
-  from = omega arith;
-  to = omega (arith, x .to);
-  worth = same s (x .to) ∙ ap (λ (y : ℕ). extra + y) (x .worth);
-  most = λ t l m. let p = x .most (t - base) (omega arith) (omega arith) in let e = moved t l m in omega arith;
-  smallest = λ t l m. let p = x .smallest (t - base) (omega arith) (omega arith) in let e = moved t l (omega (arith, x .to)) in omega arith;
-}
-  where
-    moved : (t : ℕ) → base ≤ t → t ≤ base + hi → f t ≡ extra + g (t - base)
-    moved t l m =
-        let e : t ≡ base + (t - base) = omega arith in
-        ap f e ∙ same (t - base) (omega arith)
-
--- the same worths, the same lead
-pub leading-eq : {f g : ℕ → ℕ} {lo hi c v : ℕ} → ((t : ℕ) → lo ≤ t → t ≤ hi → f t ≡ g t) → Leading f lo hi c v → Leading g lo hi c v
-leading-eq {f} {g} {lo} {hi} {c} {v} same x = record {
-  from = x .from;
-  to = x .to;
-  worth = sym (same c (x .from) (x .to)) ∙ x .worth;
-  most = λ t l m. let p = x .most t l m in let e = same t l m in omega arith;
-  smallest = λ t l m. let p = x .smallest t l m in let e = same t l (omega (arith, x .to)) in omega arith;
-}
-
--- what a search that compares two holds afterwards
-pub leading-join : {f : ℕ → ℕ} {lo mid hi c v d u : ℕ} → Leading f lo mid c v → Leading f (mid + 1) hi d u
-    → Leading f lo hi (cond (ltb v u) d c) (cond (ltb v u) u v)
-leading-join {f} {lo} {mid} {hi} {c} {v} {d} {u} x y = go (ltb v u) (ltb→lt v u) (nltb→le v u)
-  where
-    go : (b : Bool) → (T b → v < u) → (T (not b) → u ≤ v) → Leading f lo hi (cond b d c) (cond b u v)
-    go true more less = leading-second x y (more tt)
-    go false more less = leading-first x y (less tt)
-
--- the same end, amount and worth by other names
-pub leading-as : {f : ℕ → ℕ} {lo hi hi' c c' v v' : ℕ} → hi ≡ hi' → c ≡ c' → v ≡ v' → Leading f lo hi c v → Leading f lo hi' c' v'
-leading-as {f} {lo} p q r x = subst₃ (Leading f lo) p q r x
 
 -- the same worths up to the limit, the same best
 pub largest-eq : (ok : ℕ → Bool) (f g : ℕ → ℕ) (n : ℕ) → ((t : ℕ) → t ≤ n → f t ≡ g t) → largest ok f n ≡ largest ok g n

@@ -1,5 +1,5 @@
 -- The values of a process hang on its means, not on how they are summed. Assumes nothing.
-use mathlib.Core.Path.{_≡_, ap, ap₂, _∙_, fun-ext}
+use mathlib.Core.Path.{_≡_, ap, ap₂, _∙_}
 use Prim.Native.Nat.{ℕ, zero, suc, _+_, _-_}
 use Rattle.decision.specs.Choice.{largest, smallestBest, largest-eq, smallestBest-eq}
 use Rattle.decision.specs.Process.{Process, Rule, Table, reached, worth, valueOver, tableOver, left, value, recorded}
@@ -25,53 +25,59 @@ averaging means P = record {
 abbrev pub listed : {S H : Type 0} → Process S H → Process S H
 listed P = averaging (λ i h v. P .expect i h (reached P v h)) P
 
--- ---- processes that decide alike and have the same means, whatever their returns
-pub record SameMeans {S H : Type 0} (P Q : Process S H) : Type 0 where
+-- ---- processes that decide alike and have the same means of equal values, whatever their returns, on all that they come to:
+-- the states in range and what is held from there
+pub record SameMeans {S H : Type 0} (P Q : Process S H) (InRange : S → Type 0) (Holds : H → Type 0) : Type 0 where
   pub dates : P .dates ≡ Q .dates
   pub start : P .start ≡ Q .start
   pub limit : (s : S) → P .limit s ≡ Q .limit s
   pub cash : (i : ℕ) (s : S) (t : ℕ) → P .cash i s t ≡ Q .cash i s t
   pub after : (i : ℕ) (s : S) (t : ℕ) → P .after i s t ≡ Q .after i s t
-  pub mean : (i : ℕ) (h : H) (v : S → ℕ) → P .mean i h v ≡ Q .mean i h v
   pub final : (s : S) → P .final s ≡ Q .final s
+  pub starts : Holds (P .start)
+  pub holds : (i : ℕ) (s : S) (t : ℕ) → InRange s → Holds (P .after i s t)
+  pub mean : (i : ℕ) (h : H) (v w : S → ℕ) → Holds h → ((s : S) → InRange s → v s ≡ w s) → P .mean i h v ≡ Q .mean i h w
 
-module _ {S H : Type 0} {P Q : Process S H} (x : SameMeans P Q) where
-  worth-same : (v w : S → ℕ) → ((s : S) → v s ≡ w s) → (i : ℕ) (s : S) (t : ℕ) → worth P v i s t ≡ worth Q w i s t
+module _ {S H : Type 0} {P Q : Process S H} {InRange : S → Type 0} {Holds : H → Type 0} (x : SameMeans P Q InRange Holds) where
+  worth-same : (v w : S → ℕ) → ((s : S) → InRange s → v s ≡ w s) → (i : ℕ) (s : S) (t : ℕ) → InRange s
+      → worth P v i s t ≡ worth Q w i s t
   unfolding worth
-  worth-same v w e i s t = ap₂ _+_ (x .cash i s t) (x .mean i _ v ∙ ap₂ (Q .mean i) (x .after i s t) (fun-ext e))
+  worth-same v w e i s t g =
+      ap₂ _+_ (x .cash i s t) (x .mean i _ v w (x .holds i s t g) e ∙ ap (λ (h : H). Q .mean i h w) (x .after i s t))
 
-  start-mean : (v w : S → ℕ) → ((s : S) → v s ≡ w s) → P .mean 0 (P .start) v ≡ Q .mean 0 (Q .start) w
-  start-mean v w e = x .mean 0 _ v ∙ ap₂ (Q .mean 0) (x .start) (fun-ext e)
+  start-mean : (v w : S → ℕ) → ((s : S) → InRange s → v s ≡ w s) → P .mean 0 (P .start) v ≡ Q .mean 0 (Q .start) w
+  start-mean v w e = x .mean 0 _ v w (x .starts) e ∙ ap (λ (h : H). Q .mean 0 h w) (x .start)
 
   -- ---- values and amounts
-  over-same : (r : Rule S) (n i : ℕ) (s : S) → valueOver P r n i s ≡ valueOver Q r n i s
+  over-same : (r : Rule S) (n i : ℕ) (s : S) → InRange s → valueOver P r n i s ≡ valueOver Q r n i s
   unfolding valueOver
-  over-same r zero i s = x .final s
-  over-same r (suc n) i s =
-      largest-eq (r s) _ _ (P .limit s) (λ t l. worth-same _ _ (over-same r n (suc i)) i s t) ∙ ap (largest (r s) _) (x .limit s)
+  over-same r zero i s g = x .final s
+  over-same r (suc n) i s g =
+      largest-eq (r s) _ _ (P .limit s) (λ t l. worth-same _ _ (over-same r n (suc i)) i s t g) ∙ ap (largest (r s) _) (x .limit s)
 
-  pub value-same : (r : Rule S) (i : ℕ) (s : S) → value P r i s ≡ value Q r i s
+  pub value-same : (r : Rule S) (i : ℕ) (s : S) → InRange s → value P r i s ≡ value Q r i s
   unfolding value
-  value-same r i s = over-same r (left P i) i s ∙ ap (λ (n : ℕ). valueOver Q r (n - i) i s) (x .dates)
+  value-same r i s g = over-same r (left P i) i s g ∙ ap (λ (n : ℕ). valueOver Q r (n - i) i s) (x .dates)
 
-  pub recorded-same : (r : Rule S) (i : ℕ) (s : S) → recorded P r i s ≡ recorded Q r i s
+  pub recorded-same : (r : Rule S) (i : ℕ) (s : S) → InRange s → recorded P r i s ≡ recorded Q r i s
   unfolding recorded
-  recorded-same r i s =
-      smallestBest-eq (r s) _ _ (P .limit s) (λ t l. worth-same _ _ (value-same r (suc i)) i s t) ∙ ap (smallestBest (r s) _) (x .limit s)
+  recorded-same r i s g =
+      smallestBest-eq (r s) _ _ (P .limit s) (λ t l. worth-same _ _ (value-same r (suc i)) i s t g)
+      ∙ ap (smallestBest (r s) _) (x .limit s)
 
   pub start-same : (r : Rule S) → startValue P r ≡ startValue Q r
   unfolding startValue
   start-same r = start-mean _ _ (value-same r 1)
 
   -- ---- a table
-  table-over-same : (d : Table S) (n i : ℕ) (s : S) → tableOver P d n i s ≡ tableOver Q d n i s
+  table-over-same : (d : Table S) (n i : ℕ) (s : S) → InRange s → tableOver P d n i s ≡ tableOver Q d n i s
   unfolding tableOver
-  table-over-same d zero i s = x .final s
-  table-over-same d (suc n) i s = worth-same _ _ (table-over-same d n (suc i)) i s (d i s)
+  table-over-same d zero i s g = x .final s
+  table-over-same d (suc n) i s g = worth-same _ _ (table-over-same d n (suc i)) i s (d i s) g
 
-  pub table-same : (d : Table S) (i : ℕ) (s : S) → tableValue P d i s ≡ tableValue Q d i s
+  pub table-same : (d : Table S) (i : ℕ) (s : S) → InRange s → tableValue P d i s ≡ tableValue Q d i s
   unfolding tableValue
-  table-same d i s = table-over-same d (left P i) i s ∙ ap (λ (n : ℕ). tableOver Q d (n - i) i s) (x .dates)
+  table-same d i s g = table-over-same d (left P i) i s g ∙ ap (λ (n : ℕ). tableOver Q d (n - i) i s) (x .dates)
 
   pub start-table-same : (d : Table S) → startTableValue P d ≡ startTableValue Q d
   unfolding startTableValue

@@ -1,21 +1,22 @@
 -- The order of the returns changes no value and no recorded amount. Assumes nothing.
 use mathlib.Core.Bool.{Bool, true, false, cond, _&&_}
 use mathlib.Core.List.{List}
-use mathlib.Core.Path.{_≡_, refl, ap, sym, _∙_}
-use Prim.Native.Nat.{ℕ, suc, _*_, _≤_, _<_, max}
+use mathlib.Core.Path.{_≡_, refl, ap, sym, _∙_, fun-ext}
+use Prim.Native.Nat.{ℕ, suc, _+_, _*_, _≤_, _<_, max}
 use native.Mathlib.Nat.{le-trans, one-mul, le-max-left, le-max-right}
 use native.Mathlib.Omega.{arith}
 use lib.Dec.{T, eqb, leb, leb→le, le→leb}
-use Rattle.decision.specs.Index.{sum, sum-eq, sum-zeros, sum-ones, sum-term}
+use Rattle.decision.specs.Index.{sum, sum-eq, sum-zeros, sum-ones, sum-term, first-eq}
 use Rattle.decision.specs.Groups.{most, le-most, sum-by-keys}
 use Rattle.decision.specs.Process.{Table, tableValue}
 use Rattle.decision.specs.Means.{SameMeans, value-same, recorded-same, start-same, table-same, start-table-same}
 use Rattle.decision.specs.Layers.{lookup}
-use Rattle.rules.specs.Contract.{Terms, Returns, Rates, factorMost, weightMost}
+use Rattle.rules.specs.Contract.{Terms, Returns, Rates, factorMost, weightMost, rateMost}
 use Rattle.rules.specs.Date.{Behaviour, nextAccount, excess, discounted}
 use Rattle.rules.specs.Product.{stateValue, recordedAmount, contractValue, suppliedValue}
 use Rattle.rules.specs.FixedTerm.{State, Held, admissibleIn, meanByAccount, valueWith, meanOver, processOf, layoutOf, fixedTerm}
 use Rattle.rules.specs.ByList.{by-account-is-by-list}
+use Rattle.rules.specs.Fee.{withFee, feeValue, meets, smallestFee}
 use Rattle.laws.specs.Accepted.{ValidReturns}
 
 -- how many returns have this factor and this weight
@@ -93,7 +94,7 @@ module _ {rs us : Returns} (same : Reordered rs us) where
       ∙ sym (by-account-is-by-list c us (h .balance) f))
 
   module _ (c : Terms) (ds : Rates) where
-    same-means : SameMeans (processOf c rs ds) (processOf c us ds)
+    same-means : SameMeans (processOf c rs ds) (processOf c us ds) (λ s. Unit {0}) (λ h. Unit {0})
     unfolding processOf
     same-means = record {
       dates = refl;
@@ -101,8 +102,10 @@ module _ {rs us : Returns} (same : Reordered rs us) where
       limit = λ s. refl;
       cash = λ i s t. refl;
       after = λ i s t. refl;
-      mean = reordered-mean c ds;
       final = λ s. refl;
+      starts = tt;
+      holds = λ i s t g. tt;
+      mean = λ i h v w g e. reordered-mean c ds i h v ∙ ap (meanOver c us ds i h) (fun-ext (λ s. e s tt));
     }
 
     -- values: of the contract, of every state
@@ -112,19 +115,25 @@ module _ {rs us : Returns} (same : Reordered rs us) where
 
     pub any-order-state : (b : Behaviour) (i : ℕ) (s : State) → stateValue (fixedTerm c rs ds) b i s ≡ stateValue (fixedTerm c us ds) b i s
     unfolding stateValue fixedTerm
-    any-order-state b i s = value-same same-means (admissibleIn c b) i s
+    any-order-state b i s = value-same same-means (admissibleIn c b) i s tt
 
     -- the amount of every state
     pub any-order-amount : (b : Behaviour) (i : ℕ) (s : State)
         → recordedAmount (fixedTerm c rs ds) b i s ≡ recordedAmount (fixedTerm c us ds) b i s
     unfolding recordedAmount fixedTerm
-    any-order-amount b i s = recorded-same same-means (admissibleIn c b) i s
+    any-order-amount b i s = recorded-same same-means (admissibleIn c b) i s tt
 
     -- where a table is followed
     pub any-order-table : (d : Table State) (i : ℕ) (s : State)
         → tableValue (processOf c rs ds) d i s ≡ tableValue (processOf c us ds) d i s
-    any-order-table d i s = table-same same-means d i s
+    any-order-table d i s = table-same same-means d i s tt
 
     pub any-order-supplied : (table : List ℕ) → suppliedValue (fixedTerm c rs ds) table ≡ suppliedValue (fixedTerm c us ds) table
     unfolding suppliedValue fixedTerm
     any-order-supplied table = start-table-same same-means (lookup (layoutOf c) table)
+
+  -- the fee
+  pub any-order-fee : (c : Terms) (ds : Rates) (b : Behaviour) (wanted : ℕ) → smallestFee c rs ds b wanted ≡ smallestFee c us ds b wanted
+  unfolding smallestFee meets feeValue
+  any-order-fee c ds b wanted =
+      first-eq _ _ (rateMost + 1) (λ fee l. ap (λ (x : ℕ). leb x wanted) (any-order-value (withFee c fee) ds b))

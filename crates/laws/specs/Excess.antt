@@ -7,7 +7,8 @@ use native.Mathlib.Nat.{le-refl, le-trans, mul-le-mul-right, sub-le, mod-lt}
 use native.Mathlib.Omega.{arith}
 use lib.ListN.{getD, length, take}
 use Rattle.decision.specs.Index.{tabulate-eq}
-use Rattle.decision.specs.Arrivals.{arriving, Alike, value-same, recorded-same, start-same, table-same, start-table-same, start-met-same}
+use Rattle.decision.specs.Means.{SameMeans, value-same, recorded-same, start-same, table-same, start-table-same}
+use Rattle.decision.specs.Arrivals.{arriving, Alike, arriving-means, start-met-same}
 use Rattle.decision.specs.Layers.{lookup, layer, layers}
 use Rattle.rules.specs.Contract.{Terms, Returns, Rates, living}
 use Rattle.rules.specs.Date.{Behaviour, balanceAfter, liftedAccount, excess, excessPaid}
@@ -60,15 +61,18 @@ module _ (c : Terms) (rs : Returns) (v : Valid c) (none : NoneAbove c rs) where
       same = nothing-paid;
     }
 
+    same-means : SameMeans (processOf c rs ds) (arriving (λ h k. 0) (processOf c rs ds)) (InRange c) (Within c)
+    same-means = arriving-means (processOf c rs ds) (averages c rs ds) (λ h k. 0) alike
+
     -- values: of the contract, of every state, of the first layer left
     pub no-excess-value : (b : Behaviour) → contractValue (fixedTerm c rs ds) b ≡ contractValue (unpaid c rs ds) b
     unfolding contractValue fixedTerm unpaid
-    no-excess-value b = start-same (processOf c rs ds) (averages c rs ds) (λ h k. 0) alike (admissibleIn c b)
+    no-excess-value b = start-same same-means (admissibleIn c b)
 
     pub no-excess-state : (b : Behaviour) (i : ℕ) (s : State) → InRange c s
         → stateValue (fixedTerm c rs ds) b i s ≡ stateValue (unpaid c rs ds) b i s
     unfolding stateValue fixedTerm unpaid
-    no-excess-state b i s g = value-same (processOf c rs ds) (averages c rs ds) (λ h k. 0) alike (admissibleIn c b) i s g
+    no-excess-state b i s g = value-same same-means (admissibleIn c b) i s g
 
     pub no-excess-layer : (b : Behaviour) → valueLayer (fixedTerm c rs ds) b ≡ valueLayer (unpaid c rs ds) b
     unfolding valueLayer fixedTerm unpaid
@@ -78,18 +82,18 @@ module _ (c : Terms) (rs : Returns) (v : Valid c) (none : NoneAbove c rs) where
     pub no-excess-table : (b : Behaviour) → amountLayers (fixedTerm c rs ds) b ≡ amountLayers (unpaid c rs ds) b
     unfolding amountLayers recordedAmount layers fixedTerm unpaid layoutOf processOf
     no-excess-table b = tabulate-eq ((c .dates - 1) * layerSize c) _ _ (λ e l.
-        recorded-same (processOf c rs ds) (averages c rs ds) (λ h k. 0) alike (admissibleIn c b) _ _
+        recorded-same same-means (admissibleIn c b) _ _
         (placed-in-range c _ (mod-lt e (size-some c))))
 
     -- a supplied table
     pub no-excess-supplied : (table : List ℕ) → suppliedValue (fixedTerm c rs ds) table ≡ suppliedValue (unpaid c rs ds) table
     unfolding suppliedValue fixedTerm unpaid
-    no-excess-supplied table = start-table-same (processOf c rs ds) (averages c rs ds) (λ h k. 0) alike (lookup (layoutOf c) table)
+    no-excess-supplied table = start-table-same same-means (lookup (layoutOf c) table)
 
     pub no-excess-supplied-layer : (table : List ℕ) → suppliedLayer (fixedTerm c rs ds) table ≡ suppliedLayer (unpaid c rs ds) table
     unfolding suppliedLayer fixedTerm unpaid
     no-excess-supplied-layer table =
-        same-layer _ _ (table-same (processOf c rs ds) (averages c rs ds) (λ h k. 0) alike (lookup (layoutOf c) table) 1)
+        same-layer _ _ (table-same same-means (lookup (layoutOf c) table) 1)
 
   -- a walk whose numbers are those of returns
   module _ (table path : List ℕ) (long : length path ≡ c .dates) (numbers : (j : ℕ) → j < c .dates → getD path j 0 < rs .count) where

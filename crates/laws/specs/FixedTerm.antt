@@ -1,9 +1,8 @@
 -- The fixed-term contract is sound: it owes the third demand nothing more. Assumes nothing.
-use mathlib.Core.Path.{_≡_, ap}
 use Prim.Native.Nat.{ℕ, _+_, _-_, _*_, _≤_, _<_}
 use native.Mathlib.Nat.{le-refl, le-trans, mod-lt, div-lt-iff-lt-mul, mul-le-mul, mul-le-mul-left, mul-pos}
 use native.Mathlib.Omega.{arith}
-use Rattle.decision.specs.Index.{sum-le, sum-eq}
+use Rattle.decision.specs.Index.{sum-le}
 use Rattle.decision.specs.Process.{Averaging, Open, Closed}
 use Rattle.decision.specs.Layers.{Placed, low-digit, high-digit, two-digits}
 use Rattle.rules.specs.Contract.{Terms, Returns, Rates}
@@ -20,12 +19,7 @@ discounted-le : (d x y : ℕ) → x ≤ y → discounted d x ≤ discounted d y
 unfolding discounted
 discounted-le d x y l = let m = mul-le-mul-left d l in omega arith
 
--- only the values that the returns reach count
-pub mean-same : (c : Terms) (rs : Returns) {f g : ℕ → ℕ} → ((k : ℕ) → k < rs .count → f k ≡ g k) → meanOf c rs f ≡ meanOf c rs g
-unfolding meanOf
-mean-same c rs h = ap (discounted (c .discount)) (sum-eq _ _ (rs .count) (λ k l. ap (λ (x : ℕ). rs .weight k * x) (h k l)))
-
--- .. and more reached is never a smaller mean
+-- more reached is never a smaller mean
 pub mean-mono : (c : Terms) (rs : Returns) {f g : ℕ → ℕ} → ((k : ℕ) → k < rs .count → f k ≤ g k) → meanOf c rs f ≤ meanOf c rs g
 unfolding meanOf
 mean-mono c rs h = discounted-le (c .discount) _ _ (sum-le _ _ (rs .count) (λ k l. mul-le-mul-left (rs .weight k) (h k l)))

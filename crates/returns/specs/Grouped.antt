@@ -56,6 +56,6 @@ pub record Grouped (c : Terms) (rs : Returns) (balance stride : ℕ) (starts wei
   pub sums : (f : ℕ → ℕ)
       → sum (λ g. getD weights g 0 * f (getD starts g 0)) count ≡ sum (λ k. rs .weight k * f (startOf c rs balance stride k)) (rs .count)
   pub rows : (g : ℕ) → g < count → RowStart (c .top) stride (getD starts g 0)
-  pub rising : (g : ℕ) → g + 1 < count → 0 < getD weights (g + 1) 0 → getD starts g 0 < getD starts (g + 1) 0
+  pub rising : (g h : ℕ) → g < h → h < count → 0 < getD weights h 0 → getD starts g 0 < getD starts h 0
   pub long : 64 ≤ length starts
   pub long-weights : 64 ≤ length weights

@@ -95,11 +95,13 @@ byAccount c rs balance reached =
 unfoldable pub meanByAccount : Terms → Returns → ℕ → (ℕ → ℕ → ℕ) → ℕ
 meanByAccount c rs balance reached = discounted (c .discount) (byAccount c rs balance reached)
 
--- what a state reached with an excess is worth, where its value is known
+-- (iv) "A value reached above top is the value at top plus 10,000 × the excess"; (v) "Each reached value becomes" its share with the
+-- death payment: of account w with an excess, at guarantee a, where each state has its value
 unfoldable pub valueWith : Rates → ℕ → ℕ → (State → ℕ) → ℕ → ℕ → ℕ
 valueWith ds i a value w over =
     deathShare (ds i) (10000 * over + value (record { account = w; guarantee = a })) (deathPayment w a over)
 
+-- the worth on date i of what is held, summed so
 unfoldable pub meanOver : Terms → Returns → Rates → ℕ → Held → (State → ℕ) → ℕ
 meanOver c rs ds i h value = meanByAccount c rs (h .balance) (valueWith ds i (h .guarantee) value)
 
