@@ -1,3 +1,3 @@
--- What the enums that reading answers mean, and what an accepted reading shows.
+-- What reading a record answers, and what an accepted one shows.
 pub mod Reading
 pub mod Accepted

@@ -1,18 +1,16 @@
-// The contract record, the return list and the death rates, read from bytes: all in range, or a refusal with its place.
+// The contract record, read from bytes: all in range, or a refusal.
 ghost use mathlib.Core.Path.{_≡_};
 ghost use mathlib.Core.Bool.{_||_, not};
-ghost use Prim.Native.Nat.{ℕ, _+_, _*_, _/_, _%_, _≤_, _<_};
+ghost use Prim.Native.Nat.{ℕ, _+_, _≤_, _<_};
 ghost use lib.Dec.{ltb, eqb};
 ghost use lib.ListN.{length};
-ghost use Rattle.decision.specs.Index.{sum, first};
-ghost use Rattle.rules.specs.Contract.{word, topMost, datesMost, rateMost, returnBytes, returnsMost, returnsOf, rateBytes, ratesOf};
-ghost use Rattle.rules.specs.Refusals.{outside, verdict, termsChecks, badReturn, ratesChecks};
+ghost use Rattle.rules.specs.Contract.{word, topMost, rateMost};
+ghost use Rattle.rules.specs.Refusals.{outside, verdict, termsChecks};
 ghost use Rattle.rules.specs.FixedTerm.{layerSize};
 ghost use Rattle.rules.specs.Operations.{tableSize};
 ghost use Rattle.laws.specs.Accepted.{Valid};
 ghost use Rattle.laws.specs.FixedTerm.{layerMost, tableMost};
-ghost use Rattle.contract.specs.Reading.{readingOf, readingVerdict, listingVerdict, agreementVerdict, outcomeOf};
-ghost use Rattle.contract.specs.Reading.{refusedReading, refusedListing, termsIn, recordRead, listRead, bothRead, inputRead};
+ghost use Rattle.contract.specs.Reading.{readingOf, readingVerdict, outcomeOf, refusedReading, termsIn, recordRead};
 
 // A number and its place: 0 and 0 for success.
 pub struct Outcome {
@@ -38,22 +36,6 @@ pub enum Reading {
     Refused(Outcome),
 }
 
-// The returns stay in the bytes of their list.
-pub struct Returns {
-    pub count: usize,
-}
-
-pub enum Listing {
-    Accepted(Returns),
-    Refused(Outcome),
-}
-
-// What a call is given, once its checks have passed.
-pub enum Agreement {
-    Accepted(Contract, Returns),
-    Refused(Outcome),
-}
-
 impl Reading {
     // The number and place of each case.
     pub fn outcome(self) -> Outcome
@@ -66,36 +48,6 @@ impl Reading {
                 place: 0,
             },
             Reading::Refused(outcome) => outcome,
-        }
-    }
-}
-
-impl Listing {
-    pub fn outcome(self) -> Outcome
-        ensures { λ r. ⌜ r ≡ outcomeOf (listingVerdict self) ⌝ }
-    {
-        let listing = self;
-        match listing {
-            Listing::Accepted(_) => Outcome {
-                number: 0,
-                place: 0,
-            },
-            Listing::Refused(outcome) => outcome,
-        }
-    }
-}
-
-impl Agreement {
-    pub fn outcome(self) -> Outcome
-        ensures { λ r. ⌜ r ≡ outcomeOf (agreementVerdict self) ⌝ }
-    {
-        let agreement = self;
-        match agreement {
-            Agreement::Accepted(_, _) => Outcome {
-                number: 0,
-                place: 0,
-            },
-            Agreement::Refused(outcome) => outcome,
         }
     }
 }
@@ -237,158 +189,4 @@ impl Contract {
     {
         (self.dates - 1) * self.layer_size()
     }
-}
-
-// Refusal 7.
-fn bad_length(length: usize) -> bool
-    ensures { λ r. ⌜ r ≡ (outside 1 (returnBytes * returnsMost) length || not (eqb (length % returnBytes) 0)) ⌝ }
-{
-    outside(1, Contract::RETURN_BYTES * Contract::RETURNS_MOST, length)
-        || length % Contract::RETURN_BYTES != 0
-}
-
-// Refusal 8 of return k.
-fn bad_return(bytes: &[u8], k: usize) -> bool
-    requires { ⌜ (4 * k + 4 ≤ length (now bytes)) × (k < 64) ⌝ }
-    ensures { λ r. ⌜ r ≡ badReturn (returnsOf (now (bytes .entry))) k ⌝ }
-{
-    let at = Contract::RETURN_BYTES * k;
-    Contract::FACTOR_MOST < word(bytes, at)
-        || outside(1, Contract::WEIGHT_MOST, word(bytes, at + 2))
-}
-
-// The first of the returns that is bad, or their count.
-fn first_bad(bytes: &[u8], count: usize) -> usize
-    requires { ⌜ (4 * count ≤ length (now bytes)) × (count ≤ 64) ⌝ }
-    ensures { λ r. ⌜ r ≡ first (badReturn (returnsOf (now (bytes .entry)))) count ⌝ }
-{
-    let mut k: usize = 0;
-    while k < count {
-        if bad_return(bytes, k) {
-            return k;
-        }
-        k += 1;
-    }
-    k
-}
-
-fn total_weight(bytes: &[u8], count: usize) -> usize
-    requires { ⌜ (4 * count ≤ length (now bytes)) × (count ≤ 64) ⌝ }
-    ensures { λ r. ⌜ r ≡ sum (returnsOf (now (bytes .entry)) .weight) count ⌝ }
-{
-    let mut total: usize = 0;
-    for k in 0..count {
-        total += word(bytes, Contract::RETURN_BYTES * k + 2);
-    }
-    total
-}
-
-fn refused_list(number: u32, place: u64) -> Listing
-    ensures { λ r. ⌜ r ≡ refusedListing number place ⌝ }
-{
-    Listing::Refused(Outcome { number, place })
-}
-
-impl Returns {
-    // A list's bytes as returns in range.
-    pub fn read(bytes: &[u8]) -> Listing
-        ensures { λ r. ⌜ r ≡ listRead (now (bytes .entry)) ⌝ }
-    {
-        if bad_length(bytes.len()) {
-            return refused_list(7, 0);
-        }
-        let count = bytes.len() / Contract::RETURN_BYTES;
-        let bad = first_bad(bytes, count);
-        if bad < count {
-            return refused_list(8, bad as u64);
-        }
-        if total_weight(bytes, count) != Contract::WEIGHT_TOTAL {
-            return refused_list(9, 0);
-        }
-        Listing::Accepted(Returns { count })
-    }
-}
-
-// How many returns a list has.
-pub fn returns_in(list: &[u8]) -> usize
-    ensures { λ r. ⌜ r ≡ returnsOf (now (list .entry)) .count ⌝ }
-{
-    list.len() / Contract::RETURN_BYTES
-}
-
-// Record and list: the record is read whole before the list is looked at.
-pub fn read(bytes: &[u8], list: &[u8]) -> Agreement
-    ensures { λ r. ⌜ r ≡ bothRead (now (bytes .entry)) (now (list .entry)) ⌝ }
-{
-    let reading = Contract::read(bytes);
-    let Reading::Accepted(c) = reading else {
-        return Agreement::Refused(reading.outcome());
-    };
-    let listing = Returns::read(list);
-    let Listing::Accepted(returns) = listing else {
-        return Agreement::Refused(listing.outcome());
-    };
-    Agreement::Accepted(c, returns)
-}
-
-// The death rate of the period that begins on date i.
-pub fn rate_of(rates: &[u8], i: usize) -> usize
-    requires { ⌜ (i < datesMost) × (rateBytes * i + 2 ≤ length (now rates)) ⌝ }
-    ensures { λ r. ⌜ r ≡ ratesOf (now (rates .entry)) i ⌝ }
-{
-    word(rates, Contract::RATE_BYTES * i)
-}
-
-// The first death rate above 10,000, or how many there are.
-fn first_high(rates: &[u8], dates: usize) -> usize
-    requires { ⌜ (dates ≤ datesMost) × (rateBytes * dates ≤ length (now rates)) ⌝ }
-    ensures { λ r. ⌜ r ≡ first (λ (i : ℕ). ltb rateMost (ratesOf (now (rates .entry)) i)) dates ⌝ }
-{
-    let mut i: usize = 0;
-    while i < dates {
-        if Contract::RATE_MOST < rate_of(rates, i) {
-            return i;
-        }
-        i += 1;
-    }
-    i
-}
-
-// Refusals 17 and 18.
-fn check_rates(rates: &[u8], dates: usize) -> Outcome
-    requires { ⌜ dates ≤ datesMost ⌝ }
-    ensures { λ r. ⌜ r ≡ outcomeOf (verdict (ratesChecks dates (now (rates .entry)))) ⌝ }
-{
-    if rates.len() != Contract::RATE_BYTES * dates {
-        return Outcome {
-            number: 17,
-            place: 0,
-        };
-    }
-    let high = first_high(rates, dates);
-    if high < dates {
-        return Outcome {
-            number: 18,
-            place: high as u64,
-        };
-    }
-    Outcome {
-        number: 0,
-        place: 0,
-    }
-}
-
-// Record, list and rates, which are looked at last.
-pub fn read_all(bytes: &[u8], list: &[u8], rates: &[u8]) -> Agreement
-    ensures { λ r. ⌜ r ≡ inputRead (now (bytes .entry)) (now (list .entry)) (now (rates .entry)) ⌝ }
-{
-    let agreement = read(bytes, list);
-    let Agreement::Accepted(c, _) = agreement else {
-        return agreement;
-    };
-    let outcome = check_rates(rates, c.dates);
-    if outcome.number != 0 {
-        return Agreement::Refused(outcome);
-    }
-    agreement
 }

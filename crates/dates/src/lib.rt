@@ -56,7 +56,7 @@ pub fn sum_date(work: &mut [u64], order: &[u32], rates: &[u8], c: Contract, i: u
         ⌝ }
 {
     let stride = c.premium + 1;
-    death::share_layer(work, contract::rate_of(rates, i), stride, c.top + 1);
+    death::share_layer(work, input::rate_of(rates, i), stride, c.top + 1);
     expect::expect_layer(work, order, c, i);
     Date {
         base: c.layer_size(),

@@ -16,9 +16,10 @@ use Rattle.keys.specs.Sums.{Span, Copying, sums, sum-in, sum-small}
 use Rattle.worth.specs.Worth.{keyOver}
 use Rattle.worth.specs.Laws.{free-is}
 use Rattle.keys.specs.declared.Block.{Block}
-use Rattle.dynamic.specs.Block.{Held, Offering, freeOf, keyAt, keyMost, triedTo, triedBelow}
-use Rattle.dynamic.proofs.Offers.{offered}
-use Rattle.dynamic.proofs.Tried.{below-free}
+use Rattle.proportion.specs.Held.{Held, freeOf, keyAt, keyMost, triedBelow}
+use Rattle.dynamic.specs.Block.{Offering, triedTo}
+use Rattle.proportion.specs.Offers.{offered}
+use Rattle.proportion.specs.Tried.{below-free}
 
 free-le : (level a : ℕ) {t : ℕ} → t ≤ level → t ≤ a → t ≤ freeAmount level a
 unfolding freeAmount

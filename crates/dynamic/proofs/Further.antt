@@ -17,9 +17,10 @@ use Rattle.keys.specs.Sums.{Sums, Span, sums, sumMost, row-in, sum-small}
 use Rattle.worth.specs.Further.{furtherKey, further-small, Furthered}
 use Rattle.worth.specs.Laws.{further-joins}
 use Rattle.keys.specs.declared.Block.{Block}
-use Rattle.dynamic.specs.Block.{Held, Offering, Alike, freeOf, keyAt, keyMost, triedBelow}
-use Rattle.dynamic.proofs.Offers.{offered}
-use Rattle.dynamic.proofs.Tried.{below-all, below-free, below-same}
+use Rattle.proportion.specs.Held.{Held, freeOf, keyAt, keyMost, triedBelow}
+use Rattle.dynamic.specs.Block.{Offering, Alike}
+use Rattle.proportion.specs.Offers.{offered}
+use Rattle.proportion.specs.Tried.{below-all, below-free, below-same}
 
 -- ---- which states are alike
 -- one state up to the level: m is its guarantee

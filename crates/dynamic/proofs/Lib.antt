@@ -1,11 +1,2 @@
-pub mod Offers
-pub mod Tried
 pub mod Free
 pub mod Further
-pub mod Rising
-pub mod Inverse
-pub mod Bounds
-pub mod Parts
-pub mod Share
-pub mod Amount
-pub mod Step

@@ -333,7 +333,7 @@ pub fn start_value(work: &[u64], list: &[u8], rate: usize, c: Contract) -> u64
         ⌝ }
 {
     let mut sum: usize = 0;
-    for k in 0..contract::returns_in(list) {
+    for k in 0..input::returns_in(list) {
         let weight = contract::word(list, Contract::RETURN_BYTES * k + 2);
         sum += weight * first_reached(work, list, rate, c, k);
     }

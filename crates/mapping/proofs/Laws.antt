@@ -12,8 +12,8 @@ use Rattle.rules.specs.Map.{mappingAnswer, mappingCount, mappingWork, mappingTa
 use Rattle.laws.specs.Accepted.{success-reports}
 use Rattle.laws.specs.Map.{mapping-short, mapping-same, mapping-claim}
 use Rattle.contract.specs.declared.Contract.{Contract}
-use Rattle.contract.specs.declared.Returns.{Returns}
-use Rattle.contract.specs.Accepted.{Agreed}
+use Rattle.input.specs.declared.Returns.{Returns}
+use Rattle.input.specs.Accepted.{Agreed}
 use Rattle.contract.specs.Reading.{termsIn}
 use Rattle.valuing.specs.declared.Answer.{Answer}
 use Rattle.valuing.specs.Answered.{Answered, Reported, reported, reported-refused}

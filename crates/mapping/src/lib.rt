@@ -1,8 +1,8 @@
 // Valuing a contract under one of the three behaviours, with a map of surrender.
 ghost use mathlib.Core.Path.{_≡_};
 ghost use Rattle.mapping.specs.Mapped.{mapRefusal, Mapping};
-use contract::Agreement;
 use contract::Outcome;
+use input::Agreement;
 use valuing::Answer;
 
 // The answer of valuing, and the number of set bits.

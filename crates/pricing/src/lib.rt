@@ -8,9 +8,9 @@ ghost use Rattle.rules.specs.Fee.{withFee};
 ghost use Rattle.contract.specs.Reading.{termsIn};
 ghost use Rattle.valuing.specs.Answered.{Alone};
 ghost use Rattle.pricing.specs.Priced.{feeRefusal, narrowed, Found, Pricing};
-use contract::Agreement;
 use contract::Contract;
 use contract::Outcome;
+use input::Agreement;
 use valuing::Answer;
 
 // The answer of valuing under a fee, and the fee.

@@ -30,8 +30,8 @@ use Rattle.laws.specs.Valuing.{valuing-alone}
 use Rattle.laws.specs.ThirdDemand.{valuing-accepts, valuing-valid, valuing-reports, valuing-leaves}
 use Rattle.contract.specs.declared.Contract.{Contract}
 use Rattle.contract.specs.Reading.{termsIn}
-use Rattle.contract.specs.Accepted.{Both}
-use Rattle.contract.specs.declared.Returns as listed
+use Rattle.input.specs.Accepted.{Both}
+use Rattle.input.specs.declared.Returns as listed
 use Rattle.returns.specs.Listed.{listing}
 use Rattle.valuing.specs.declared.Answer as declared
 use Rattle.valuing.specs.Answered.{answerOf}

@@ -12,9 +12,9 @@ ghost use Rattle.rules.specs.Printed.{digits, decimal, line, nameOf, refusedWor
 ghost use Rattle.contract.specs.Reading.{termsIn};
 ghost use Rattle.report.specs.Text.{Put, Counts};
 ghost use Rattle.report.specs.Tables.{tableLine, Tabled, Filled, tableLeft, workLeft};
-use contract::Agreement;
 use contract::Contract;
 use contract::Reading;
+use input::Agreement;
 
 fn byte(out: &mut [u8], at: usize, b: u8) -> usize
     requires { ⌜ at < length (now out) ⌝ }
@@ -200,7 +200,7 @@ fn all_lines(
         r (now (out .exit))
         ⌝ }
 {
-    let agreement = contract::read(bytes, list);
+    let agreement = input::read(bytes, list);
     let Agreement::Accepted(c, returns) = agreement else {
         return at;
     };

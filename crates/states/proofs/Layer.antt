@@ -14,7 +14,8 @@ use Rattle.keys.specs.declared.Date.{Date}
 use Rattle.keys.specs.Sums.{Sums, sums, sums-as, sums-less, sums-moved}
 use Rattle.worth.specs.Worth.{bestValue, bestAmount}
 use Rattle.worth.specs.Further.{furtherKey, Furthered}
-use Rattle.dynamic.specs.Block.{Rising, Row}
+use Rattle.proportion.specs.Share.{Rising}
+use Rattle.dynamic.specs.Block.{Row}
 use Rattle.states.specs.Decided.{Ready, Prepared, Decided}
 
 -- what stands from base on is kept: so are the sums

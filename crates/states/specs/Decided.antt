@@ -12,7 +12,8 @@ use Rattle.keys.specs.declared.Block.{Block}
 use Rattle.keys.specs.Sums.{Sums, Span}
 use Rattle.worth.specs.Worth.{bestValue, bestAmount}
 use Rattle.worth.specs.Further.{Furthered}
-use Rattle.dynamic.specs.Block.{Rising, Row}
+use Rattle.proportion.specs.Share.{Rising}
+use Rattle.dynamic.specs.Block.{Row}
 
 -- row w is to be decided, or the rest of it
 pub record Ready (behaviour : ℕ) (work : List ℕ) (d : Date) (w : ℕ) (rising : Bool) : Type 0 where

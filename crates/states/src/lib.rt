@@ -183,7 +183,7 @@ fn prepare(work: &mut [u64], d: Date, n: usize) -> bool
     requires { ⌜ Sums (now work) d n ⌝ }
     ensures { λ r. ⌜ Prepared (now (work .entry)) (now (work .exit)) d n r ⌝ }
 {
-    let rising = dynamic::rises(&work[..], d, n);
+    let rising = proportion::rises(&work[..], d, n);
     further::further_layer(work, d, n);
     rising
 }

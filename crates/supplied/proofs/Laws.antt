@@ -28,7 +28,7 @@ use Rattle.laws.specs.Date.{dynamic-is, shared}
 use Rattle.laws.specs.Accepted.{Valid, ValidInput, then-accepted, then-refused}
 use Rattle.laws.specs.Bounds.{table-value-le, stateMost, entryMost}
 use Rattle.laws.specs.AnyOrder.{Reordered, any-order-table}
-use Rattle.contract.specs.Accepted.{Given}
+use Rattle.input.specs.Accepted.{Given}
 use Rattle.returns.specs.Sorted.{Sorted, ordered-input}
 use Rattle.expect.specs.Expected.{expected, shared-same}
 use Rattle.keys.specs.declared.Date.{Date}

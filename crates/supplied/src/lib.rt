@@ -16,12 +16,12 @@ ghost use Rattle.contract.specs.Reading.{termsIn};
 ghost use Rattle.returns.specs.Sorted.{inOrder};
 ghost use Rattle.keys.specs.Sums.{sums, Sums};
 ghost use Rattle.worth.specs.Worth.{worthOver};
-ghost use Rattle.contract.specs.Accepted.{Given};
+ghost use Rattle.input.specs.Accepted.{Given};
 ghost use Rattle.valuing.specs.First.{First};
 ghost use Rattle.supplied.specs.Followed.{followedOn, Following, Dating, Back, tableOn, Starting, Answered, Supplying};
-use contract::Agreement;
 use contract::Contract;
 use contract::Outcome;
+use input::Agreement;
 use keys::Date;
 use valuing::Answer;
 
@@ -193,7 +193,7 @@ pub fn value(bytes: &[u8], list: &[u8], rates: &[u8], work: &mut [u64], table: &
         (now (work .exit))
         ⌝ }
 {
-    let agreement = contract::read_all(bytes, list, rates);
+    let agreement = input::read_all(bytes, list, rates);
     let Agreement::Accepted(c, _) = agreement else {
         return valuing::refused(agreement.outcome());
     };

@@ -27,12 +27,13 @@ use Rattle.laws.specs.Accepted.{Valid, andThen, then-accepted, then-refused, in
 use Rattle.laws.specs.FixedTerm.{size-some}
 use Rattle.laws.specs.ThirdDemand.{valuing-claim, alone-claim}
 use Rattle.laws.specs.Valuing.{behaviour-refused, work-refused, work-accepted, tableCheck, table-last}
-use Rattle.contract.specs.declared.Agreement.the-variants as agreement
+use Rattle.input.specs.declared.Agreement.the-variants as agreement
 use Rattle.contract.specs.declared.Contract.{Contract}
 use Rattle.contract.specs.declared.Outcome.{Outcome}
-use Rattle.contract.specs.declared.Returns as listed
-use Rattle.contract.specs.Accepted.{Agreed, disagreed, input-not-read}
-use Rattle.contract.specs.Reading.{termsIn, contractOf, outcomeAt, inputRead}
+use Rattle.input.specs.declared.Returns as listed
+use Rattle.input.specs.Accepted.{Agreed, disagreed, input-not-read}
+use Rattle.contract.specs.Reading.{termsIn, contractOf, outcomeAt}
+use Rattle.input.specs.Reading.{inputRead}
 use Rattle.laws.specs.AnyOrder.{Reordered, any-order-state, any-order-amount}
 use Rattle.returns.specs.Sorted.{Sorted, ordered-input}
 use Rattle.expect.specs.Expected.{expected, shared-same}

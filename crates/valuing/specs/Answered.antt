@@ -15,9 +15,9 @@ use Rattle.rules.specs.Operations.{productOf, Answer, answer, workAfter, behavi
 use Rattle.rules.specs.Operations.{valuedWork, valuedTable, valuingAnswer, valuingWork, valuingTable, aloneVerdict, aloneAnswer, aloneWork}
 use Rattle.laws.specs.Date.{shared}
 use Rattle.expect.specs.Expected.{expected, Values}
-use Rattle.contract.specs.Accepted.{Given}
-use Rattle.contract.specs.declared.Agreement.{Agreement}
-use Rattle.contract.specs.Reading.{agreementOf}
+use Rattle.input.specs.Accepted.{Given}
+use Rattle.input.specs.declared.Agreement.{Agreement}
+use Rattle.input.specs.Reading.{agreementOf}
 use Rattle.valuing.specs.declared.Answer as declared
 
 -- the struct and the record of the rules hold the same fields

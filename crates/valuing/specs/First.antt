@@ -19,9 +19,9 @@ use Rattle.laws.specs.Bounds.{stateMost}
 use Rattle.laws.specs.Valuing.{alone-room, valuing-alone}
 use Rattle.contract.specs.declared.Outcome.{Outcome}
 use Rattle.contract.specs.declared.Contract.{Contract}
-use Rattle.contract.specs.declared.Returns.{Returns}
+use Rattle.input.specs.declared.Returns.{Returns}
 use Rattle.contract.specs.Reading.{termsIn}
-use Rattle.contract.specs.Accepted.{Agreed, Given, given}
+use Rattle.input.specs.Accepted.{Agreed, Given, given}
 use Rattle.valuing.specs.declared.Answer as declared
 use Rattle.valuing.specs.Answered.{refusal, Alone, Lent, Settling}
 

@@ -8,9 +8,9 @@ ghost use Rattle.rules.specs.Operations.{behaviourOf};
 ghost use Rattle.contract.specs.Reading.{termsIn};
 ghost use Rattle.valuing.specs.Answered.{refusal, aloneAgreed, valuingAgreed, Alone, Settling, Settled, Worked};
 ghost use Rattle.valuing.specs.Answered.{Answered, Valuing, ValuingAlone};
-use contract::Agreement;
 use contract::Contract;
 use contract::Outcome;
+use input::Agreement;
 
 pub struct Answer {
     pub number: u32,
@@ -45,7 +45,7 @@ pub fn settle(work: &mut [u64], list: &[u8], rates: &[u8], c: Contract) -> Answe
         (now (work .exit))
         ⌝ }
 {
-    let value = expect::start_value(&work[..], list, contract::rate_of(rates, 0), c);
+    let value = expect::start_value(&work[..], list, input::rate_of(rates, 0), c);
     let size = c.layer_size();
     dates::clear(work, size, size);
     Answer {
@@ -66,7 +66,7 @@ pub fn check_alone(
 ) -> Agreement
     ensures { λ r. ⌜ r ≡ aloneAgreed (now (bytes .entry)) (now (list .entry)) (now (rates .entry)) behaviour (now (work .entry)) ⌝ }
 {
-    let agreement = contract::read_all(bytes, list, rates);
+    let agreement = input::read_all(bytes, list, rates);
     let Agreement::Accepted(c, _) = agreement else {
         return agreement;
     };

@@ -11,9 +11,9 @@ use Rattle.rules.specs.Refusals.{Verdict, onSuccess}
 use Rattle.rules.specs.Operations.{tableSize}
 use Rattle.laws.specs.Accepted.{Valid}
 use Rattle.contract.specs.declared.Contract.{Contract}
-use Rattle.contract.specs.declared.Returns as declared
+use Rattle.input.specs.declared.Returns as declared
 use Rattle.contract.specs.declared.Outcome.{Outcome}
-use Rattle.contract.specs.Accepted.{Both}
+use Rattle.input.specs.Accepted.{Both}
 use Rattle.contract.specs.Reading.{termsIn, outcomeOf}
 use Rattle.returns.specs.Listed.{Listing, listing}
 use Rattle.dates.specs.Back.{at}

@@ -16,9 +16,9 @@ ghost use Rattle.laws.specs.Accepted.{Valid};
 ghost use Rattle.contract.specs.Reading.{termsIn, outcomeAt, outcomeOf};
 ghost use Rattle.dates.specs.Back.{at};
 ghost use Rattle.walk.specs.Walked.{Ready, Walking, Met, Walked};
-use contract::Agreement;
 use contract::Contract;
 use contract::Outcome;
+use input::Agreement;
 
 // The account and guarantee that are met, and what is paid on arrival there.
 pub struct Place {
@@ -284,7 +284,7 @@ pub fn walk(bytes: &[u8], list: &[u8], table: &[u16], path: &[u16], cash: &mut [
         now (cash .exit) ≡ walkCashes (now (bytes .entry)) (now (list .entry)) (now (table .entry)) (now (path .entry)) (now (cash .entry))
         ⌝ }
 {
-    let agreement = contract::read(bytes, list);
+    let agreement = input::read(bytes, list);
     let Agreement::Accepted(c, returns) = agreement else {
         return agreement.outcome();
     };

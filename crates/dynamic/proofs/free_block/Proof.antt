@@ -4,8 +4,9 @@ use mathlib.Core.Path.{_≡_}
 use native.Mathlib.Omega.{arith}
 use Prim.Native.Nat.{_+_, _-_, _≤_}
 use Rattle.dynamic.proofs.Free.{free-all, first-copying, first-held}
-use Rattle.dynamic.proofs.Offers.{held-as}
-use Rattle.dynamic.specs.Block.{Held, keyAt, triedTo}
+use Rattle.proportion.specs.Offers.{held-as}
+use Rattle.proportion.specs.Held.{Held, keyAt}
+use Rattle.dynamic.specs.Block.{triedTo}
 use Rattle.keys.specs.Sums.{sum-in}
 use Rattle.dynamic.proofs.free_block.Statement.{statement}
 use Rattle.dynamic.proofs.free_block.Tie as tie

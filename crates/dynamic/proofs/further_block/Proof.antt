@@ -4,8 +4,8 @@ use mathlib.Core.Path.{_≡_, ap, refl, _∙_}
 use native.Mathlib.Omega.{arith}
 use Prim.Native.Nat.{ℕ, _+_, _-_, min}
 use Rattle.dynamic.proofs.Further.{alike-level, few-level, few-all}
-use Rattle.dynamic.proofs.Offers.{held-as}
-use Rattle.dynamic.specs.Block.{triedBelow}
+use Rattle.proportion.specs.Offers.{held-as}
+use Rattle.proportion.specs.Held.{triedBelow}
 use Rattle.dynamic.proofs.further_block.Statement.{statement}
 use Rattle.dynamic.proofs.further_block.Tie as tie
 

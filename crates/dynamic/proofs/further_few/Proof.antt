@@ -4,8 +4,8 @@ use mathlib.Core.Path.{_≡_, ap, _∙_}
 use native.Mathlib.Omega.{arith}
 use Prim.Native.Nat.{ℕ, _+_, _-_, _≤_, min}
 use Rattle.dynamic.proofs.Further.{alike-one}
-use Rattle.dynamic.proofs.Offers.{held-as}
-use Rattle.dynamic.specs.Block.{Held, keyAt, triedBelow}
+use Rattle.proportion.specs.Offers.{held-as}
+use Rattle.proportion.specs.Held.{Held, keyAt, triedBelow}
 use Rattle.dynamic.proofs.further_few.Statement.{statement}
 use Rattle.dynamic.proofs.further_few.Tie as tie
 

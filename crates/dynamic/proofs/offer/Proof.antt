@@ -3,7 +3,7 @@ use lib.ListN.{getD}
 use mathlib.Core.Path.{_≡_, refl, sym, _∙_}
 use native.Mathlib.Omega.{arith}
 use Prim.Native.Nat.{_+_, _-_, _≤_, max}
-use Rattle.dynamic.proofs.Offers.{held-yet, raised}
+use Rattle.proportion.specs.Offers.{held-yet, raised}
 use Rattle.slices.specs.Stored.{stored}
 use Rattle.dynamic.proofs.offer.Statement.{statement}
 use Rattle.dynamic.proofs.offer.Tie as tie

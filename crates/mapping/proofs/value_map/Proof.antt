@@ -3,9 +3,10 @@ use borrow.Author.Needs.{needs}
 use borrow.Author.Tests.{lt-ltb, le-ltb}
 use mathlib.Core.Path.{sym, ap, _∙_}
 use native.Mathlib.Omega.{arith}
-use Rattle.contract.specs.Accepted.{agreed, disagreed}
-use Rattle.contract.specs.Reading.{agreementVerdict, outcomeOf}
-use Rattle.contract.specs.declared.Agreement.{Agreement}
+use Rattle.input.specs.Accepted.{agreed, disagreed}
+use Rattle.contract.specs.Reading.{outcomeOf}
+use Rattle.input.specs.Reading.{agreementVerdict}
+use Rattle.input.specs.declared.Agreement.{Agreement}
 use Rattle.contract.specs.declared.Outcome.{Outcome}
 use Rattle.laws.specs.Map.{mapping-refused}
 use Rattle.rules.specs.Refusals.{numberOf, placeOf, short}

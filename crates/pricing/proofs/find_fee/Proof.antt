@@ -2,9 +2,10 @@
 use borrow.Author.Needs.{needs}
 use mathlib.Core.Path.{sym, ap, _∙_}
 use native.Mathlib.Omega.{arith}
-use Rattle.contract.specs.Accepted.{agreed, disagreed}
-use Rattle.contract.specs.Reading.{agreementVerdict, outcomeOf}
-use Rattle.contract.specs.declared.Agreement.{Agreement}
+use Rattle.input.specs.Accepted.{agreed, disagreed}
+use Rattle.contract.specs.Reading.{outcomeOf}
+use Rattle.input.specs.Reading.{agreementVerdict}
+use Rattle.input.specs.declared.Agreement.{Agreement}
 use Rattle.contract.specs.declared.Outcome.{Outcome}
 use Rattle.rules.specs.Refusals.{numberOf, placeOf}
 use Rattle.valuing.specs.First.{lent-alone}

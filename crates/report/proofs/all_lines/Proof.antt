@@ -3,7 +3,7 @@ use Prim.Native.Nat.{ℕ, _*_}
 use borrow.Author.Needs.{needs}
 use mathlib.Core.Path.{ap, ap₂, sym, _∙_}
 use native.Mathlib.Omega.{arith}
-use Rattle.contract.specs.Accepted.{both-read, both-not-read}
+use Rattle.input.specs.Accepted.{both-read, both-not-read}
 use Rattle.report.specs.Tables.{tableLine}
 use Rattle.report.specs.Text.{put-none, put-eq, put-most}
 use Rattle.rules.specs.Contract.{Terms, termsOf, returnsOf}

@@ -1,9 +1,10 @@
 -- `supplied::value` meets its contract. Assumes nothing.
 use borrow.Author.Needs.{needs}
 use mathlib.Core.Path.{sym, ap, _∙_}
-use Rattle.contract.specs.Accepted.{given, input-read, input-not-read}
-use Rattle.contract.specs.Reading.{agreementVerdict, outcomeOf}
-use Rattle.contract.specs.declared.Agreement.{Agreement}
+use Rattle.input.specs.Accepted.{given, input-read, input-not-read}
+use Rattle.contract.specs.Reading.{outcomeOf}
+use Rattle.input.specs.Reading.{agreementVerdict}
+use Rattle.input.specs.declared.Agreement.{Agreement}
 use Rattle.rules.specs.Refusals.{numberOf, placeOf}
 use Rattle.valuing.specs.First.{refused-by}
 use Rattle.supplied.proofs.Laws.{whole, whole-refused}

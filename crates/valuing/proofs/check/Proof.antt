@@ -2,7 +2,7 @@
 use borrow.Author.Needs.{needs}
 use borrow.Author.Tests.{lt-ltb, le-ltb}
 use mathlib.Core.Path.{sym, _∙_}
-use Rattle.contract.specs.Accepted.{agreed}
+use Rattle.input.specs.Accepted.{agreed}
 use Rattle.rules.specs.Refusals.{short}
 use Rattle.valuing.specs.First.{lent-alone}
 use Rattle.valuing.proofs.Laws.{table-refused, table-short, table-passed}

@@ -2,7 +2,7 @@
 use borrow.Author.Needs.{needs}
 use borrow.Author.Tests.{lt-ltb, le-ltb}
 use mathlib.Core.Path.{sym, _∙_}
-use Rattle.contract.specs.Accepted.{input-read}
+use Rattle.input.specs.Accepted.{input-read}
 use Rattle.rules.specs.Refusals.{short}
 use Rattle.valuing.proofs.Laws.{check-read, check-valid, check-behaviour, check-work, check-passed}
 use Rattle.valuing.proofs.check_alone.Statement.{statement}

@@ -1,9 +1,10 @@
 -- `valuing::value_alone` meets its contract. Assumes nothing.
 use borrow.Author.Needs.{needs}
 use mathlib.Core.Path.{sym, ap, _∙_}
-use Rattle.contract.specs.Accepted.{agreed, disagreed}
-use Rattle.contract.specs.Reading.{agreementVerdict, outcomeOf}
-use Rattle.contract.specs.declared.Agreement.{Agreement}
+use Rattle.input.specs.Accepted.{agreed, disagreed}
+use Rattle.contract.specs.Reading.{outcomeOf}
+use Rattle.input.specs.Reading.{agreementVerdict}
+use Rattle.input.specs.declared.Agreement.{Agreement}
 use Rattle.rules.specs.Refusals.{numberOf, placeOf}
 use Rattle.valuing.specs.First.{refused-by, lent-alone}
 use Rattle.valuing.proofs.Laws.{alone-refused, alone-valued}

@@ -1,0 +1,4 @@
+pub mod Held
+pub mod Offers
+pub mod Tried
+pub mod Share
