@@ -4,7 +4,7 @@ ghost use mathlib.Core.Bool.{_||_, not};
 ghost use Prim.Native.Nat.{ℕ, _+_, _≤_, _<_};
 ghost use lib.Dec.{ltb, eqb};
 ghost use lib.ListN.{length};
-ghost use Rattle.rules.specs.Contract.{word, topMost, rateMost};
+ghost use Rattle.rules.specs.Contract.{word, long, topMost, rateMost};
 ghost use Rattle.rules.specs.Refusals.{outside, verdict, termsChecks};
 ghost use Rattle.rules.specs.FixedTerm.{layerSize};
 ghost use Rattle.rules.specs.Operations.{tableSize};
@@ -64,6 +64,14 @@ pub fn word(bytes: &[u8], i: usize) -> usize
     ensures { λ r. ⌜ (r ≡ word (now (bytes .entry)) i) × (r < 65536) ⌝ }
 {
     wide(bytes[i]) + 256 * wide(bytes[i + 1])
+}
+
+// The four bytes from i on, low byte first.
+fn long(bytes: &[u8], i: usize) -> usize
+    requires { ⌜ i + 3 < length (now bytes) ⌝ }
+    ensures { λ r. ⌜ r ≡ long (now (bytes .entry)) i ⌝ }
+{
+    word(bytes, i) + 65536 * word(bytes, i + 2)
 }
 
 pub fn outside(least: usize, most: usize, x: usize) -> bool
@@ -166,7 +174,7 @@ impl Contract {
             dates: word(bytes, 6),
             fee: word(bytes, 8),
             penalty: word(bytes, 10),
-            discount: word(bytes, 12) + 65536 * word(bytes, 14),
+            discount: long(bytes, 12),
             step: word(bytes, 16),
             spare: word(bytes, 18),
         };

@@ -1,11 +1,10 @@
 -- `contract::Contract::read` meets its contract. Assumes nothing.
-use Prim.Native.Nat.{_+_, _*_}
 use borrow.Author.Needs.{needs}
 use borrow.Author.Tests.{eq-eqb, ne-eqb}
 use mathlib.Core.Path.{_≡_, ap, _∙_}
 use Rattle.contract.specs.Reading.{recordRead, readingOf, contractOf, termsIn}
 use Rattle.contract.specs.declared.Contract.{Contract}
-use Rattle.rules.specs.Contract.{termsOf, long}
+use Rattle.rules.specs.Contract.{termsOf}
 use Rattle.rules.specs.Refusals.{verdict, termsChecks, recordChecks}
 use Rattle.contract.proofs.Contract.read.Statement.{statement}
 use Rattle.contract.proofs.Contract.read.Tie as tie
@@ -35,42 +34,32 @@ word-requires-5 c κs = search needs
 word-requires-6 : tie.Need-word-requires-6
 word-requires-6 c κs = search needs
 
+long-requires : tie.Need-long-requires
+long-requires c κs = search needs
+
 word-requires-7 : tie.Need-word-requires-7
 word-requires-7 c κs = search needs
 
 word-requires-8 : tie.Need-word-requires-8
 word-requires-8 c κs = search needs
 
-mul-t12 : tie.Need-mul-t12
-mul-t12 c = search needs
-
-add-t13 : tie.Need-add-t13
-add-t13 c = search needs
-
-word-requires-9 : tie.Need-word-requires-9
-word-requires-9 c κs = search needs
-
-word-requires-10 : tie.Need-word-requires-10
-word-requires-10 c κs = search needs
-
 checked-requires : tie.Need-checked-requires
 checked-requires c κs = search needs
 
 returns-2 : tie.Need-returns-2
-unfolding recordRead verdict recordChecks termsOf long
+unfolding recordRead verdict recordChecks termsOf
 returns-2 c =
-    let args = c .before .before .before .before .before .before .before .before .before .before .before .before .before .args in
-    let if1 = c .before .before .before .before .before .before .before .before .before .before .before .if1 in
-    let word = c .before .before .before .before .before .before .before .before .before .before .word in
-    let word2 = c .before .before .before .before .before .before .before .before .before .word2 in
-    let word3 = c .before .before .before .before .before .before .before .before .word3 in
-    let word4 = c .before .before .before .before .before .before .before .word4 in
-    let word5 = c .before .before .before .before .before .before .word5 in
-    let word6 = c .before .before .before .before .before .word6 in
-    let word7 = c .before .before .before .before .word7 in
-    let word8 = c .before .before .before .word8 in
-    let word9 = c .before .before .word9 in
-    let word10 = c .before .word10 in
+    let args = c .before .before .before .before .before .before .before .before .before .before .before .before .args in
+    let if1 = c .before .before .before .before .before .before .before .before .before .before .if1 in
+    let word = c .before .before .before .before .before .before .before .before .before .word in
+    let word2 = c .before .before .before .before .before .before .before .before .word2 in
+    let word3 = c .before .before .before .before .before .before .before .word3 in
+    let word4 = c .before .before .before .before .before .before .word4 in
+    let word5 = c .before .before .before .before .before .word5 in
+    let word6 = c .before .before .before .before .word6 in
+    let long = c .before .before .before .long in
+    let word7 = c .before .before .word7 in
+    let word8 = c .before .word8 in
     let bytes = args .bytes .now in
     let given : Contract = record {
       premium = word .result;
@@ -79,9 +68,9 @@ returns-2 c =
       dates = word4 .result;
       fee = word5 .result;
       penalty = word6 .result;
-      discount = word7 .result + 65536 * word8 .result;
-      step = word9 .result;
-      spare = word10 .result;
+      discount = long .result;
+      step = word7 .result;
+      spare = word8 .result;
     } in
     let same : given ≡ contractOf (termsOf bytes) = λ i. record {
       premium = word .ensures .0 i;
@@ -90,9 +79,9 @@ returns-2 c =
       dates = word4 .ensures .0 i;
       fee = word5 .ensures .0 i;
       penalty = word6 .ensures .0 i;
-      discount = word7 .ensures .0 i + 65536 * word8 .ensures .0 i;
-      step = word9 .ensures .0 i;
-      spare = word10 .ensures .0 i;
+      discount = long .ensures i;
+      step = word7 .ensures .0 i;
+      spare = word8 .ensures .0 i;
     } in
     rw (eq-eqb _ _ (if1 .left)) (c .checked .ensures ∙ ap (λ (x : Contract). readingOf (verdict (termsChecks (termsIn x))) x) same)
 
@@ -108,11 +97,8 @@ read-spec =
     word-requires-4
     word-requires-5
     word-requires-6
+    long-requires
     word-requires-7
     word-requires-8
-    mul-t12
-    add-t13
-    word-requires-9
-    word-requires-10
     checked-requires
     returns-2)
