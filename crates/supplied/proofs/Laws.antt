@@ -281,20 +281,24 @@ module _ {c : Terms} {rs : Returns} {ds : Rates} {v : Verdict} {work table : Lis
   unfolding answer workAfter onSuccess numberOf placeOf
   answered-refused n p r e f = record { answer-is = rw e f; work-is = rw e }
 
-  pub answered-accepted : {work' : List ℕ} (r : declared.Answer) (work'' : List ℕ) → v ≡ accepted → layerSize c + layerSize c ≤ length work
-      → ds 0 ≤ rateMost → First (tableOn c rs ds table 1) c work work' → Settled c rs (ds 0) work' r work''
-      → Answered c rs ds v work table r work''
-  unfolding answer workAfter onSuccess numberOf placeOf
-  answered-accepted r work'' e room small d s =
-      let value : r .value ≡ suppliedValue (fixedTerm c rs ds) table = s .value-is ∙ supplied-value rs ds table d small in record {
-        answer-is = rw e (λ i. record {
-          number = s .number-is i;
-          place = s .place-is i;
-          value = value i;
-          margin = (s .margin-is ∙ ap (λ (x : ℕ). margin x (c .premium)) value) i;
-        });
-        work-is = rw e (s .work-is ∙ supplied-layer rs ds table d room);
-      }
+  pub answered-by : {r : declared.Answer} {work' : List ℕ} → v ≡ accepted → Answered c rs ds accepted work table r work'
+      → Answered c rs ds v work table r work'
+  answered-by {r} {work'} e a = subst (λ (x : Verdict). Answered c rs ds x work table r work') (sym e) a
+
+pub answered-accepted : {c : Terms} {rs : Returns} {ds : Rates} {work table work' : List ℕ} (r : declared.Answer) (work'' : List ℕ)
+    → layerSize c + layerSize c ≤ length work → ds 0 ≤ rateMost → First (tableOn c rs ds table 1) c work work'
+    → Settled c rs (ds 0) work' r work'' → Answered c rs ds accepted work table r work''
+unfolding answer workAfter onSuccess numberOf placeOf
+answered-accepted {c} {rs} {ds} {work} {table} r work'' room small d s =
+    let value : r .value ≡ suppliedValue (fixedTerm c rs ds) table = s .value-is ∙ supplied-value rs ds table d small in record {
+      answer-is = λ i. record {
+        number = s .number-is i;
+        place = s .place-is i;
+        value = value i;
+        margin = (s .margin-is ∙ ap (λ (x : ℕ). margin x (c .premium)) value) i;
+      };
+      work-is = s .work-is ∙ supplied-layer rs ds table d room;
+    }
 
 -- ---- what a call answers, on any input
 module _ (bytes list rates work table : List ℕ) (r : declared.Answer) where

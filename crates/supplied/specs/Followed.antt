@@ -15,6 +15,7 @@ use Rattle.rules.specs.FixedTerm.{rateIn, layerSize, layoutOf, processOf, fixed
 use Rattle.rules.specs.Refusals.{Verdict}
 use Rattle.rules.specs.Operations.{answer, workAfter, tableSize, badEntry, suppliedAnswer, suppliedWork}
 use Rattle.laws.specs.Date.{shared}
+use Rattle.input.specs.Accepted.{Given}
 use Rattle.returns.specs.Sorted.{OrderedInput}
 use Rattle.expect.specs.Expected.{expected}
 use Rattle.keys.specs.declared.Date.{Date}
@@ -65,6 +66,13 @@ pub record Starting (c : Terms) (work table : List ℕ) (rs : Returns) (rates : 
   pub entries : tableSize c ≤ length table
   pub none-bad : tableSize c ≤ first (badEntry c table) (tableSize c)
   pub mature : (w a : ℕ) → w ≤ c .top → a ≤ c .premium → cells work 0 (c .premium + 1) w a ≡ maturityValue w a
+
+-- the checks have passed: slices that are long enough, and no bad entry
+pub record Checked (c : Terms) (list rates work table : List ℕ) : Type 0 where
+  pub given : Given c list rates
+  pub room : layerSize c + layerSize c ≤ length work
+  pub entries : tableSize c ≤ length table
+  pub none-bad : tableSize c ≤ first (badEntry c table) (tableSize c)
 
 -- the answer of a verdict, and the working slice
 pub record Answered (c : Terms) (rs : Returns) (ds : Rates) (v : Verdict) (work table : List ℕ) (r : declared.Answer)

@@ -9,7 +9,7 @@ ghost use Rattle.slices.specs.Rows.{flat};
 ghost use Rattle.rules.specs.Contract.{returnsOf, ratesOf};
 ghost use Rattle.rules.specs.Date.{freeAmount};
 ghost use Rattle.rules.specs.FixedTerm.{layerSize};
-ghost use Rattle.rules.specs.Refusals.{verdict, short};
+ghost use Rattle.rules.specs.Refusals.{accepted, verdict, short};
 ghost use Rattle.rules.specs.Operations.{tableSize, badAt, badEntry, tableChecks};
 ghost use Rattle.laws.specs.Accepted.{Valid};
 ghost use Rattle.contract.specs.Reading.{termsIn};
@@ -18,7 +18,7 @@ ghost use Rattle.keys.specs.Sums.{sums, Sums};
 ghost use Rattle.worth.specs.Worth.{worthOver};
 ghost use Rattle.input.specs.Accepted.{Given};
 ghost use Rattle.valuing.specs.First.{First};
-ghost use Rattle.supplied.specs.Followed.{followedOn, Following, Dating, Back, tableOn, Starting, Answered, Supplying};
+ghost use Rattle.supplied.specs.Followed.{followedOn, Following, Dating, Back, tableOn, Starting, Checked, Answered, Supplying};
 use contract::Contract;
 use contract::Outcome;
 use input::Agreement;
@@ -157,6 +157,21 @@ fn too_short(c: Contract, work: &[u64], table: &[u16]) -> bool
     table.len() < c.table_size()
 }
 
+// The value of a table whose entries are all admissible.
+fn follow(c: Contract, list: &[u8], rates: &[u8], work: &mut [u64], table: &[u16]) -> Answer
+    requires { ⌜ Checked (termsIn c) (now list) (now rates) (now work) (now table) ⌝ }
+    ensures { λ r. ⌜
+        Answered (termsIn c) (returnsOf (now (list .entry))) (ratesOf (now (rates .entry))) accepted (now (work .entry))
+        (now (table .entry)) r (now (work .exit))
+        ⌝ }
+{
+    let mut order = [0u32; 64];
+    let count = returns::sort(&mut order, list);
+    dates::fill_maturity(work, c.premium + 1, c.top + 1);
+    follow_dates(work, table, &order[0..count], rates, c);
+    valuing::settle(work, list, rates, c)
+}
+
 // Values a table under terms, returns and rates that were read.
 fn valued(c: Contract, list: &[u8], rates: &[u8], work: &mut [u64], table: &[u16]) -> Answer
     requires { ⌜ Given (termsIn c) (now list) (now rates) ⌝ }
@@ -179,11 +194,7 @@ fn valued(c: Contract, list: &[u8], rates: &[u8], work: &mut [u64], table: &[u16
             place: bad as u64,
         });
     }
-    let mut order = [0u32; 64];
-    let count = returns::sort(&mut order, list);
-    dates::fill_maturity(work, c.premium + 1, c.top + 1);
-    follow_dates(work, table, &order[0..count], rates, c);
-    valuing::settle(work, list, rates, c)
+    follow(c, list, rates, work, table)
 }
 
 // Values a supplied table: answers number, place, value and margin.

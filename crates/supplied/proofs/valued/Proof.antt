@@ -12,15 +12,11 @@ use Rattle.decision.specs.Index.{first}
 use Rattle.laws.specs.Supplied.{slices-refused, entry-refused, table-accepted}
 use Rattle.laws.specs.Valuing.{lent-room}
 use Rattle.rules.specs.FixedTerm.{layerSize}
-use Rattle.rules.specs.Contract.{returnsOf, ratesOf}
 use Rattle.rules.specs.Refusals.{short}
 use Rattle.rules.specs.Operations.{tableSize, badEntry}
-use Rattle.returns.specs.Sorted.{part-sorted}
-use Rattle.supplied.specs.Followed.{tableOn}
 use Rattle.valuing.specs.Answered.{refusal}
 use Rattle.laws.specs.FixedTerm.{size-most, table-most}
-use Rattle.valuing.specs.First.{First, first-from, settling}
-use Rattle.supplied.proofs.Laws.{answered-refused, answered-accepted, starting, table-on-most, of-the-list}
+use Rattle.supplied.proofs.Laws.{answered-refused, answered-by}
 use Rattle.supplied.proofs.valued.Statement.{statement}
 use Rattle.supplied.proofs.valued.Tie as tie
 
@@ -115,75 +111,20 @@ module _ (c : tie.Else2) where
   unfolding layerSize tableSize
   none = rw (sym (c .before .before .before .before .first-bad .ensures)) (c .if2 .left)
 
-sort-requires : tie.Need-sort-requires
-sort-requires c κs = search needs
-
-add-fill-maturity : tie.Need-add-fill-maturity
-add-fill-maturity c =
-    let c8 = c .before .before .before .before .before .before .before .before in
-    let v = c8 .before .before .before .before .before .before .before .before .pre .valid .terms in
-    omega (arith, v .top, v .premium)
-
-add-fill-maturity-2 : tie.Need-add-fill-maturity-2
-add-fill-maturity-2 c =
-    let c9 = c .before .before .before .before .before .before .before .before .before in
-    let v = c9 .before .before .before .before .before .before .before .before .pre .valid .terms in
-    omega (arith, v .top, v .premium)
-
-fill-maturity-requires : tie.Need-fill-maturity-requires
-unfolding layerSize
-fill-maturity-requires c κs =
-    let held = c .before .before .before .before .before in
-    let v = held .before .before .before .before .before .before .before .before .before .before .before .before .pre .valid .terms in
-    (omega (arith, v .top), omega (arith, v .top, v .premium), omega (arith, room held .0))
-
-sub-follow-dates : tie.Need-sub-follow-dates
-sub-follow-dates c = search needs
-
-part-follow-dates-start : tie.Need-part-follow-dates-start
-part-follow-dates-start c = search needs
-
-part-follow-dates-end : tie.Need-part-follow-dates-end
-part-follow-dates-end c = search needs
-
-follow-dates-requires : tie.Need-follow-dates-requires
-unfolding layerSize
-follow-dates-requires c κs =
-    let held = c .before .before .before .before .before .before .before .before .before .before .before in
-    let sorted = part-sorted (c .before .before .before .before .before .before .before .before .before .sort .ensures) in
-    starting (start held .args .work .now) (start held .pre) sorted (room held .0) (room held .1) (none held)
-    (c .before .before .before .before .before .fill-maturity .ensures)
-
--- the first layer then holds the table's values of date 1
-valued-first : (c : tie.After-follow-dates)
-    → let args = start (c .before .before .before .before .before .before .before .before .before .before .before .before) .args in
-    First (tableOn (termsIn (args .c)) (returnsOf (args .list .now)) (ratesOf (args .rates .now)) (args .table .now) 1) (termsIn (args .c))
-    (args .work .now) (c .follow-dates .last .0)
-unfolding layerSize
-valued-first c =
-    let held = c .before .before .before .before .before .before .before .before .before .before .before .before in
-    let sorted = part-sorted (c .before .before .before .before .before .before .before .before .before .before .sort .ensures) in
-    first-from _ (c .before .before .before .before .before .before .fill-maturity .ensures)
-    (of-the-list _ (start held .args .table .now) (sorted .same) (c .follow-dates .ensures))
-
-settle-requires : tie.Need-settle-requires
-settle-requires c κs =
-    let held = c .before .before .before .before .before .before .before .before .before .before .before .before .before .before .before in
-    let pre = start held .pre in
-    settling pre (room held .0) (valued-first (c .before .before .before))
-    (λ w a. table-on-most _ _ (start held .args .table .now) (pre .valid) (none held) 1 w a (omega arith) (pre .valid .terms .dates-least))
+follow-requires : tie.Need-follow-requires
+follow-requires c κs =
+    let held = c .before in
+    record { given = start held .pre; room = room held .0; entries = room held .1; none-bad = none held }
 
 same-length-3 : tie.Need-same-length-3
 same-length-3 c = search needs
 
 returns-3 : tie.Need-returns-3
 returns-3 c =
-    let c6 = c .before .before .before .before .before .before in
-    let held = c6 .before .before .before .before .before .before .before .before .before .before .before .before in
+    let held = c .before .before .before .before in
     let args = start held .args in
-    let c₀ = termsIn (args .c) in
-    answered-accepted _ _ (table-accepted c₀ (args .work .now) (args .table .now) (long held) (le-ltb _ _ (none held))) (room held .0)
-    (start held .pre .valid .rates .rate 0) (valued-first c6) (c .before .before .settle .ensures)
+    answered-by (table-accepted (termsIn (args .c)) (args .work .now) (args .table .now) (long held) (le-ltb _ _ (none held)))
+    (c .before .before .follow .ensures)
 
 pub valued-spec : {M : Type 1} → statement M
 valued-spec =
@@ -202,14 +143,6 @@ valued-spec =
     refused-requires-2
     same-length-2
     returns-2
-    sort-requires
-    add-fill-maturity
-    add-fill-maturity-2
-    fill-maturity-requires
-    sub-follow-dates
-    part-follow-dates-start
-    part-follow-dates-end
-    follow-dates-requires
-    settle-requires
+    follow-requires
     same-length-3
     returns-3)
