@@ -82,6 +82,7 @@ pub fn run() -> (u64, u64) {
     t.same("random walks with an excess", with_excess >= 30, true);
     text_fields(&mut t);
     text_rates(&mut t);
+    text_as_written(&mut t);
     for _ in 0..50 {
         random_text(&mut t, &mut draw);
     }
@@ -2675,7 +2676,7 @@ fn text_rates(t: &mut Tally) {
             Some(vec![2, 1, 255, 255, 16, 39]),
         ),
         ("rates\n", None),
-        ("rates 1  2\n", None),
+        ("rates 1  2\n", Some(vec![1, 0, 2, 0])),
         ("rates 1 65536\n", None),
         ("rates 1\nrates 2\n", None),
     ] {
@@ -2685,6 +2686,55 @@ fn text_rates(t: &mut Tally) {
     }
     let shown = text::show(&P.record(), &list(&P_RETURNS), &[0; 3]);
     t.same("half a rate shown", shown.is_err(), true);
+}
+
+/// Tabs, spaces, comments and commas as a person writes them; an error names its line.
+fn text_as_written(t: &mut Tally) {
+    let text = include_str!("example-p.txt");
+    let plain = text::pack(text);
+    let tabbed = text.replace(' ', "\t").replace('\n', " \t# words\r\n");
+    t.same("tabs and comments", text::pack(&tabbed), plain.clone());
+    let spaced = text.replace(' ', "   ").replace('\n', "\n\n  # 7\n ");
+    t.same("spaces and blank lines", text::pack(&spaced), plain.clone());
+    let grouped = text
+        .replace("1000000", "1,000,000")
+        .replace("5000", "5,000");
+    t.same("commas", text::pack(&grouped), plain.clone());
+    for wrong in ["2,0", ",020", "1,000,00", "1000,000", "1,00x", "-1", "2.0"] {
+        let packed = text::pack(&text.replace("top 20", &format!("top {wrong}")));
+        let expected = format!("line 3: '{wrong}' is not a figure such as 1000 or 1,000");
+        t.same("no figure", packed, Err(expected));
+    }
+    for (old, new, expected) in [
+        (
+            "top 20",
+            "top 65,536",
+            "line 3: top 65536 does not fit in 2 bytes",
+        ),
+        (
+            "top 20",
+            "top 20 # once\ntop 20",
+            "line 4: top is given twice",
+        ),
+        ("top 20", "ceiling 20", "line 3: no such field: ceiling"),
+        ("top 20", "top # 20", "line 3: not understood: top"),
+        ("top 20", "top 20 30", "line 3: not understood: top 20 30"),
+        (
+            "return 15000 5000",
+            "return 15000",
+            "line 10: a return has a factor and a weight",
+        ),
+        ("rates 0 0", "rates # 0", "line 11: no rate is given"),
+        (
+            "rates 0 0",
+            "rates 0\nrates 0",
+            "line 12: rates are given twice",
+        ),
+        ("top 20", "# top 20", "top is not given"),
+    ] {
+        let packed = text::pack(&text.replace(old, new));
+        t.same(&format!("text with {new:?}"), packed, Err(expected.into()));
+    }
 }
 
 /// Any record, list and rates in words, and back.

@@ -1,12 +1,13 @@
 //! A contract record, a return list and death rates as readable text, both ways.
 //!
-//! One field a line, name and decimal number parted by a single space:
+//! One field a line, its name and a figure:
 //! `premium`, `level`, `top`, `dates`, `fee`, `penalty`, `discount`, `step`, each once,
 //! in any order. Then or between them, in the order of the list, `return FACTOR WEIGHT`,
 //! and at most once `rates R0 R1 ..`, the death rates in the order of the periods; left out
-//! there are none. `spare`, the two spare bytes, is left out where it is zero. Blank lines
-//! and lines that start with `#` are passed over. Only the width of a field is checked here,
-//! so that what the rules refuse can be written too.
+//! there are none. `spare`, the two spare bytes, is left out where it is zero. Words are
+//! parted by spaces and tabs; what follows a `#` is passed over, and so are blank lines. A
+//! figure may be written 1000 or 1,000. Only the width of a field is checked here, so that
+//! what the rules refuse can be written too. An error names its line.
 
 const RECORD_BYTES: usize = 20;
 
@@ -35,9 +36,20 @@ pub fn number(text: &str) -> Result<u64, String> {
     }
 }
 
-/// The bytes of a number, low byte first, when it fits the field's width.
+/// A number as a person writes it: commas, if any, before every third digit from the last.
+fn figure(text: &str) -> Result<u64, String> {
+    let mut groups = text.split(',');
+    let first = groups.next().unwrap_or("").len();
+    let grouped = (1..=3).contains(&first) && groups.all(|group| group.len() == 3);
+    match number(&text.replace(',', "")) {
+        Ok(n) if grouped || !text.contains(',') => Ok(n),
+        _ => Err(format!("'{text}' is not a figure such as 1000 or 1,000")),
+    }
+}
+
+/// The bytes of a figure, low byte first, when it fits the field's width.
 fn field_bytes(name: &str, text: &str, width: usize) -> Result<Vec<u8>, String> {
-    let n = number(text)?;
+    let n = figure(text)?;
     let bytes = n.to_le_bytes();
     if bytes[width..].iter().any(|b| *b != 0) {
         return Err(format!("{name} {n} does not fit in {width} bytes"));
@@ -45,48 +57,67 @@ fn field_bytes(name: &str, text: &str, width: usize) -> Result<Vec<u8>, String> 
     Ok(bytes[..width].to_vec())
 }
 
-/// Record, list and rates from text.
-pub fn pack(text: &str) -> Result<[Vec<u8>; 3], String> {
-    let mut record = vec![0; RECORD_BYTES];
-    let mut given = [false; FIELDS.len()];
-    let mut list = Vec::new();
-    let mut rates = Vec::new();
-    for line in text.lines() {
-        if line.is_empty() || line.starts_with('#') {
-            continue;
-        }
-        let words: Vec<&str> = line.split(' ').collect();
-        if let ["return", factor, weight] = words[..] {
-            list.extend(field_bytes("factor", factor, 2)?);
-            list.extend(field_bytes("weight", weight, 2)?);
-            continue;
-        }
-        if let ["rates", _, ..] = words[..] {
-            if !rates.is_empty() {
-                return Err("rates are given twice".to_string());
-            }
-            for rate in &words[1..] {
-                rates.extend(field_bytes("rate", rate, 2)?);
-            }
-            continue;
-        }
-        let [word, value] = words[..] else {
-            return Err(format!("line not understood: {line}"));
-        };
-        let Some(place) = FIELDS.iter().position(|(name, _, _)| *name == word) else {
-            return Err(format!("no such field: {word}"));
-        };
-        if given[place] {
+/// What the lines so far say.
+struct Packing {
+    record: Vec<u8>,
+    given: [bool; FIELDS.len()],
+    list: Vec<u8>,
+    rates: Vec<u8>,
+}
+
+impl Packing {
+    fn field(&mut self, word: &str, value: &str) -> Result<(), String> {
+        let place = FIELDS.iter().position(|(name, _, _)| *name == word);
+        let place = place.ok_or_else(|| format!("no such field: {word}"))?;
+        if self.given[place] {
             return Err(format!("{word} is given twice"));
         }
-        given[place] = true;
+        self.given[place] = true;
         let (name, offset, width) = FIELDS[place];
-        record[offset..offset + width].copy_from_slice(&field_bytes(name, value, width)?);
+        self.record[offset..offset + width].copy_from_slice(&field_bytes(name, value, width)?);
+        Ok(())
     }
-    let mut fields = FIELDS.iter().zip(given);
+
+    fn line(&mut self, line: &str) -> Result<(), String> {
+        let said = line.split('#').next().unwrap_or("");
+        let words: Vec<&str> = said.split_ascii_whitespace().collect();
+        match words[..] {
+            [] => {}
+            ["return", factor, weight] => {
+                self.list.extend(field_bytes("factor", factor, 2)?);
+                self.list.extend(field_bytes("weight", weight, 2)?);
+            }
+            ["rates", _, ..] if self.rates.is_empty() => {
+                for rate in &words[1..] {
+                    self.rates.extend(field_bytes("rate", rate, 2)?);
+                }
+            }
+            ["rates", _, ..] => return Err("rates are given twice".to_string()),
+            ["return", ..] => return Err("a return has a factor and a weight".to_string()),
+            ["rates"] => return Err("no rate is given".to_string()),
+            [word, value] => self.field(word, value)?,
+            _ => return Err(format!("not understood: {}", said.trim())),
+        }
+        Ok(())
+    }
+}
+
+/// Record, list and rates from text.
+pub fn pack(text: &str) -> Result<[Vec<u8>; 3], String> {
+    let mut packing = Packing {
+        record: vec![0; RECORD_BYTES],
+        given: [false; FIELDS.len()],
+        list: Vec::new(),
+        rates: Vec::new(),
+    };
+    for (i, line) in text.lines().enumerate() {
+        let read = packing.line(line);
+        read.map_err(|reason| format!("line {}: {reason}", i + 1))?;
+    }
+    let mut fields = FIELDS.iter().zip(packing.given);
     match fields.find(|((name, _, _), given)| !given && *name != SPARE) {
         Some(((name, _, _), _)) => Err(format!("{name} is not given")),
-        None => Ok([record, list, rates]),
+        None => Ok([packing.record, packing.list, packing.rates]),
     }
 }
 
