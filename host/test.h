@@ -101,18 +101,35 @@ static inline void same_signed(const char *name, int64_t got, int64_t expected)
                 situation, name, got, expected);
 }
 
-/* The rounds to make: the program's argument, or the usual number. */
-static inline uint64_t rounds_from(int argc, char **argv, uint64_t usual)
+/*
+ * The random rounds to make: a number, or with `least`, for valgrind, as few as meet every case: one
+ * of a kind that has a single case, since the cases before them meet each refusal.
+ */
+struct rounds {
+    uint64_t most;
+    bool least, usual;
+};
+
+/* By the program's argument; without one the usual number. */
+static inline struct rounds rounds_from(int argc, char **argv, uint64_t usual)
 {
     if (argc < 2)
-        return usual;
+        return (struct rounds){usual, false, true};
+    if (argc == 2 && strcmp(argv[1], "least") == 0)
+        return (struct rounds){1, true, false};
     char *end;
     unsigned long long rounds = strtoull(argv[1], &end, 10);
     if (argc > 2 || argv[1][0] < '0' || argv[1][0] > '9' || *end != '\0') {
-        fprintf(stderr, "usage: %s [ROUNDS]\n", argv[0]);
+        fprintf(stderr, "usage: %s [ROUNDS | least]\n", argv[0]);
         exit(2);
     }
-    return rounds;
+    return (struct rounds){rounds, false, rounds >= usual};
+}
+
+/* One in n rounds, of a kind that has so many cases. */
+static inline uint64_t one_in_rounds(struct rounds r, uint64_t n, uint64_t cases)
+{
+    return r.least ? cases : r.most / n;
 }
 
 /* Prints the last line; gives the exit status. */
@@ -130,10 +147,15 @@ static inline void tally(uint64_t *came, uint32_t number)
     came[number < NUMBERS ? number : 0]++;
 }
 
-/* Random rounds show little where a call always answers the same: each number must have come. */
-static inline void all_came(const uint64_t *came, const uint32_t *numbers, size_t count)
+/*
+ * Random rounds show little where a call always answers the same: each number must have come in
+ * them, or, where they are the least, in the whole run.
+ */
+static inline void all_came(struct rounds r, const uint64_t *in_rounds, const uint64_t *in_all,
+                            const uint32_t *numbers, size_t count)
 {
-    for (size_t i = 0; i < count; i++) {
+    const uint64_t *came = r.least ? in_all : in_rounds;
+    for (size_t i = 0; (r.usual || r.least) && i < count; i++) {
         about("random rounds");
         if (fails(came[numbers[i]] > 0))
             fprintf(stderr, "failed: random rounds: number %" PRIu32 " never came\n", numbers[i]);

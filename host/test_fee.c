@@ -98,6 +98,7 @@ static uint32_t search(const struct valuing *v, uint64_t wanted, struct told *to
     snprintf(situation + end, sizeof situation - end, ", wanted %" PRIu64, wanted);
     uint32_t number = made(gmwb_fee, v, wanted, &t, l);
     uint32_t expected = made(second_fee, v, wanted, &s, m);
+    tally(met, number);
     same("number against the second program", number, expected);
     same_told(t, s);
     same_slice("working slice against the second program", l, m, sizeof(uint64_t));
@@ -380,25 +381,23 @@ static void random_search(uint64_t round, uint64_t *came)
 
 int main(int argc, char **argv)
 {
-    uint64_t rounds = rounds_from(argc, argv, USUAL_ROUNDS);
-    bool usual = rounds >= USUAL_ROUNDS;
+    struct rounds rounds = rounds_from(argc, argv, USUAL_ROUNDS);
     figures();
     ends_of_wanted();
     around_values();
-    if (usual)
+    if (rounds.usual)
         highest_fee();
     figures_by_parts();
-    for (uint64_t round = 0; round < rounds / 20; round++)
+    for (uint64_t round = 0; round < one_in_rounds(rounds, 20, ORDERS); round++)
         in_lists(round);
     work_lengths();
     last_check();
     no_slices();
     shared_refusals();
     uint64_t came[NUMBERS] = {0};
-    for (uint64_t round = 0; round < rounds / 4; round++)
-        random_search(round, came);
     static const uint32_t numbers[] = {0, 1, 2, 3, 4, 5, 6, 7, 8, 9, 10, 11, 15, 17, 18, 19};
-    if (usual)
-        all_came(came, numbers, COUNT(numbers));
+    for (uint64_t round = 0; round < one_in_rounds(rounds, 4, 1); round++)
+        random_search(round, came);
+    all_came(rounds, came, met, numbers, COUNT(numbers));
     return verdict("fee");
 }

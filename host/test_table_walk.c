@@ -37,6 +37,9 @@ static struct followed exact(struct input in, const uint16_t *table, const uint1
     return f;
 }
 
+/* What the calls of this run answered, of either kind. */
+static uint64_t met[NUMBERS], met_by_walk[NUMBERS];
+
 /* Makes the call on both programs. Gives the number; told and work are the engine's. */
 static uint32_t value_table(const struct followed *f, struct told *told, struct lent *work)
 {
@@ -53,6 +56,7 @@ static uint32_t value_table(const struct followed *f, struct told *told, struct 
                            start(rates), f->in.rates_len, start(x), f->work_len,
                            start(table), f->table_len, &s.place, &s.value, &s.margin);
     same("value_table: number against the second program", number, expected);
+    tally(met, number);
     same_told(t, s);
     same_slice("value_table: working slice against the second program", w, x, sizeof(uint64_t));
     if (number != 0) {
@@ -84,6 +88,7 @@ static uint32_t walk(const struct followed *f, uint64_t *place, struct lent *cas
         second_walk(start(record), f->in.record_len, start(list), f->in.list_len, start(table),
                     f->table_len, start(path), f->path_len, start(d), f->cash_len, &s.place);
     same("walk: number against the second program", number, expected);
+    tally(met_by_walk, number);
     same_told(t, s);
     same_slice("walk: cash against the second program", c, d, sizeof(uint64_t));
     if (number != 0)
@@ -991,25 +996,24 @@ static void random_round(uint64_t round, uint64_t *tables, uint64_t *walks)
     take_back(cash);
 }
 
-static void random_rounds(uint64_t rounds)
+static void random_rounds(struct rounds rounds)
 {
     uint64_t tables[NUMBERS] = {0}, walks[NUMBERS] = {0};
-    for (uint64_t round = 0; round < rounds; round++)
-        random_round(round, tables, walks);
-    for (uint64_t round = 0; round < rounds / 20; round++)
-        every_path_at_random(round);
     static const uint32_t by_table[] = {0, 1, 2, 3, 4, 5, 6, 7, 8, 9, 11, 14, 15, 17, 18};
     static const uint32_t by_walk[] = {0, 1, 2, 3, 4, 5, 6, 7, 8, 9, 11, 13, 14, 15};
-    if (rounds >= 2000) {
-        all_came(tables, by_table, COUNT(by_table));
-        all_came(walks, by_walk, COUNT(by_walk));
+    for (uint64_t round = 0; round < one_in_rounds(rounds, 1, 1); round++)
+        random_round(round, tables, walks);
+    for (uint64_t round = 0; round < one_in_rounds(rounds, 20, 1); round++)
+        every_path_at_random(round);
+    all_came(rounds, tables, met, by_table, COUNT(by_table));
+    all_came(rounds, walks, met_by_walk, by_walk, COUNT(by_walk));
+    if (rounds.usual)
         holds("walks with an excess", with_excess > 200);
-    }
 }
 
 int main(int argc, char **argv)
 {
-    uint64_t rounds = rounds_from(argc, argv, 2000);
+    struct rounds rounds = rounds_from(argc, argv, 2000);
     bad_entries();
     bad_entry_beyond();
     slice_lengths();

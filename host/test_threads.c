@@ -100,6 +100,9 @@ static const struct {
 
 enum { KINDS = COUNT(CALLS) };
 
+/* Each kind of call in each of the four ways of a round. */
+enum { LEAST_ROUNDS = 4 * KINDS };
+
 /* The slices of a call, before it is made. */
 static struct answer lent_to(size_t kind, const struct given *g)
 {
@@ -309,11 +312,11 @@ static void compare(const struct worker *workers, bool often)
 
 int main(int argc, char **argv)
 {
-    uint64_t rounds = rounds_from(argc, argv, USUAL_ROUNDS);
+    struct rounds rounds = rounds_from(argc, argv, USUAL_ROUNDS);
     struct worker workers[THREADS] = {0};
     prepare();
-    run(workers, rounds);
-    compare(workers, rounds >= USUAL_ROUNDS);
+    run(workers, rounds.least ? LEAST_ROUNDS : rounds.most);
+    compare(workers, rounds.usual);
     for (size_t k = 0; k < CONTRACTS; k++) {
         for (size_t kind = 0; kind < KINDS; kind++)
             take_back_answer(expected[k][kind]);

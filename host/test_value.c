@@ -13,6 +13,7 @@ static uint32_t value(const struct valuing *v, struct told *told, struct left *l
     struct told t = untold(), s = untold();
     uint32_t number = value_by(gmwb_value, v, &t, l);
     uint32_t expected = value_by(second_value, v, &s, m);
+    tally(met, number);
     same("number against the second program", number, expected);
     same_told(t, s);
     same_left(l, m);
@@ -436,7 +437,7 @@ static void no_rates(void)
 
 int main(int argc, char **argv)
 {
-    uint64_t rounds = rounds_from(argc, argv, 2000);
+    struct rounds rounds = rounds_from(argc, argv, 2000);
     marked_values();
     marked_states();
     falling_rates();
@@ -451,10 +452,10 @@ int main(int argc, char **argv)
     largest_payouts(250);
     death_values();
     living_states();
-    for (uint64_t round = 0; round < rounds / 10; round++)
+    for (uint64_t round = 0; round < one_in_rounds(rounds, 10, 1); round++)
         certain_death(round);
     p_by_parts();
-    for (uint64_t round = 0; round < rounds / 20; round++)
+    for (uint64_t round = 0; round < one_in_rounds(rounds, 20, ORDERS); round++)
         in_lists(round);
     no_rates();
     shared_tests(rounds);

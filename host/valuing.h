@@ -22,6 +22,9 @@ struct left {
     struct lent work, table;
 };
 
+/* What the calls of this run answered. */
+static uint64_t met[NUMBERS];
+
 /* Makes the call on both programs. Gives the number; told and left are the engine's. */
 static uint32_t value(const struct valuing *v, struct told *told, struct left *left);
 
@@ -239,18 +242,17 @@ static inline void shared_refusals(void)
     behaviours();
 }
 
-static inline void shared_tests(uint64_t rounds)
+static inline void shared_tests(struct rounds rounds)
 {
     shared_refusals();
     slice_lengths();
     uint64_t came[NUMBERS] = {0};
-    for (uint64_t round = 0; round < rounds; round++)
-        random_round(round, came);
-    for (uint64_t round = 0; round < rounds / 500; round++)
-        larger_contract(round, came);
     static const uint32_t numbers[] = {0, 1, 2, 3, 4, 5, 6, 7, 8, 9, 10, 11, 15, 17, 18};
-    if (rounds >= 2000)
-        all_came(came, numbers, COUNT(numbers));
+    for (uint64_t round = 0; round < one_in_rounds(rounds, 1, 1); round++)
+        random_round(round, came);
+    for (uint64_t round = 0; round < one_in_rounds(rounds, 500, 1); round++)
+        larger_contract(round, came);
+    all_came(rounds, came, met, numbers, COUNT(numbers));
 }
 
 #endif
