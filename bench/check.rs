@@ -6,7 +6,7 @@
 //! or equal factors joined; each program has to leave what it left with the first list.
 
 use crate::inputs::{Input, Return, Terms, DYNAMIC, SPARE};
-use crate::programs::{Program, ENGINE, ENGINE_ALONE, ENGINE_FEE, ENGINE_MAP};
+use crate::programs::{Program, ENGINE, ENGINE_NO_TABLE, ENGINE_FEE, ENGINE_MAP};
 use crate::programs::{PLAIN, PLAIN_FEE, PLAIN_MAP, TUNED, TUNED_FEE, TUNED_MAP};
 
 const CONTRACTS: u64 = 600;
@@ -166,7 +166,7 @@ fn large_values(rate: u16, behaviour: u64) -> Input {
 
 /// The plain program, then the others, without a map and with one.
 const ALIKE: [[Program; 3]; 2] = [[PLAIN, TUNED, ENGINE], [PLAIN_MAP, TUNED_MAP, ENGINE_MAP]];
-const WITHOUT_TABLE: [Program; 2] = [PLAIN, ENGINE_ALONE];
+const WITHOUT_TABLE: [Program; 2] = [PLAIN, ENGINE_NO_TABLE];
 const SEARCHING: [Program; 3] = [PLAIN_FEE, TUNED_FEE, ENGINE_FEE];
 
 /// The ends of 64 bits, of them as a signed number, and around the value at some fee.
@@ -310,8 +310,8 @@ pub fn run() -> bool {
             for programs in ALIKE {
                 counts.by_list.compare_lists(&name, lists, &programs);
             }
-            let alone = [ENGINE_ALONE];
-            counts.by_list.compare_lists(&name, lists, &alone);
+            let no_table = [ENGINE_NO_TABLE];
+            counts.by_list.compare_lists(&name, lists, &no_table);
             let [one, two] = lists.map(|input| Input {
                 wanted: wanted[2],
                 ..input.clone()

@@ -11,7 +11,7 @@ mod programs;
 mod tuned;
 
 use inputs::{size, Input, Size, DYNAMIC, MIXED, STATIC};
-use programs::{Outcome, Program, ENGINE, ENGINE_ALONE, ENGINE_FEE, ENGINE_MAP};
+use programs::{Outcome, Program, ENGINE, ENGINE_NO_TABLE, ENGINE_FEE, ENGINE_MAP};
 use programs::{PLAIN, TUNED, TUNED_FEE, TUNED_MAP};
 use std::process::ExitCode;
 use std::thread;
@@ -431,9 +431,9 @@ fn time_fees() -> bool {
             (ENGINE_FEE, &input),
             (TUNED_FEE, &input),
             (ENGINE, &tried[2]),
-            (ENGINE_ALONE, &tried[0]),
-            (ENGINE_ALONE, &tried[1]),
-            (ENGINE_ALONE, &tried[2]),
+            (ENGINE_NO_TABLE, &tried[0]),
+            (ENGINE_NO_TABLE, &tried[1]),
+            (ENGINE_NO_TABLE, &tried[2]),
         ];
         let (timings, equal) = run_in_turn(&pairs);
         right &= equal && is_value_found(&timings[0], &timings[2]);

@@ -10,7 +10,7 @@ use std::time::Instant;
 enum Call {
     Value(fn(&[u8], &[u8], &[u8], u64, &mut [u64], &mut [u16]) -> Valued),
     ValueMap(fn(&[u8], &[u8], &[u8], u64, &mut [u64], &mut [u16], &mut [u64]) -> Mapped),
-    ValueAlone(fn(&[u8], &[u8], &[u8], u64, &mut [u64]) -> Told),
+    ValueNoTable(fn(&[u8], &[u8], &[u8], u64, &mut [u64]) -> Told),
     Fee(fn(&[u8], &[u8], &[u8], u64, u64, &mut [u64]) -> Found),
 }
 
@@ -29,9 +29,9 @@ pub const ENGINE_MAP: Program = Program {
     name: "engine with a map",
     call: Call::ValueMap(engine_map),
 };
-pub const ENGINE_ALONE: Program = Program {
+pub const ENGINE_NO_TABLE: Program = Program {
     name: "engine without a table",
-    call: Call::ValueAlone(engine_alone),
+    call: Call::ValueNoTable(engine_no_table),
 };
 pub const ENGINE_FEE: Program = Program {
     name: "engine's search",
@@ -116,8 +116,8 @@ extern "C" {
         value: *mut u64,
         margin: *mut i64,
     ) -> u32;
-    /// Of the crate gmwbalone, for this benchmark alone.
-    fn gmwb_value_alone(
+    /// Of the crate gmwbbench, for this benchmark alone.
+    fn gmwb_value_no_table(
         record: *const u8,
         record_len: usize,
         list: *const u8,
@@ -249,7 +249,7 @@ fn engine_fee(
     Found { valued, fee }
 }
 
-fn engine_alone(
+fn engine_no_table(
     record: &[u8],
     list: &[u8],
     rates: &[u8],
@@ -257,9 +257,9 @@ fn engine_alone(
     work: &mut [u64],
 ) -> Told {
     let mut value = u64::MAX;
-    // SAFETY: the declaration is that of crates/gmwbalone; otherwise as in `engine`.
+    // SAFETY: the declaration is that of crates/gmwbbench; otherwise as in `engine`.
     let number = unsafe {
-        gmwb_value_alone(
+        gmwb_value_no_table(
             record.as_ptr(),
             record.len(),
             list.as_ptr(),
@@ -345,7 +345,7 @@ impl Program {
                     ..m.valued.into()
                 }
             }
-            Call::ValueAlone(call) => call(record, list, rates, behaviour, &mut work),
+            Call::ValueNoTable(call) => call(record, list, rates, behaviour, &mut work),
             Call::Fee(call) => {
                 let found = call(record, list, rates, behaviour, input.wanted, &mut work);
                 Told {

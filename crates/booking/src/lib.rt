@@ -8,10 +8,10 @@ ghost use lib.Seq.{sets};
 ghost use mathlib.Core.List.{_++_};
 ghost use Rattle.rules.specs.Contract.{bytesOf};
 ghost use Rattle.rules.specs.Refusals.{outside, verdict, numberOf};
-ghost use Rattle.rules.specs.Operations.{amountChecks, bookingVerdict, bookingBytes, bookingBuffer};
 ghost use Rattle.laws.specs.Accepted.{Valid};
 ghost use Rattle.contract.specs.Reading.{termsIn, outcomeOf};
 ghost use Rattle.booking.specs.Booked.{Booked};
+ghost use Rattle.rules.specs.Booking.{amountChecks, bookingChecks, bookingBytes, bookingBuffer};
 use contract::Contract;
 use contract::Outcome;
 use contract::Reading;
@@ -108,7 +108,7 @@ fn booked(c: Contract, date: usize, w: usize, a: usize, t: usize, buffer: &mut [
 
 // Books t at account w and guarantee a.
 pub fn book(bytes: &[u8], date: usize, w: usize, a: usize, t: usize, buffer: &mut [u8]) -> Outcome
-    ensures { λ r. ⌜ r ≡ outcomeOf (bookingVerdict (now (bytes .entry)) date w a t (now (buffer .entry))) ⌝ }
+    ensures { λ r. ⌜ r ≡ outcomeOf (verdict (bookingChecks (now (bytes .entry)) date w a t (now (buffer .entry)))) ⌝ }
     ensures { λ _. ⌜ now (buffer .exit) ≡ bookingBuffer (now (bytes .entry)) date w a t (now (buffer .entry)) ⌝ }
 {
     let reading = Contract::read(bytes);

@@ -1,6 +1,6 @@
 -- What an accepted record shows of the bytes. Assumes nothing.
 use mathlib.Core.List.{List}
-use mathlib.Core.Path.{_≡_, refl, ap, sym, _∙_, subst}
+use mathlib.Core.Path.{_≡_, refl, ap₂, sym, _∙_, subst}
 use Prim.Native.Nat.{ℕ}
 use native.Mathlib.Omega.{arith}
 use Rattle.rules.specs.Contract.{termsOf}
@@ -8,8 +8,25 @@ use Rattle.rules.specs.Refusals.{Verdict, accepted, refused, verdict, recordChe
 use Rattle.laws.specs.Accepted.{Valid, all-pass, valid-record}
 use Rattle.contract.specs.declared.Contract.{Contract}
 use Rattle.contract.specs.declared.Outcome.{Outcome}
-use Rattle.contract.specs.declared.Reading.the-variants as reading
-use Rattle.contract.specs.Reading.{contractOf, termsIn, readingOf, readingVerdict, recordRead}
+use Rattle.contract.specs.Reading.{termsIn, taken, turned, takenBy, recordRead}
+
+-- ---- what was taken, and what was turned away, by any verdict
+module _ {A : Type 0} (v : Verdict) (x : A) where
+  pub taken-accepts : {y : A} → takenBy v x ≡ taken y → (v ≡ accepted) × (x ≡ y)
+  unfolding takenBy
+  taken-accepts {y} e = go v refl e
+    where
+      go : (u : Verdict) → v ≡ u → takenBy u x ≡ taken y → (v ≡ accepted) × (x ≡ y)
+      go accepted a f = let same : x ≡ y = cc in (a, same)
+      go (refused n p) a f = let z : _≡_ {A = ℕ} 0 1 = cc in absurd (omega arith)
+
+  pub turned-refused : {n p : ℕ} → takenBy v x ≡ turned n p → v ≡ refused n p
+  unfolding takenBy
+  turned-refused {n} {p} e = go v refl e
+    where
+      go : (u : Verdict) → v ≡ u → takenBy u x ≡ turned n p → v ≡ refused n p
+      go accepted a f = let z : _≡_ {A = ℕ} 0 1 = cc in absurd (omega arith)
+      go (refused m q) a f = let number : m ≡ n = cc in let place : q ≡ p = cc in a ∙ ap₂ refused number place
 
 -- the terms c were read from the bytes
 pub record Read (bytes : List ℕ) (c : Contract) : Type 0 where
@@ -17,26 +34,13 @@ pub record Read (bytes : List ℕ) (c : Contract) : Type 0 where
   pub terms : termsIn c ≡ termsOf bytes
   pub valid : Valid (termsIn c)
 
--- the case of a reading is the verdict's
-pub reading-verdict : (bytes : List ℕ) → readingVerdict (recordRead bytes) ≡ verdict (recordChecks bytes)
+pub read-accepted : (bytes : List ℕ) (c : Contract) → recordRead bytes ≡ taken (termsIn c) → Read bytes c
 unfolding recordRead
-reading-verdict bytes = go (verdict (recordChecks bytes))
-  where
-    go : (v : Verdict) → readingVerdict (readingOf v (contractOf (termsOf bytes))) ≡ v
-    go accepted = refl
-    go (refused n p) = refl
+read-accepted bytes c e =
+    let both = taken-accepts (verdict (recordChecks bytes)) (termsOf bytes) e in
+    record { accepts = both .0; terms = sym (both .1); valid = subst Valid (both .1) (valid-record bytes (all-pass _ (both .0))) }
 
-pub read-accepted : (bytes : List ℕ) (c : Contract) → recordRead bytes ≡ reading.Accepted c → Read bytes c
-unfolding recordRead
-read-accepted bytes c e = go (verdict (recordChecks bytes)) refl e
-  where
-    go : (v : Verdict) → verdict (recordChecks bytes) ≡ v → readingOf v (contractOf (termsOf bytes)) ≡ reading.Accepted c → Read bytes c
-    go accepted a x =
-        let same : contractOf (termsOf bytes) ≡ c = cc in
-        let terms : termsIn c ≡ termsOf bytes = ap termsIn (sym same) in
-        record { accepts = a; terms = terms; valid = subst Valid (sym terms) (valid-record bytes (all-pass _ a)) }
-    go (refused n p) a x = let z : _≡_ {A = ℕ} 0 1 = cc in absurd (omega arith)
-
-pub read-refused : (bytes : List ℕ) (o : Outcome) → recordRead bytes ≡ reading.Refused o
+pub read-refused : (bytes : List ℕ) (o : Outcome) → recordRead bytes ≡ turned (o .number) (o .place)
     → verdict (recordChecks bytes) ≡ refused (o .number) (o .place)
-read-refused bytes o e = sym (reading-verdict bytes) ∙ ap readingVerdict e
+unfolding recordRead
+read-refused bytes o e = turned-refused (verdict (recordChecks bytes)) (termsOf bytes) e

@@ -38,23 +38,29 @@ termsIn c = record {
 abbrev pub outcomeAt : ℕ → ℕ → Outcome
 outcomeAt number place = record { number = number; place = place }
 
-abbrev pub refusedReading : ℕ → ℕ → Reading
-refusedReading n p = reading.Refused (outcomeAt n p)
-
--- the case of each verdict
-abbrev pub readingOf : Verdict → Contract → Reading
-readingOf accepted c = reading.Accepted c
-readingOf (refused n p) c = refusedReading n p
-
--- the number and place of each case
-abbrev pub readingVerdict : Reading → Verdict
-readingVerdict (reading.Accepted c) = accepted
-readingVerdict (reading.Refused r) = refused (r .number) (r .place)
-
--- reading any bytes as a record
-unfoldable pub recordRead : List ℕ → Reading
-recordRead bytes = readingOf (verdict (recordChecks bytes)) (contractOf (termsOf bytes))
-
 -- "Success gives number 0, place 0. A refusal gives its number and place"
 abbrev pub outcomeOf : Verdict → Outcome
 outcomeOf v = outcomeAt (numberOf v) (placeOf v)
+
+-- what is told of something read: it, or the refusal's number and place
+pub data Taken (A : Type 0) : Type 0 where
+  taken : A → Taken A
+  turned : ℕ → ℕ → Taken A
+
+unfoldable pub takenBy : {A : Type 0} → Verdict → A → Taken A
+takenBy accepted x = taken x
+takenBy (refused n p) x = turned n p
+
+-- its number and place
+abbrev pub outcomeIn : {A : Type 0} → Taken A → Outcome
+outcomeIn (taken x) = outcomeAt 0 0
+outcomeIn (turned n p) = outcomeAt n p
+
+-- EACH CASE OF A READING: the terms, or the refusal's number and place
+abbrev pub readingTells : Reading → Taken Terms
+readingTells (reading.Accepted c) = taken (termsIn c)
+readingTells (reading.Refused o) = turned (o .number) (o .place)
+
+-- reading any bytes as a record
+unfoldable pub recordRead : List ℕ → Taken Terms
+recordRead bytes = takenBy (verdict (recordChecks bytes)) (termsOf bytes)

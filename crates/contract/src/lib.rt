@@ -7,10 +7,10 @@ ghost use lib.ListN.{length};
 ghost use Rattle.rules.specs.Contract.{word, long, topMost, rateMost};
 ghost use Rattle.rules.specs.Refusals.{outside, verdict, termsChecks};
 ghost use Rattle.rules.specs.FixedTerm.{layerSize};
-ghost use Rattle.rules.specs.Operations.{tableSize};
 ghost use Rattle.laws.specs.Accepted.{Valid};
 ghost use Rattle.laws.specs.FixedTerm.{layerMost, tableMost};
-ghost use Rattle.contract.specs.Reading.{readingOf, readingVerdict, outcomeOf, refusedReading, termsIn, recordRead};
+ghost use Rattle.contract.specs.Reading.{turned, takenBy, readingTells, outcomeIn, termsIn, recordRead};
+ghost use Rattle.laws.specs.Terms.{tableSize};
 
 // A number and its place: 0 and 0 for success.
 pub struct Outcome {
@@ -39,7 +39,7 @@ pub enum Reading {
 impl Reading {
     // The number and place of each case.
     pub fn outcome(self) -> Outcome
-        ensures { λ r. ⌜ r ≡ outcomeOf (readingVerdict self) ⌝ }
+        ensures { λ r. ⌜ r ≡ outcomeIn (readingTells self) ⌝ }
     {
         let reading = self;
         match reading {
@@ -100,7 +100,7 @@ fn bad_step(step: usize, spare: usize) -> bool
 }
 
 fn refused(number: u32) -> Reading
-    ensures { λ r. ⌜ r ≡ refusedReading number 0 ⌝ }
+    ensures { λ r. ⌜ readingTells r ≡ turned number 0 ⌝ }
 {
     Reading::Refused(Outcome { number, place: 0 })
 }
@@ -130,7 +130,7 @@ impl Contract {
 
     // The terms if every one is in range: the conditions, then the refusals in their order.
     fn checked(self) -> Reading
-        ensures { λ r. ⌜ r ≡ readingOf (verdict (termsChecks (termsIn self))) self ⌝ }
+        ensures { λ r. ⌜ readingTells r ≡ takenBy (verdict (termsChecks (termsIn self))) (termsIn self) ⌝ }
     {
         let c = self;
         let premium_fails = bad_premium(c.top, c.premium);
@@ -162,7 +162,7 @@ impl Contract {
 
     // A record's bytes as terms in range.
     pub fn read(bytes: &[u8]) -> Reading
-        ensures { λ r. ⌜ r ≡ recordRead (now (bytes .entry)) ⌝ }
+        ensures { λ r. ⌜ readingTells r ≡ recordRead (now (bytes .entry)) ⌝ }
     {
         if bytes.len() != Self::BYTES {
             return refused(1);

@@ -13,8 +13,8 @@ use Rattle.laws.specs.Accepted.{ValidInput}
 use Rattle.laws.specs.Date.{share-excess, shared}
 use Rattle.laws.specs.ByList.{mean-by-account-same}
 use Rattle.laws.specs.Bounds.{stateMost, state-value-le}
-use Rattle.rules.specs.FixedTerm.{State, freeIn, admissibleIn, limitIn, rateIn, cashIn, afterIn, valueWith, meanOver}
-use Rattle.rules.specs.FixedTerm.{processOf, layerSize, fixedTerm}
+use Rattle.rules.specs.FixedTerm.{State, freeIn, admissibleIn, rateIn, cashIn, afterIn, valueWith, heldByAccount, processOf, layerSize}
+use Rattle.rules.specs.FixedTerm.{fixedTerm}
 use Rattle.returns.specs.Sorted.{OrderedInput}
 use Rattle.expect.specs.Expected.{expected}
 use Rattle.worth.specs.Worth.{worthOver, bestValue, bestAmount, value-same, amount-same}
@@ -28,18 +28,18 @@ valuesOn c rs ds b i w a = stateValue (fixedTerm c rs ds) b i (at w a)
 
 -- the discounted sum of the rules, over values v of the next date
 abbrev pub expectedOn : Terms → Returns → Rates → ℕ → (State → ℕ) → ℕ → ℕ → ℕ
-expectedOn c rs ds i v balance a = meanOver c rs ds i (record { balance = balance; guarantee = a }) v
+expectedOn c rs ds i v balance a = heldByAccount c rs ds i (record { balance = balance; guarantee = a }) v
 
 -- SHARED ONCE: the share of a value that is reached is the excess and the share of the state's value, so the sum is one over states
 -- that were shared before
 pub shared-expects : (c : Terms) (rs : Returns) (ds : Rates) (i : ℕ) (v : State → ℕ) (balance a : ℕ) → ds i ≤ rateMost
     → expectedOn c rs ds i v balance a ≡ expected c rs (shared (ds i) (λ (x y : ℕ). v (at x y))) balance a
-unfolding meanOver valueWith expected
+unfolding heldByAccount valueWith expected
 shared-expects c rs ds i v balance a small = mean-by-account-same c rs balance (λ w over l. share-excess (ds i) w a over (v (at w a)) small)
 
 pub value-back : (c : Terms) (rs : Returns) (ds : Rates) (b : Behaviour) (i w a : ℕ) → ds i ≤ rateMost → i < c .dates
     → bestValue b (expected c rs (shared (ds i) (valuesOn c rs ds b (suc i)))) (rateIn c i) (c .level) w a ≡ valuesOn c rs ds b i w a
-unfolding stateValue fixedTerm processOf admissibleIn limitIn freeIn cashIn afterIn worth bestValue worthOver
+unfolding stateValue fixedTerm processOf admissibleIn freeIn cashIn afterIn worth bestValue worthOver
 value-back c rs ds b i w a small l =
     value-same b _ (expectedOn c rs ds i (stateValue (fixedTerm c rs ds) b (suc i))) (rateIn c i) (c .level) w a (λ x y p q.
     sym (shared-expects c rs ds i _ x y small))
@@ -48,7 +48,7 @@ value-back c rs ds b i w a small l =
 pub amount-back : (c : Terms) (rs : Returns) (ds : Rates) (b : Behaviour) (i w a : ℕ) → ds i ≤ rateMost
     → bestAmount b (expected c rs (shared (ds i) (valuesOn c rs ds b (suc i)))) (rateIn c i) (c .level) w a
     ≡ recordedAmount (fixedTerm c rs ds) b i (at w a)
-unfolding stateValue recordedAmount recorded fixedTerm processOf admissibleIn limitIn freeIn cashIn afterIn worth bestAmount worthOver
+unfolding stateValue recordedAmount recorded fixedTerm processOf admissibleIn freeIn cashIn afterIn worth bestAmount worthOver
 amount-back c rs ds b i w a small =
     amount-same b _ (expectedOn c rs ds i (stateValue (fixedTerm c rs ds) b (suc i))) (rateIn c i) (c .level) w a (λ x y p q.
     sym (shared-expects c rs ds i _ x y small))

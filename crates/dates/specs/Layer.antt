@@ -11,8 +11,8 @@ use Rattle.slices.specs.Parts.{part-at}
 use Rattle.slices.specs.Rows.{within-rows, rows-le, rows-before}
 use Rattle.rules.specs.Contract.{Terms}
 use Rattle.rules.specs.FixedTerm.{layerSize, layoutOf}
-use Rattle.rules.specs.Operations.{tableSize}
 use Rattle.dates.specs.Back.{at}
+use Rattle.laws.specs.Terms.{tableSize}
 
 -- "the layer of date i starts at entry (i − 1) × (top + 1) × (U + 1)"; it stands in the table
 pub record DateLayer (c : Terms) (i from to : ℕ) : Type 0 where

@@ -18,7 +18,7 @@ use keys::Date;
 
 // The maturity values of account w.
 fn maturity_row(work: &mut [u64], stride: usize, w: usize)
-    requires { ⌜ (w ≤ topMost) × (stride ≤ 4001) × (w * stride + stride ≤ length (now work)) ⌝ }
+    requires { ⌜ (w ≤ topMost) × (stride ≤ topMost + 1) × (w * stride + stride ≤ length (now work)) ⌝ }
     ensures { λ _. ⌜ now (work .exit) ≡ stored (now (work .entry)) (w * stride) (maturityValue w) stride ⌝ }
 {
     let row = w * stride;
@@ -28,7 +28,7 @@ fn maturity_row(work: &mut [u64], stride: usize, w: usize)
 }
 
 pub fn fill_maturity(work: &mut [u64], stride: usize, n: usize)
-    requires { ⌜ (n ≤ 4001) × (stride ≤ 4001) × (n * stride ≤ length (now work)) ⌝ }
+    requires { ⌜ (n ≤ topMost + 1) × (stride ≤ topMost + 1) × (n * stride ≤ length (now work)) ⌝ }
     ensures { λ _. ⌜ now (work .exit) ≡ stored (now (work .entry)) 0 (flat stride maturityValue) (n * stride) ⌝ }
 {
     for w in 0..n {

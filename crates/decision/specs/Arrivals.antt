@@ -4,7 +4,7 @@ use mathlib.Core.List.{List, [], _∷_}
 use mathlib.Core.Path.{_≡_, refl, ap₂, _∙_}
 use Prim.Native.Nat.{ℕ, suc, _+_, _<_}
 use Rattle.decision.specs.Process.{Process, Table, reached, met, startMet, Averaging}
-use Rattle.decision.specs.Optimal.{expect-eq}
+use Rattle.decision.specs.Optimal.{by-list-eq}
 use Rattle.decision.specs.Means.{SameMeans}
 
 -- the process that pays otherwise on arrival and is the same in all else
@@ -18,8 +18,8 @@ arriving pays P = record {
   after = P .after;
   reach = P .reach;
   paid = pays;
-  expect = P .expect;
-  mean = λ i h v. P .expect i h (λ k. pays h k + v (P .reach h k));
+  byList = P .byList;
+  byState = λ i h v. P .byList i h (λ k. pays h k + v (P .reach h k));
   final = P .final;
 }
 
@@ -42,8 +42,8 @@ arriving-means P av pays a = record {
   final = λ s. refl;
   starts = a .starts;
   holds = a .holds;
-  mean = λ i h v w g e.
-      av .listed i h v ∙ expect-eq P av i h _ _ (λ k l. ap₂ _+_ (a .same h k l g) (e _ (a .stays h k l g)));
+  byState = λ i h v w g e.
+      av .listed i h v ∙ by-list-eq P av i h _ _ (λ k l. ap₂ _+_ (a .same h k l g) (e _ (a .stays h k l g)));
 }
 
 -- ---- the states met do not depend on what is paid

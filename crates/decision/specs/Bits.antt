@@ -28,7 +28,7 @@ bitsIn n j = min 64 (n - 64 * j)
 
 -- word j of n bits: those that it has, and zeros above them
 unfoldable pub wordOf : (ℕ → Bool) → ℕ → ℕ → ℕ
-wordOf f n j = fromBits (λ k. f (64 * j + k)) (bitsIn n j)
+wordOf f n j = fromBits (λ k. f (64 * j + k)) (min 64 (n - 64 * j))
 
 -- the words of n bits
 unfoldable pub wordsOf : (ℕ → Bool) → ℕ → List ℕ

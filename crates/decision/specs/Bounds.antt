@@ -16,7 +16,7 @@ module _ {S H : Type 0} (P : Process S H) (r : Rule S) (o : Open P r) (InRange :
     (arrives : (i : ℕ) (s : S) (t k : ℕ) → InRange s → T (r s t) → k < P .returns → P .cash i s t + P .paid (P .after i s t) k ≤ C)
     (starts : (k : ℕ) → k < P .returns → P .paid (P .start) k ≤ C)
     (averages : (i : ℕ) (h : H) (v : S → ℕ) (x : ℕ) → ((k : ℕ) → k < P .returns → InRange (P .reach h k))
-    → ((k : ℕ) → k < P .returns → P .paid h k + B ≤ x) → ((k : ℕ) → k < P .returns → reached P v h k ≤ x) → P .mean i h v ≤ x)
+    → ((k : ℕ) → k < P .returns → P .paid h k + B ≤ x) → ((k : ℕ) → k < P .returns → reached P v h k ≤ x) → P .byState i h v ≤ x)
   where
     -- a choice whose values reached are bounded
     worth-bounded : (v : S → ℕ) (x i : ℕ) (s : S) (t : ℕ) → B ≤ x → InRange s → T (r s t)

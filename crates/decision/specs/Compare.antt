@@ -19,16 +19,16 @@ module _ {S H : Type 0} (P Q : Process S H) (a b : Rule S) where
     pub after : (i : ℕ) (s u : S) (t : ℕ) → Below s u → T (a s t) → Less (P .after i s t) (Q .after i u (answer s u t))
     pub reach : (h g : H) (k : ℕ) → Less h g → Below (P .reach h k) (Q .reach g k)
     pub paid : (h g : H) (k : ℕ) → Less h g → P .paid h k ≤ Q .paid g k
-    pub expect : (i : ℕ) (h g : H) (v w : ℕ → ℕ) → Less h g → ((k : ℕ) → v k ≤ w k) → P .expect i h v ≤ Q .expect i g w
+    pub byList : (i : ℕ) (h g : H) (v w : ℕ → ℕ) → Less h g → ((k : ℕ) → v k ≤ w k) → P .byList i h v ≤ Q .byList i g w
 
   module _ {Below : S → S → Type 0} {Less : H → H → Type 0} (x : Matched Below Less) (av : Averaging P) (aw : Averaging Q)
       (oa : Open P a) (ob : Open Q b)
     where
-      mean-less : (v w : S → ℕ) → ((s u : S) → Below s u → v s ≤ w u) → (i : ℕ) (h g : H) → Less h g → P .mean i h v ≤ Q .mean i g w
+      mean-less : (v w : S → ℕ) → ((s u : S) → Below s u → v s ≤ w u) → (i : ℕ) (h g : H) → Less h g → P .byState i h v ≤ Q .byState i g w
       unfolding reached
       mean-less v w less i h g l =
           le-trans (le-of-eq (av .listed i h v))
-          (le-trans (x .expect i h g _ _ l (λ k. add-le-add (x .paid h g k l) (less _ _ (x .reach h g k l))))
+          (le-trans (x .byList i h g _ _ l (λ k. add-le-add (x .paid h g k l) (less _ _ (x .reach h g k l))))
           (le-of-eq (sym (aw .listed i g w))))
 
       over-less : (n i : ℕ) (s u : S) → Below s u → valueOver P a n i s ≤ valueOver Q b n i u

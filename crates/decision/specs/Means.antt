@@ -16,14 +16,14 @@ averaging means P = record {
   after = P .after;
   reach = P .reach;
   paid = P .paid;
-  expect = P .expect;
-  mean = means;
+  byList = P .byList;
+  byState = means;
   final = P .final;
 }
 
 -- .. which sums return by return, in the order of their numbers
 abbrev pub listed : {S H : Type 0} → Process S H → Process S H
-listed P = averaging (λ i h v. P .expect i h (reached P v h)) P
+listed P = averaging (λ i h v. P .byList i h (reached P v h)) P
 
 -- ---- processes that decide alike and have the same means of equal values, whatever their returns, on all that they come to:
 -- the states in range and what is held from there
@@ -36,17 +36,17 @@ pub record SameMeans {S H : Type 0} (P Q : Process S H) (InRange : S → Type 0)
   pub final : (s : S) → P .final s ≡ Q .final s
   pub starts : Holds (P .start)
   pub holds : (i : ℕ) (s : S) (t : ℕ) → InRange s → Holds (P .after i s t)
-  pub mean : (i : ℕ) (h : H) (v w : S → ℕ) → Holds h → ((s : S) → InRange s → v s ≡ w s) → P .mean i h v ≡ Q .mean i h w
+  pub byState : (i : ℕ) (h : H) (v w : S → ℕ) → Holds h → ((s : S) → InRange s → v s ≡ w s) → P .byState i h v ≡ Q .byState i h w
 
 module _ {S H : Type 0} {P Q : Process S H} {InRange : S → Type 0} {Holds : H → Type 0} (x : SameMeans P Q InRange Holds) where
   worth-same : (v w : S → ℕ) → ((s : S) → InRange s → v s ≡ w s) → (i : ℕ) (s : S) (t : ℕ) → InRange s
       → worth P v i s t ≡ worth Q w i s t
   unfolding worth
   worth-same v w e i s t g =
-      ap₂ _+_ (x .cash i s t) (x .mean i _ v w (x .holds i s t g) e ∙ ap (λ (h : H). Q .mean i h w) (x .after i s t))
+      ap₂ _+_ (x .cash i s t) (x .byState i _ v w (x .holds i s t g) e ∙ ap (λ (h : H). Q .byState i h w) (x .after i s t))
 
-  start-mean : (v w : S → ℕ) → ((s : S) → InRange s → v s ≡ w s) → P .mean 0 (P .start) v ≡ Q .mean 0 (Q .start) w
-  start-mean v w e = x .mean 0 _ v w (x .starts) e ∙ ap (λ (h : H). Q .mean 0 h w) (x .start)
+  start-mean : (v w : S → ℕ) → ((s : S) → InRange s → v s ≡ w s) → P .byState 0 (P .start) v ≡ Q .byState 0 (Q .start) w
+  start-mean v w e = x .byState 0 _ v w (x .starts) e ∙ ap (λ (h : H). Q .byState 0 h w) (x .start)
 
   -- ---- values and amounts
   over-same : (r : Rule S) (n i : ℕ) (s : S) → InRange s → valueOver P r n i s ≡ valueOver Q r n i s

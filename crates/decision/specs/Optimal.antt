@@ -79,19 +79,19 @@ module _ {S H : Type 0} (P : Process S H) where
 
   module _ (av : Averaging P) where
     -- ---- what is expected and the mean, by the values reached
-    pub expect-eq : (i : ℕ) (h : H) (v w : ℕ → ℕ) → ((k : ℕ) → k < P .returns → v k ≡ w k) → P .expect i h v ≡ P .expect i h w
-    expect-eq i h v w e = le-antisymm (av .rises i h v w (λ k l. le-of-eq (e k l))) (av .rises i h w v (λ k l. le-of-eq (sym (e k l))))
+    pub by-list-eq : (i : ℕ) (h : H) (v w : ℕ → ℕ) → ((k : ℕ) → k < P .returns → v k ≡ w k) → P .byList i h v ≡ P .byList i h w
+    by-list-eq i h v w e = le-antisymm (av .rises i h v w (λ k l. le-of-eq (e k l))) (av .rises i h w v (λ k l. le-of-eq (sym (e k l))))
 
-    expect-mean : (i : ℕ) (h : H) (x : ℕ → ℕ) (v : S → ℕ) → ((k : ℕ) → k < P .returns → x k ≤ reached P v h k)
-        → P .expect i h x ≤ P .mean i h v
-    expect-mean i h x v l = le-trans (av .rises i h x _ l) (le-of-eq (sym (av .listed i h v)))
+    by-list-at-most : (i : ℕ) (h : H) (x : ℕ → ℕ) (v : S → ℕ) → ((k : ℕ) → k < P .returns → x k ≤ reached P v h k)
+        → P .byList i h x ≤ P .byState i h v
+    by-list-at-most i h x v l = le-trans (av .rises i h x _ l) (le-of-eq (sym (av .listed i h v)))
 
     mean-le : (i : ℕ) (h : H) (v w : S → ℕ) → ((k : ℕ) → k < P .returns → v (P .reach h k) ≤ w (P .reach h k))
-        → P .mean i h v ≤ P .mean i h w
-    mean-le i h v w l = le-trans (le-of-eq (av .listed i h v)) (expect-mean i h _ w (λ k m. reached-le v w h k (l k m)))
+        → P .byState i h v ≤ P .byState i h w
+    mean-le i h v w l = le-trans (le-of-eq (av .listed i h v)) (by-list-at-most i h _ w (λ k m. reached-le v w h k (l k m)))
 
     mean-eq : (i : ℕ) (h : H) (v w : S → ℕ) → ((k : ℕ) → k < P .returns → v (P .reach h k) ≡ w (P .reach h k))
-        → P .mean i h v ≡ P .mean i h w
+        → P .byState i h v ≡ P .byState i h w
     mean-eq i h v w e = le-antisymm (mean-le i h v w (λ k l. le-of-eq (e k l))) (mean-le i h w v (λ k l. le-of-eq (sym (e k l))))
 
     worth-le : (v w : S → ℕ) (i : ℕ) (s : S) (t : ℕ) → ((x : S) → v x ≤ w x) → worth P v i s t ≤ worth P w i s t
@@ -106,7 +106,7 @@ module _ {S H : Type 0} (P : Process S H) where
     earned-most r o σ (suc n) i p s k =
         le-trans
         (add-le-add (le-refl _)
-        (expect-mean i _ _ _ (λ j l. reached-le _ _ _ j (earned-most r o σ n (suc i) (p ++ (j ∷ [])) _ (k .1 j l)))))
+        (by-list-at-most i _ _ _ (λ j l. reached-le _ _ _ j (earned-most r o σ n (suc i) (p ++ (j ∷ [])) _ (k .1 j l)))))
         (le-largest (r s) (worth P (λ x. valueOver P r n (suc i) x) i s) (P .limit s) (σ i p) (o .within s _ (k .0)) (k .0))
 
     -- ---- what admits more is never worth less
@@ -138,10 +138,10 @@ module _ {S H : Type 0} (P : Process S H) where
       unfolding earnedOver tableOver worth Steps
       earns b at steps zero i p s l e m = refl
       earns b at steps (suc n) i p s l e m =
-          ap (λ (x : S). P .cash i s (d i x) + P .expect i (P .after i s (d i x)) (λ k.
+          ap (λ (x : S). P .cash i s (d i x) + P .byList i (P .after i s (d i x)) (λ k.
           reached P (earnedOver P (λ j q. d j (at q)) n (suc i) (p ++ (k ∷ []))) (P .after i s (d i x)) k)) m
           ∙ ap (λ (x : ℕ). P .cash i s (d i s) + x)
-          (expect-eq i _ _ _ (λ k f. reached-eq _ _ _ k
+          (by-list-eq i _ _ _ (λ k f. reached-eq _ _ _ k
           (earns b at steps n (suc i) (p ++ (k ∷ [])) _ (omega arith) (simp length-append (omega arith))
           (steps i k p l e ∙ ap (λ (x : S). P .reach (P .after i x (d i x)) k) m)))
           ∙ sym (av .listed i _ _))
@@ -149,7 +149,7 @@ module _ {S H : Type 0} (P : Process S H) where
       pub start-table-earned : startEarned P (startFollow P d) ≡ startTableValue P d
       unfolding startEarned startFollow startTableValue tableValue startMet met
       start-table-earned =
-          expect-eq 0 _ _ _ (λ k l. reached-eq _ _ _ k
+          by-list-eq 0 _ _ _ (λ k l. reached-eq _ _ _ k
           (earns 0 (startMet P d) (startMet-steps d) (left P 1) 1 (k ∷ []) _ (le-refl 1) refl refl))
           ∙ sym (av .listed 0 _ _)
 
@@ -211,7 +211,7 @@ module _ {S H : Type 0} (P : Process S H) where
         pub attained : 1 ≤ P .dates → Attained P r InRange d
         unfolding startEarned StartKeeps startValue earned Keeps value
         attained one = record {
-          start-most = λ σ k. expect-mean 0 _ _ _ (λ j l. reached-le _ _ _ j (earned-most r o σ (left P 1) 1 (j ∷ []) _ (k j l)));
+          start-most = λ σ k. by-list-at-most 0 _ _ _ (λ j l. reached-le _ _ _ j (earned-most r o σ (left P 1) 1 (j ∷ []) _ (k j l)));
           start-kept = start-table-kept d r InRange c admits one;
           start-earned = start-table-earned d ∙ start-filled one;
           most = λ σ i s g k. earned-most r o σ (left P i) i [] s k;

@@ -24,8 +24,8 @@ pub record Process (S H : Type 0) : Type 0 where
   pub reach : H → ℕ → S
   pub paid : H → ℕ → ℕ
   -- the worth on a date of what is held: where each return number has its value reached, and where each state has its value
-  pub expect : ℕ → H → (ℕ → ℕ) → ℕ
-  pub mean : ℕ → H → (S → ℕ) → ℕ
+  pub byList : ℕ → H → (ℕ → ℕ) → ℕ
+  pub byState : ℕ → H → (S → ℕ) → ℕ
   -- the value of a state on the last date
   pub final : S → ℕ
 
@@ -49,7 +49,7 @@ module _ {S H : Type 0} (P : Process S H) where
 
   -- a choice is worth its cash and the mean of the values to come
   unfoldable pub worth : (S → ℕ) → ℕ → S → ℕ → ℕ
-  worth v i s t = P .cash i s t + P .mean i (P .after i s t) v
+  worth v i s t = P .cash i s t + P .byState i (P .after i s t) v
 
   -- the value on date i of state s, with n decisions to come: the largest worth among the admissible amounts
   unfoldable pub valueOver : Rule S → ℕ → ℕ → S → ℕ
@@ -61,26 +61,22 @@ module _ {S H : Type 0} (P : Process S H) where
   tableOver d zero i s = P .final s
   tableOver d (suc n) i s = worth (λ x. tableOver d n (suc i) x) i s (d i s)
 
-  -- the decisions to come on date i
-  abbrev pub left : ℕ → ℕ
-  left i = P .dates - i
-
   unfoldable pub value : Rule S → ℕ → S → ℕ
-  value r i s = valueOver r (left i) i s
+  value r i s = valueOver r (P .dates - i) i s
 
   -- the smallest of the best amounts
   unfoldable pub recorded : Rule S → ℕ → S → ℕ
   recorded r i s = smallestBest (r s) (worth (value r (suc i)) i s) (P .limit s)
 
   unfoldable pub tableValue : Table S → ℕ → S → ℕ
-  tableValue d i s = tableOver d (left i) i s
+  tableValue d i s = tableOver d (P .dates - i) i s
 
   -- of the whole: the mean from date 0, without cash
   unfoldable pub startValue : Rule S → ℕ
-  startValue r = P .mean 0 (P .start) (value r 1)
+  startValue r = P .byState 0 (P .start) (value r 1)
 
   unfoldable pub startTableValue : Table S → ℕ
-  startTableValue d = P .mean 0 (P .start) (tableValue d 1)
+  startTableValue d = P .byState 0 (P .start) (tableValue d 1)
 
   -- ---- strategies
   -- what a strategy earns on date i in state s, after the return numbers in p and with n decisions to come
@@ -88,7 +84,7 @@ module _ {S H : Type 0} (P : Process S H) where
   earnedOver σ zero i p s = P .final s
   earnedOver σ (suc n) i p s =
       let h = P .after i s (σ i p) in
-      P .cash i s (σ i p) + P .expect i h (λ k. reached (earnedOver σ n (suc i) (p ++ (k ∷ []))) h k)
+      P .cash i s (σ i p) + P .byList i h (λ k. reached (earnedOver σ n (suc i) (p ++ (k ∷ []))) h k)
 
   -- on every path each amount that the strategy names is admissible in the state met there
   unfoldable pub KeepsOver : Rule S → Strategy → ℕ → ℕ → List ℕ → S → Type 0
@@ -99,17 +95,17 @@ module _ {S H : Type 0} (P : Process S H) where
 
   -- from a state of date i the list of return numbers starts empty
   unfoldable pub earned : Strategy → ℕ → S → ℕ
-  earned σ i s = earnedOver σ (left i) i [] s
+  earned σ i s = earnedOver σ (P .dates - i) i [] s
 
   unfoldable pub Keeps : Rule S → Strategy → ℕ → S → Type 0
-  Keeps r σ i s = KeepsOver r σ (left i) i [] s
+  Keeps r σ i s = KeepsOver r σ (P .dates - i) i [] s
 
   -- from the start it begins with the first return's number
   unfoldable pub startEarned : Strategy → ℕ
-  startEarned σ = P .expect 0 (P .start) (λ k. reached (earnedOver σ (left 1) 1 (k ∷ [])) (P .start) k)
+  startEarned σ = P .byList 0 (P .start) (λ k. reached (earnedOver σ (P .dates - 1) 1 (k ∷ [])) (P .start) k)
 
   unfoldable pub StartKeeps : Rule S → Strategy → Type 0
-  StartKeeps r σ = (k : ℕ) → k < P .returns → KeepsOver r σ (left 1) 1 (k ∷ []) (P .reach (P .start) k)
+  StartKeeps r σ = (k : ℕ) → k < P .returns → KeepsOver r σ (P .dates - 1) 1 (k ∷ []) (P .reach (P .start) k)
 
   -- ---- following a table
   -- the state met after the return numbers in p, from state s of date i
@@ -147,10 +143,14 @@ module _ {S H : Type 0} (P : Process S H) where
     pub followed : (i : ℕ) (s : S) → Decides InRange i s → earned (follow d i s) i s ≡ value r i s
 
   -- ---- what has to hold of a process and a rule
+  -- the decisions to come on date i
+  abbrev pub left : ℕ → ℕ
+  left i = P .dates - i
+
   -- more reached is never worth less, and the mean of the values of states is what is expected of the values reached
   pub record Averaging : Type 0 where
-    pub rises : (i : ℕ) (h : H) (v w : ℕ → ℕ) → ((k : ℕ) → k < P .returns → v k ≤ w k) → P .expect i h v ≤ P .expect i h w
-    pub listed : (i : ℕ) (h : H) (v : S → ℕ) → P .mean i h v ≡ P .expect i h (reached v h)
+    pub rises : (i : ℕ) (h : H) (v w : ℕ → ℕ) → ((k : ℕ) → k < P .returns → v k ≤ w k) → P .byList i h v ≤ P .byList i h w
+    pub listed : (i : ℕ) (h : H) (v : S → ℕ) → P .byState i h v ≡ P .byList i h (reached v h)
 
   -- in every state some amount is admissible, and none above the limit
   pub record Open (r : Rule S) : Type 0 where

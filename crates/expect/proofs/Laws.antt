@@ -11,15 +11,15 @@ use Rattle.slices.specs.Stored.{stored, length-stored, stored-out, stored-first
 use Rattle.slices.specs.Rows.{cells, flat, flat-at, within-rows, rows-le, rows-step}
 use Rattle.rules.specs.Contract.{Terms, Returns, word, returnsOf, topMost, rateMost, factorMost, weightTotal, weightMost}
 use Rattle.rules.specs.Date.{nextAccount, excessPaid, deathPayment, deathShare, discounted}
-use Rattle.rules.specs.FixedTerm.{meanOf, layerSize}
+use Rattle.rules.specs.FixedTerm.{meanByList, layerSize}
 use Rattle.laws.specs.Bounds.{stateMost, value-room, value-most, entryMost}
 use Rattle.laws.specs.Narrow.{lowMost, value-narrow}
-use Rattle.laws.specs.Date.{account-le, shared, shared-le}
+use Rattle.laws.specs.Date.{shared, shared-le}
 use Rattle.laws.specs.Accepted.{ValidReturns}
 use Rattle.returns.specs.Grouped.{Grouped}
 use Rattle.expect.specs.Expected.{expected, reachedFrom, expected-listed, expected-le, expected-same, stateSum, two-sums}
-use Rattle.expect.specs.Expected.{paid-sum-le, scaled, term, productMost, Reached, Run, Adding, Summed, Row, Layers, Values}
-use Rattle.expect.specs.Expected.{Within, Balance, Starting}
+use Rattle.expect.specs.Expected.{paid-sum-le, scaled, term, productMost, Reached, Run, Adding, Summed, Row, Layers, Values, Within}
+use Rattle.expect.specs.Expected.{Balance, Starting}
 
 -- ---- sums along the guarantees
 -- a product is small
@@ -215,7 +215,7 @@ module _ {c : Terms} {i : ℕ} {rs : Returns} {work starts weights : List ℕ} {
     pub balance-cells : (a : ℕ)
         → discounted discount (paid + sum (term work starts weights a) count)
         ≡ expected c rs (cells work 0 (c .premium + 1)) balance a
-    unfolding meanOf
+    unfolding meanByList
     balance-cells a =
         ap₂ discounted (b .discount-is)
         (ap₂ _+_ (g .paid-is) (states-are a) ∙ two-sums c rs (cells work 0 (c .premium + 1)) balance a)

@@ -9,7 +9,7 @@ use Rattle.decision.specs.Index.{sum, sum-eq, sum-add, weighted-le}
 use Rattle.slices.specs.Rows.{cells}
 use Rattle.rules.specs.Contract.{Terms, Returns, returnsOf, rateMost, discountMost, weightTotal, weightMost, returnsMost}
 use Rattle.rules.specs.Date.{nextAccount, excessPaid, deathPayment, deathShare, discounted}
-use Rattle.rules.specs.FixedTerm.{meanOf, meanByAccount, layerSize}
+use Rattle.rules.specs.FixedTerm.{meanByList, meanByAccount, layerSize}
 use Rattle.rules.specs.ByList.{by-account-is-by-list}
 use Rattle.laws.specs.Accepted.{Valid, ValidReturns}
 use Rattle.laws.specs.Date.{account-le, excess-paid-le, shared}
@@ -29,8 +29,8 @@ reachedFrom c rs v balance a k =
 
 -- return by return
 pub expected-listed : (c : Terms) (rs : Returns) (v : ℕ → ℕ → ℕ) (balance a : ℕ)
-    → expected c rs v balance a ≡ meanOf c rs (reachedFrom c rs v balance a)
-unfolding expected meanByAccount meanOf excessPaid
+    → expected c rs v balance a ≡ meanByList c rs (reachedFrom c rs v balance a)
+unfolding expected meanByAccount meanByList excessPaid
 expected-listed c rs v balance a = ap (discounted (c .discount)) (by-account-is-by-list c rs balance (λ w over. 10000 * over + v w a))
 
 -- a sum as the second layer holds it: times 8,192, so that it can be added to a key, which holds an amount below 8,192 beside a value

@@ -14,8 +14,8 @@ ghost use Rattle.laws.specs.Accepted.{Valid};
 ghost use Rattle.laws.specs.Date.{shared};
 ghost use Rattle.contract.specs.Reading.{termsIn};
 ghost use Rattle.returns.specs.Sorted.{inOrder, Ordered};
-ghost use Rattle.expect.specs.Expected.{term, productMost, Reached, Run, Adding, Summed, Eights, Row, Values};
-ghost use Rattle.expect.specs.Expected.{reachedFrom, expected, scaled, Starting};
+ghost use Rattle.expect.specs.Expected.{term, productMost, Reached, Run, Adding, Summed, Eights, Row, Values, reachedFrom};
+ghost use Rattle.expect.specs.Expected.{expected, scaled, Starting};
 use contract::Contract;
 
 // How many groups of returns are averaged, by what they are discounted, what no value of the layer passes, and what the returns
@@ -28,7 +28,7 @@ struct Average {
 }
 
 // The value that group k reaches with guarantee a.
-fn reached(work: &[u64], starts: &[usize; 64], k: usize, a: usize) -> u64
+fn reached(work: &[u64], starts: &[usize; Contract::RETURNS_MOST], k: usize, a: usize) -> u64
     requires { ⌜ (k < returnsMost) × (getD (now starts) k 0 + a < length (now work)) ⌝ }
     ensures { λ r. ⌜ r ≡ getD (now (work .entry)) (getD (now (starts .entry)) k 0 + a) 0 ⌝ }
 {
@@ -37,7 +37,13 @@ fn reached(work: &[u64], starts: &[usize; 64], k: usize, a: usize) -> u64
 
 // What group k adds to the sum of guarantee a. Of a value the low half is taken, which is all of it: a product of two numbers of
 // 32 bits can be widened.
-fn product(work: &[u64], starts: &[usize; 64], weights: &[u32; 64], k: usize, a: usize) -> usize
+fn product(
+    work: &[u64],
+    starts: &[usize; Contract::RETURNS_MOST],
+    weights: &[u32; Contract::RETURNS_MOST],
+    k: usize,
+    a: usize,
+) -> usize
     requires { ⌜ (k < returnsMost) × Reached (now work) (now starts) (now weights) a k ⌝ }
     ensures { λ r. ⌜ (r ≡ term (now (work .entry)) (now (starts .entry)) (now (weights .entry)) a k) × (r ≤ productMost) ⌝ }
 {
@@ -47,8 +53,8 @@ fn product(work: &[u64], starts: &[usize; 64], weights: &[u32; 64], k: usize, a:
 // .. and of four groups.
 fn four_products(
     work: &[u64],
-    starts: &[usize; 64],
-    weights: &[u32; 64],
+    starts: &[usize; Contract::RETURNS_MOST],
+    weights: &[u32; Contract::RETURNS_MOST],
     k: usize,
     a: usize,
 ) -> usize
@@ -69,8 +75,8 @@ fn four_products(
 // .. and of eight.
 fn eight_products(
     work: &[u64],
-    starts: &[usize; 64],
-    weights: &[u32; 64],
+    starts: &[usize; Contract::RETURNS_MOST],
+    weights: &[u32; Contract::RETURNS_MOST],
     k: usize,
     a: usize,
 ) -> usize
@@ -88,8 +94,8 @@ fn eight_products(
 fn add_eight(
     sums: &mut [usize; 512],
     work: &[u64],
-    starts: &[usize; 64],
-    weights: &[u32; 64],
+    starts: &[usize; Contract::RETURNS_MOST],
+    weights: &[u32; Contract::RETURNS_MOST],
     k: usize,
     from: usize,
     n: usize,
@@ -114,8 +120,8 @@ fn add_eight(
 fn set_eight(
     sums: &mut [usize; 512],
     work: &[u64],
-    starts: &[usize; 64],
-    weights: &[u32; 64],
+    starts: &[usize; Contract::RETURNS_MOST],
+    weights: &[u32; Contract::RETURNS_MOST],
     paid: usize,
     from: usize,
     n: usize,
@@ -132,8 +138,8 @@ fn set_eight(
 fn add_all(
     sums: &mut [usize; 512],
     work: &[u64],
-    starts: &[usize; 64],
-    weights: &[u32; 64],
+    starts: &[usize; Contract::RETURNS_MOST],
+    weights: &[u32; Contract::RETURNS_MOST],
     average: Average,
     from: usize,
     n: usize,
@@ -203,8 +209,8 @@ struct Part {
 fn expect_run(
     work: &mut [u64],
     sums: &mut [usize; 512],
-    starts: &[usize; 64],
-    weights: &[u32; 64],
+    starts: &[usize; Contract::RETURNS_MOST],
+    weights: &[u32; Contract::RETURNS_MOST],
     average: Average,
     p: Part,
 )
@@ -233,8 +239,8 @@ fn expect_run(
 fn expect_row(
     work: &mut [u64],
     sums: &mut [usize; 512],
-    starts: &[usize; 64],
-    weights: &[u32; 64],
+    starts: &[usize; Contract::RETURNS_MOST],
+    weights: &[u32; Contract::RETURNS_MOST],
     average: Average,
     to: usize,
     stride: usize,
@@ -288,8 +294,8 @@ pub fn expect_layer(work: &mut [u64], order: &[u32], c: Contract, i: usize)
     let most = most_after(c, i);
     // One array of each kind for all balances: what a balance leaves there does not matter to the next, and clearing takes time.
     let mut sums = [0usize; 512];
-    let mut starts = [0usize; 64];
-    let mut weights = [0u32; 64];
+    let mut starts = [0usize; Contract::RETURNS_MOST];
+    let mut weights = [0u32; Contract::RETURNS_MOST];
     let end = c.top + 1;
     for balance in 0..end {
         let groups = returns::group(&mut starts, &mut weights, order, c, balance, stride);

@@ -1,21 +1,24 @@
 // The calls for a C host: numbers and slices in, numbers out. include/gmwb.h declares them.
 ghost use mathlib.Core.Path.{_≡_};
-ghost use Rattle.rules.specs.Refusals.{numberOf, placeOf};
-ghost use Rattle.rules.specs.Operations.{recordVerdict, bookingVerdict, bookingBuffer, walkVerdict, walkCashes};
+ghost use Rattle.rules.specs.Refusals.{verdict, numberOf, placeOf, recordChecks};
+ghost use Rattle.rules.specs.Operations.{walkChecks, walkCashes};
+ghost use Rattle.rules.specs.Policy.{livingPolicy};
+ghost use Rattle.rules.specs.Booking.{bookingChecks, bookingBuffer};
 ghost use Rattle.gmwb.specs.Told.{ValueTold, MapTold, FeeTold, TableTold};
 use contract::Contract;
 
-// Checks a record. The place of each of its refusals is 0.
+// Checks a record. The place of every refusal is 0.
 #[no_mangle]
 pub extern "C" fn gmwb_check(bytes: &[u8]) -> u32
-    ensures { λ r. ⌜ r ≡ numberOf (recordVerdict (now (bytes .entry))) ⌝ }
+    ensures { λ r. ⌜ r ≡ numberOf (verdict (recordChecks (now (bytes .entry)))) ⌝ }
+    ensures { λ _. ⌜ placeOf (verdict (recordChecks (now (bytes .entry)))) ≡ 0 ⌝ }
 {
     let reading = Contract::read(bytes);
     let outcome = reading.outcome();
     outcome.number
 }
 
-// Books an amount. The place of each refusal is 0.
+// Books an amount. The place of every refusal is 0.
 #[no_mangle]
 pub extern "C" fn gmwb_book(
     bytes: &[u8],
@@ -25,7 +28,8 @@ pub extern "C" fn gmwb_book(
     amount: u64,
     buffer: &mut [u8],
 ) -> u32
-    ensures { λ r. ⌜ r ≡ numberOf (bookingVerdict (now (bytes .entry)) date account guarantee amount (now (buffer .entry))) ⌝ }
+    ensures { λ r. ⌜ r ≡ numberOf (verdict (bookingChecks (now (bytes .entry)) date account guarantee amount (now (buffer .entry)))) ⌝ }
+    ensures { λ _. ⌜ placeOf (verdict (bookingChecks (now (bytes .entry)) date account guarantee amount (now (buffer .entry)))) ≡ 0 ⌝ }
     ensures { λ _. ⌜ now (buffer .exit) ≡ bookingBuffer (now (bytes .entry)) date account guarantee amount (now (buffer .entry)) ⌝ }
 {
     let outcome = booking::book(
@@ -52,10 +56,9 @@ pub extern "C" fn gmwb_value(
     value: &mut u64,
     margin: &mut i64,
 ) -> u32
-    ensures { λ r. ⌜ ValueTold (now (bytes .entry)) (now (list .entry)) (now (rates .entry)) behaviour
-        (now (work .entry)) (now (table .entry))
-        r (now (place .exit)) (now (value .exit)) (now (margin .exit))
-        (now (work .exit)) (now (table .exit)) ⌝ }
+    ensures { λ r. ⌜ ValueTold (record { bytes = now (bytes .entry); list = now (list .entry); rates = now (rates .entry) }) behaviour
+        (now (work .entry)) (now (table .entry)) (now (work .exit)) (now (table .exit))
+        (record { number = r; place = now (place .exit); value = now (value .exit); margin = now (margin .exit) }) ⌝ }
 {
     let answer = valuing::value(bytes, list, rates, behaviour as usize, work, table);
     *place = answer.place;
@@ -80,10 +83,9 @@ pub extern "C" fn gmwb_value_map(
     margin: &mut i64,
     count: &mut u64,
 ) -> u32
-    ensures { λ r. ⌜ MapTold (now (bytes .entry)) (now (list .entry)) (now (rates .entry)) behaviour
-        (now (work .entry)) (now (table .entry)) (now (map .entry))
-        r (now (place .exit)) (now (value .exit)) (now (margin .exit)) (now (count .exit))
-        (now (work .exit)) (now (table .exit)) (now (map .exit)) ⌝ }
+    ensures { λ r. ⌜ MapTold (record { bytes = now (bytes .entry); list = now (list .entry); rates = now (rates .entry) }) behaviour
+        (now (work .entry)) (now (table .entry)) (now (map .entry)) (now (work .exit)) (now (table .exit)) (now (map .exit))
+        (record { number = r; place = now (place .exit); value = now (value .exit); margin = now (margin .exit) }) (now (count .exit)) ⌝ }
 {
     let mapped = mapping::value_map(bytes, list, rates, behaviour as usize, work, table, map);
     *count = mapped.count;
@@ -109,9 +111,9 @@ pub extern "C" fn gmwb_fee(
     value: &mut u64,
     margin: &mut i64,
 ) -> u32
-    ensures { λ r. ⌜ FeeTold (now (bytes .entry)) (now (list .entry)) (now (rates .entry)) behaviour wanted
-        (now (work .entry))
-        r (now (place .exit)) (now (fee .exit)) (now (value .exit)) (now (margin .exit)) (now (work .exit)) ⌝ }
+    ensures { λ r. ⌜ FeeTold (record { bytes = now (bytes .entry); list = now (list .entry); rates = now (rates .entry) }) behaviour
+        wanted (now (work .entry)) (now (work .exit))
+        (record { number = r; place = now (place .exit); value = now (value .exit); margin = now (margin .exit) }) (now (fee .exit)) ⌝ }
 {
     let priced = pricing::find_fee(bytes, list, rates, behaviour as usize, wanted, work);
     *fee = priced.fee;
@@ -135,9 +137,9 @@ pub extern "C" fn gmwb_value_table(
     value: &mut u64,
     margin: &mut i64,
 ) -> u32
-    ensures { λ r. ⌜ TableTold (now (bytes .entry)) (now (list .entry)) (now (rates .entry)) (now (work .entry))
-        (now (table .entry))
-        r (now (place .exit)) (now (value .exit)) (now (margin .exit)) (now (work .exit)) ⌝ }
+    ensures { λ r. ⌜ TableTold (record { bytes = now (bytes .entry); list = now (list .entry); rates = now (rates .entry) })
+        (now (work .entry)) (now (table .entry)) (now (work .exit))
+        (record { number = r; place = now (place .exit); value = now (value .exit); margin = now (margin .exit) }) ⌝ }
 {
     let told = supplied::value(bytes, list, rates, work, table);
     *place = told.place;
@@ -157,11 +159,11 @@ pub extern "C" fn gmwb_walk(
     cash: &mut [u64],
     place: &mut u64,
 ) -> u32
-    ensures { λ r. ⌜ r ≡ numberOf (walkVerdict (now (bytes .entry)) (now (list .entry)) (now (table .entry)) (now (path .entry))
-        (now (cash .entry))) ⌝ }
-    ensures { λ _. ⌜ now (place .exit) ≡ placeOf (walkVerdict (now (bytes .entry)) (now (list .entry)) (now (table .entry))
-        (now (path .entry)) (now (cash .entry))) ⌝ }
-    ensures { λ _. ⌜ now (cash .exit) ≡ walkCashes (now (bytes .entry)) (now (list .entry)) (now (table .entry))
+    ensures { λ r. ⌜ r ≡ numberOf (verdict (walkChecks (livingPolicy (now (bytes .entry)) (now (list .entry))) (now (table .entry))
+        (now (path .entry)) (now (cash .entry)))) ⌝ }
+    ensures { λ _. ⌜ now (place .exit) ≡ placeOf (verdict (walkChecks (livingPolicy (now (bytes .entry)) (now (list .entry)))
+        (now (table .entry)) (now (path .entry)) (now (cash .entry)))) ⌝ }
+    ensures { λ _. ⌜ now (cash .exit) ≡ walkCashes (livingPolicy (now (bytes .entry)) (now (list .entry))) (now (table .entry))
         (now (path .entry)) (now (cash .entry)) ⌝ }
 {
     let outcome = walk::walk(bytes, list, table, path, cash);

@@ -6,20 +6,18 @@ use native.Mathlib.Nat.{le-of-eq}
 use native.Mathlib.Omega.{arith}
 use lib.Dec.{eqb, eqb→eq}
 use lib.ListN.{length}
-use Rattle.rules.specs.Contract.{Terms, termsOf, returnsOf, rateBytes, ratesOf}
-use Rattle.rules.specs.Refusals.{checkEach, Verdict, accepted, refused, verdict, numbers, numberOf, placeOf, recordChecks, listChecks}
-use Rattle.rules.specs.Refusals.{ratesChecks, inputChecks}
-use Rattle.laws.specs.Accepted.{Valid, ValidReturns, ValidInput, AllPass, all-pass, pass-right, not-not, valid-returns}
-use Rattle.laws.specs.Accepted.{Positive, zero-accepts, andThen, verdict-append, then-accepted, then-refused, both-terms, both-returns}
-use Rattle.laws.specs.Accepted.{input-valid}
+use Rattle.rules.specs.Contract.{Input, Terms, termsOf, returnsOf, rateBytes, ratesOf}
+use Rattle.rules.specs.Refusals.{checkEach, Verdict, accepted, refused, verdict, numberOf, placeOf, recordChecks, listChecks, ratesChecks}
+use Rattle.rules.specs.Refusals.{inputChecks}
+use Rattle.laws.specs.Accepted.{Valid, ValidReturns, ValidInput, AllPass, all-pass, pass-right, not-not, valid-returns, Positive}
+use Rattle.laws.specs.Accepted.{zero-accepts, andThen, verdict-append, then-accepted, then-refused, both-terms, both-returns, input-valid}
 use Rattle.contract.specs.declared.Contract.{Contract}
 use Rattle.contract.specs.declared.Outcome.{Outcome}
-use Rattle.contract.specs.Reading.{contractOf, termsIn, outcomeAt, outcomeOf}
-use Rattle.contract.specs.Accepted.{Read}
+use Rattle.contract.specs.Reading.{termsIn, taken, turned, takenBy}
+use Rattle.contract.specs.Accepted.{Read, taken-accepts, turned-refused}
 use Rattle.input.specs.declared.Returns.{Returns}
-use Rattle.input.specs.declared.Listing.the-variants as listing
-use Rattle.input.specs.declared.Agreement.the-variants as agreement
-use Rattle.input.specs.Reading.{listingOf, listingVerdict, agreementOf, agreementVerdict, listRead, bothRead, inputRead}
+use Rattle.input.specs.Reading.{listRead, agreedBy, bothRead, inputRead}
+use Rattle.rules.specs.Facts.{checkNumbers}
 
 -- the returns were read from the list
 pub record Listed (bytes : List ℕ) (rs : Returns) : Type 0 where
@@ -27,28 +25,16 @@ pub record Listed (bytes : List ℕ) (rs : Returns) : Type 0 where
   pub count : rs .count ≡ returnsOf bytes .count
   pub valid : ValidReturns (returnsOf bytes)
 
--- the case of a listing is the verdict's
-pub listing-verdict : (bytes : List ℕ) → listingVerdict (listRead bytes) ≡ verdict (listChecks bytes)
+pub list-accepted : (bytes : List ℕ) (rs : Returns) → listRead bytes ≡ taken (rs .count) → Listed bytes rs
 unfolding listRead
-listing-verdict bytes = go (verdict (listChecks bytes))
-  where
-    go : (v : Verdict) → listingVerdict (listingOf v (returnsOf bytes .count)) ≡ v
-    go accepted = refl
-    go (refused n p) = refl
+list-accepted bytes rs e =
+    let both = taken-accepts (verdict (listChecks bytes)) (returnsOf bytes .count) e in
+    record { accepts = both .0; count = sym (both .1); valid = valid-returns bytes (all-pass _ (both .0)) }
 
-pub list-accepted : (bytes : List ℕ) (rs : Returns) → listRead bytes ≡ listing.Accepted rs → Listed bytes rs
-unfolding listRead
-list-accepted bytes rs e = go (verdict (listChecks bytes)) refl e
-  where
-    go : (v : Verdict) → verdict (listChecks bytes) ≡ v → listingOf v (returnsOf bytes .count) ≡ listing.Accepted rs → Listed bytes rs
-    go accepted a x =
-        let same : _≡_ {A = Returns} (record { count = returnsOf bytes .count }) rs = cc in
-        record { accepts = a; count = ap (λ (y : Returns). y .count) (sym same); valid = valid-returns bytes (all-pass _ a) }
-    go (refused n p) a x = let z : _≡_ {A = ℕ} 0 1 = cc in absurd (omega arith)
-
-pub list-refused : (bytes : List ℕ) (o : Outcome) → listRead bytes ≡ listing.Refused o
+pub list-refused : (bytes : List ℕ) (o : Outcome) → listRead bytes ≡ turned (o .number) (o .place)
     → verdict (listChecks bytes) ≡ refused (o .number) (o .place)
-list-refused bytes o e = sym (listing-verdict bytes) ∙ ap listingVerdict e
+unfolding listRead
+list-refused bytes o e = turned-refused (verdict (listChecks bytes)) (returnsOf bytes .count) e
 
 -- ---- an agreement that was made or refused, by any verdict
 pub record Agreed (v : Verdict) (bytes list : List ℕ) (c : Contract) (rs : Returns) : Type 0 where
@@ -57,25 +43,27 @@ pub record Agreed (v : Verdict) (bytes list : List ℕ) (c : Contract) (rs : Ret
   pub count : rs .count ≡ returnsOf list .count
 
 module _ (v : Verdict) (bytes list : List ℕ) where
-  pub agreed : (c : Contract) (rs : Returns) → agreementOf v (termsOf bytes) (returnsOf list .count) ≡ agreement.Accepted c rs
-      → Agreed v bytes list c rs
-  agreed c rs e = go v refl e
-    where
-      go : (x : Verdict) → v ≡ x → agreementOf x (termsOf bytes) (returnsOf list .count) ≡ agreement.Accepted c rs
-          → Agreed v bytes list c rs
-      go accepted a e =
-          let terms : contractOf (termsOf bytes) ≡ c = cc in
-          let returns : _≡_ {A = Returns} (record { count = returnsOf list .count }) rs = cc in
-          record { accepts = a; terms = ap termsIn (sym terms); count = ap (λ (x : Returns). x .count) (sym returns) }
-      go (refused n p) a e = let z : _≡_ {A = ℕ} 0 1 = cc in absurd (omega arith)
+  pub agreed : (c : Contract) (rs : Returns) → agreedBy v bytes list ≡ taken (termsIn c, rs .count) → Agreed v bytes list c rs
+  unfolding agreedBy
+  agreed c rs e =
+      let both = taken-accepts v (termsOf bytes, returnsOf list .count) e in record {
+        accepts = both .0;
+        terms = sym (ap (λ (x : Terms × ℕ). x .0) (both .1));
+        count = sym (ap (λ (x : Terms × ℕ). x .1) (both .1));
+      }
 
-  pub disagreed : (o : Outcome) → agreementOf v (termsOf bytes) (returnsOf list .count) ≡ agreement.Refused o
-      → v ≡ refused (o .number) (o .place)
-  disagreed o e = sym (go v) ∙ ap agreementVerdict e
-    where
-      go : (x : Verdict) → agreementVerdict (agreementOf x (termsOf bytes) (returnsOf list .count)) ≡ x
-      go accepted = refl
-      go (refused n p) = refl
+  pub disagreed : (o : Outcome) → agreedBy v bytes list ≡ turned (o .number) (o .place) → v ≡ refused (o .number) (o .place)
+  unfolding agreedBy
+  disagreed o e = turned-refused v (termsOf bytes, returnsOf list .count) e
+
+  -- what an accepted or a refused agreement tells
+  pub agree : {c : Contract} {rs : Returns} → Agreed v bytes list c rs → taken (termsIn c, rs .count) ≡ agreedBy v bytes list
+  unfolding agreedBy takenBy
+  agree told = rw (told .accepts) (λ i. taken (told .terms i, told .count i))
+
+  pub refuse : (n p : ℕ) → v ≡ refused n p → turned n p ≡ agreedBy v bytes list
+  unfolding agreedBy takenBy
+  refuse n p e = rw e
 
 -- ---- a record and a list that were read
 pub record Both (bytes list : List ℕ) (c : Contract) (rs : Returns) : Type 0 where
@@ -95,27 +83,23 @@ agreed-both {bytes = bytes} {list = list} told a = record {
   returns = both-returns bytes list a;
 }
 
-pub both-read : (bytes list : List ℕ) (c : Contract) (rs : Returns) → bothRead bytes list ≡ agreement.Accepted c rs → Both bytes list c rs
-unfolding bothRead
+pub both-read : (bytes list : List ℕ) (c : Contract) (rs : Returns) → bothRead bytes list ≡ taken (termsIn c, rs .count)
+    → Both bytes list c rs
 both-read bytes list c rs e = let told = agreed _ bytes list c rs e in agreed-both told (told .accepts)
-
-pub both-not-read : (bytes list : List ℕ) (o : Outcome) → bothRead bytes list ≡ agreement.Refused o
-    → verdict (recordChecks bytes ++ listChecks list) ≡ refused (o .number) (o .place)
-unfolding bothRead
-both-not-read bytes list o e = disagreed _ bytes list o e
 
 -- reading both is reading the one and then the other
 pub both-accepted : {bytes list : List ℕ} {c : Contract} {rs : Returns} → Read bytes c → Listed list rs
-    → agreement.Accepted c rs ≡ bothRead bytes list
-unfolding bothRead
+    → taken (termsIn c, rs .count) ≡ bothRead bytes list
 both-accepted {bytes} {list} known told =
-    let e = verdict-append (recordChecks bytes) (listChecks list) ∙ ap₂ andThen (known .accepts) (told .accepts) in
-    rw e (ap₂ agreement.Accepted (ap contractOf (known .terms)) (ap (λ (n : ℕ). record { count = n }) (told .count)))
+    agree _ bytes list (record {
+      accepts = verdict-append (recordChecks bytes) (listChecks list) ∙ ap₂ andThen (known .accepts) (told .accepts);
+      terms = known .terms;
+      count = told .count;
+    })
 
 pub both-refused : (bytes list : List ℕ) (n p : ℕ) → andThen (verdict (recordChecks bytes)) (verdict (listChecks list)) ≡ refused n p
-    → agreement.Refused (outcomeAt n p) ≡ bothRead bytes list
-unfolding bothRead
-both-refused bytes list n p e = rw (verdict-append (recordChecks bytes) (listChecks list) ∙ e)
+    → turned n p ≡ bothRead bytes list
+both-refused bytes list n p e = refuse _ bytes list n p (verdict-append (recordChecks bytes) (listChecks list) ∙ e)
 
 -- ---- record, list and rates that were read
 pub record Given (c : Terms) (list rates : List ℕ) : Type 0 where
@@ -123,51 +107,50 @@ pub record Given (c : Terms) (list rates : List ℕ) : Type 0 where
   pub long : rateBytes * c .dates ≤ length rates
 
 -- what checks that accept show of the bytes
-pub given : {c : Terms} (bytes list rates : List ℕ) → verdict (inputChecks bytes list rates) ≡ accepted → c ≡ termsOf bytes
-    → Given c list rates
+pub given : {c : Terms} (x : Input) → verdict (inputChecks x) ≡ accepted → c ≡ termsOf (x .bytes) → Given c (x .list) (x .rates)
 unfolding inputChecks ratesChecks AllPass
-given bytes list rates e same =
-    let n = rateBytes * termsOf bytes .dates in
-    let size = pass-right (recordChecks bytes ++ listChecks list) _ (all-pass _ e) .0 in
-    let long = eqb→eq (length rates) n (not-not (eqb (length rates) n) size) in
-    rw same (record { valid = input-valid bytes list rates e; long = le-of-eq (sym long) })
+given x e same =
+    let n = rateBytes * termsOf (x .bytes) .dates in
+    let size = pass-right (recordChecks (x .bytes) ++ listChecks (x .list)) _ (all-pass _ e) .0 in
+    let long = eqb→eq (length (x .rates)) n (not-not (eqb (length (x .rates)) n) size) in
+    rw same (record { valid = input-valid x e; long = le-of-eq (sym long) })
 
 -- reading all is reading record and list and then the rates
-module _ (bytes list rates : List ℕ) where
-  pub input-read : (c : Contract) (rs : Returns) → inputRead bytes list rates ≡ agreement.Accepted c rs
-      → Agreed (verdict (inputChecks bytes list rates)) bytes list c rs
-  unfolding inputRead
-  input-read c rs e = agreed _ bytes list c rs e
+module _ (x : Input) where
+  pub input-read : (c : Contract) (rs : Returns) → inputRead x ≡ taken (termsIn c, rs .count)
+      → Agreed (verdict (inputChecks x)) (x .bytes) (x .list) c rs
+  input-read c rs e = agreed _ (x .bytes) (x .list) c rs e
 
-  pub input-not-read : (o : Outcome) → inputRead bytes list rates ≡ agreement.Refused o
-      → verdict (inputChecks bytes list rates) ≡ refused (o .number) (o .place)
-  unfolding inputRead
-  input-not-read o e = disagreed _ bytes list o e
+  pub input-not-read : (o : Outcome) → inputRead x ≡ turned (o .number) (o .place)
+      → verdict (inputChecks x) ≡ refused (o .number) (o .place)
+  input-not-read o e = disagreed _ (x .bytes) (x .list) o e
 
-  pub both-first : (o : Outcome) → bothRead bytes list ≡ agreement.Refused o → agreement.Refused o ≡ inputRead bytes list rates
-  unfolding inputRead inputChecks
-  both-first o e = rw (then-refused (recordChecks bytes ++ listChecks list) _ (both-not-read bytes list o e))
+  pub both-first : (o : Outcome) → bothRead (x .bytes) (x .list) ≡ turned (o .number) (o .place)
+      → turned (o .number) (o .place) ≡ inputRead x
+  unfolding inputChecks
+  both-first o e = refuse _ (x .bytes) (x .list) _ _ (then-refused _ _ (disagreed _ (x .bytes) (x .list) o e))
 
-  module _ {c : Contract} {rs : Returns} (known : Both bytes list c rs) where
-    rates-then : verdict (inputChecks bytes list rates) ≡ verdict (ratesChecks (c .dates) rates)
+  module _ {c : Contract} {rs : Returns} (known : Both (x .bytes) (x .list) c rs) where
+    rates-then : verdict (inputChecks x) ≡ verdict (ratesChecks (c .dates) (x .rates))
     unfolding inputChecks
     rates-then =
-        then-accepted (recordChecks bytes ++ listChecks list) _ (known .accepts)
-        ∙ ap (λ (x : Terms). verdict (ratesChecks (x .dates) rates)) (sym (known .terms))
+        then-accepted (recordChecks (x .bytes) ++ listChecks (x .list)) _ (known .accepts)
+        ∙ ap (λ (t : Terms). verdict (ratesChecks (t .dates) (x .rates))) (sym (known .terms))
 
-    pub rates-passed : numberOf (verdict (ratesChecks (c .dates) rates)) ≡ 0 → agreement.Accepted c rs ≡ inputRead bytes list rates
-    unfolding inputRead ratesChecks checkEach numbers Positive
+    pub rates-passed : numberOf (verdict (ratesChecks (c .dates) (x .rates))) ≡ 0 → taken (termsIn c, rs .count) ≡ inputRead x
+    unfolding ratesChecks checkEach checkNumbers Positive
     rates-passed e =
-        let passed = zero-accepts (ratesChecks (c .dates) rates) (omega arith, (omega arith, tt)) e in
-        rw (rates-then ∙ passed)
-        (ap₂ agreement.Accepted (ap contractOf (known .terms)) (ap (λ (n : ℕ). record { count = n }) (known .count)))
+        agree _ (x .bytes) (x .list) (record {
+          accepts = rates-then ∙ zero-accepts (ratesChecks (c .dates) (x .rates)) (omega arith, (omega arith, tt)) e;
+          terms = known .terms;
+          count = known .count;
+        })
 
-    pub rates-refused : (numberOf (verdict (ratesChecks (c .dates) rates)) ≡ 0 → ⊥)
-        → agreement.Refused (outcomeOf (verdict (ratesChecks (c .dates) rates))) ≡ inputRead bytes list rates
-    unfolding inputRead numberOf placeOf
-    rates-refused h = rw rates-then (go (verdict (ratesChecks (c .dates) rates)) h)
+    pub rates-refused : (numberOf (verdict (ratesChecks (c .dates) (x .rates))) ≡ 0 → ⊥)
+        → let v = verdict (ratesChecks (c .dates) (x .rates)) in turned (numberOf v) (placeOf v) ≡ inputRead x
+    unfolding numberOf placeOf
+    rates-refused h = refuse _ (x .bytes) (x .list) _ _ (rates-then ∙ go (verdict (ratesChecks (c .dates) (x .rates))) h)
       where
-        go : (v : Verdict) → (numberOf v ≡ 0 → ⊥)
-            → agreement.Refused (outcomeOf v) ≡ agreementOf v (termsOf bytes) (returnsOf list .count)
+        go : (v : Verdict) → (numberOf v ≡ 0 → ⊥) → v ≡ refused (numberOf v) (placeOf v)
         go accepted h = absurd (h refl)
         go (refused n p) h = refl

@@ -1,42 +1,35 @@
 -- What reading a list, rates, and all three inputs answers, in the words of the rules. Assumes nothing.
 use mathlib.Core.List.{List, _++_}
 use Prim.Native.Nat.{ℕ}
-use Rattle.rules.specs.Contract.{Terms, termsOf, returnsOf}
-use Rattle.rules.specs.Refusals.{Verdict, accepted, refused, verdict, recordChecks, listChecks, inputChecks}
-use Rattle.contract.specs.Reading.{contractOf, outcomeAt}
+use Rattle.rules.specs.Contract.{Input, Terms, termsOf, returnsOf}
+use Rattle.rules.specs.Refusals.{Verdict, verdict, recordChecks, listChecks, inputChecks}
+use Rattle.contract.specs.Reading.{Taken, taken, turned, takenBy, termsIn}
 use Rattle.input.specs.declared.Listing.{Listing}
 use Rattle.input.specs.declared.Listing.the-variants as listing
 use Rattle.input.specs.declared.Agreement.{Agreement}
 use Rattle.input.specs.declared.Agreement.the-variants as agreement
 
-abbrev pub refusedListing : ℕ → ℕ → Listing
-refusedListing n p = listing.Refused (outcomeAt n p)
+-- EACH CASE OF A LISTING: how many returns, or the refusal's number and place
+abbrev pub listingTells : Listing → Taken ℕ
+listingTells (listing.Accepted rs) = taken (rs .count)
+listingTells (listing.Refused o) = turned (o .number) (o .place)
 
--- the case of each verdict
-abbrev pub listingOf : Verdict → ℕ → Listing
-listingOf accepted n = listing.Accepted (record { count = n })
-listingOf (refused n p) k = refusedListing n p
+-- EACH CASE OF AN AGREEMENT: the terms and how many returns, or the refusal's number and place
+abbrev pub agreementTells : Agreement → Taken (Terms × ℕ)
+agreementTells (agreement.Accepted c rs) = taken (termsIn c, rs .count)
+agreementTells (agreement.Refused o) = turned (o .number) (o .place)
 
-abbrev pub agreementOf : Verdict → Terms → ℕ → Agreement
-agreementOf accepted c n = agreement.Accepted (contractOf c) (record { count = n })
-agreementOf (refused n p) c k = agreement.Refused (outcomeAt n p)
+-- reading any bytes as a list
+unfoldable pub listRead : List ℕ → Taken ℕ
+listRead bytes = takenBy (verdict (listChecks bytes)) (returnsOf bytes .count)
 
--- the number and place of each case
-abbrev pub listingVerdict : Listing → Verdict
-listingVerdict (listing.Accepted n) = accepted
-listingVerdict (listing.Refused r) = refused (r .number) (r .place)
+-- .. as record and list, by any verdict
+unfoldable pub agreedBy : Verdict → List ℕ → List ℕ → Taken (Terms × ℕ)
+agreedBy v bytes list = takenBy v (termsOf bytes, returnsOf list .count)
 
-abbrev pub agreementVerdict : Agreement → Verdict
-agreementVerdict (agreement.Accepted c rs) = accepted
-agreementVerdict (agreement.Refused r) = refused (r .number) (r .place)
+abbrev pub bothRead : List ℕ → List ℕ → Taken (Terms × ℕ)
+bothRead bytes list = agreedBy (verdict (recordChecks bytes ++ listChecks list)) bytes list
 
--- reading any bytes as a list, and as record and list
-unfoldable pub listRead : List ℕ → Listing
-listRead bytes = listingOf (verdict (listChecks bytes)) (returnsOf bytes .count)
-
-unfoldable pub bothRead : List ℕ → List ℕ → Agreement
-bothRead bytes list = agreementOf (verdict (recordChecks bytes ++ listChecks list)) (termsOf bytes) (returnsOf list .count)
-
--- .. with rates
-unfoldable pub inputRead : List ℕ → List ℕ → List ℕ → Agreement
-inputRead bytes list rates = agreementOf (verdict (inputChecks bytes list rates)) (termsOf bytes) (returnsOf list .count)
+-- .. and rates
+abbrev pub inputRead : Input → Taken (Terms × ℕ)
+inputRead x = agreedBy (verdict (inputChecks x)) (x .bytes) (x .list)

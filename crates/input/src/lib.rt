@@ -7,8 +7,8 @@ ghost use lib.ListN.{length};
 ghost use Rattle.decision.specs.Index.{sum, first};
 ghost use Rattle.rules.specs.Contract.{datesMost, rateMost, returnBytes, returnsMost, returnsOf, rateBytes, ratesOf};
 ghost use Rattle.rules.specs.Refusals.{outside, verdict, badReturn, ratesChecks};
-ghost use Rattle.contract.specs.Reading.{outcomeOf};
-ghost use Rattle.input.specs.Reading.{listingVerdict, agreementVerdict, refusedListing, listRead, bothRead, inputRead};
+ghost use Rattle.contract.specs.Reading.{turned, outcomeOf, outcomeIn};
+ghost use Rattle.input.specs.Reading.{listingTells, agreementTells, listRead, bothRead, inputRead};
 use contract::Contract;
 use contract::Outcome;
 use contract::Reading;
@@ -31,7 +31,7 @@ pub enum Agreement {
 
 impl Listing {
     pub fn outcome(self) -> Outcome
-        ensures { λ r. ⌜ r ≡ outcomeOf (listingVerdict self) ⌝ }
+        ensures { λ r. ⌜ r ≡ outcomeIn (listingTells self) ⌝ }
     {
         let listing = self;
         match listing {
@@ -46,7 +46,7 @@ impl Listing {
 
 impl Agreement {
     pub fn outcome(self) -> Outcome
-        ensures { λ r. ⌜ r ≡ outcomeOf (agreementVerdict self) ⌝ }
+        ensures { λ r. ⌜ r ≡ outcomeIn (agreementTells self) ⌝ }
     {
         let agreement = self;
         match agreement {
@@ -69,7 +69,7 @@ fn bad_length(length: usize) -> bool
 
 // Refusal 8 of return k.
 fn bad_return(bytes: &[u8], k: usize) -> bool
-    requires { ⌜ (4 * k + 4 ≤ length (now bytes)) × (k < 64) ⌝ }
+    requires { ⌜ (returnBytes * k + 4 ≤ length (now bytes)) × (k < returnsMost) ⌝ }
     ensures { λ r. ⌜ r ≡ badReturn (returnsOf (now (bytes .entry))) k ⌝ }
 {
     let at = Contract::RETURN_BYTES * k;
@@ -79,7 +79,7 @@ fn bad_return(bytes: &[u8], k: usize) -> bool
 
 // The first of the returns that is bad, or their count.
 fn first_bad(bytes: &[u8], count: usize) -> usize
-    requires { ⌜ (4 * count ≤ length (now bytes)) × (count ≤ 64) ⌝ }
+    requires { ⌜ (returnBytes * count ≤ length (now bytes)) × (count ≤ returnsMost) ⌝ }
     ensures { λ r. ⌜ r ≡ first (badReturn (returnsOf (now (bytes .entry)))) count ⌝ }
 {
     let mut k: usize = 0;
@@ -93,7 +93,7 @@ fn first_bad(bytes: &[u8], count: usize) -> usize
 }
 
 fn total_weight(bytes: &[u8], count: usize) -> usize
-    requires { ⌜ (4 * count ≤ length (now bytes)) × (count ≤ 64) ⌝ }
+    requires { ⌜ (returnBytes * count ≤ length (now bytes)) × (count ≤ returnsMost) ⌝ }
     ensures { λ r. ⌜ r ≡ sum (returnsOf (now (bytes .entry)) .weight) count ⌝ }
 {
     let mut total: usize = 0;
@@ -104,7 +104,7 @@ fn total_weight(bytes: &[u8], count: usize) -> usize
 }
 
 fn refused_list(number: u32, place: u64) -> Listing
-    ensures { λ r. ⌜ r ≡ refusedListing number place ⌝ }
+    ensures { λ r. ⌜ listingTells r ≡ turned number place ⌝ }
 {
     Listing::Refused(Outcome { number, place })
 }
@@ -112,7 +112,7 @@ fn refused_list(number: u32, place: u64) -> Listing
 impl Returns {
     // A list's bytes as returns in range.
     pub fn read(bytes: &[u8]) -> Listing
-        ensures { λ r. ⌜ r ≡ listRead (now (bytes .entry)) ⌝ }
+        ensures { λ r. ⌜ listingTells r ≡ listRead (now (bytes .entry)) ⌝ }
     {
         if bad_length(bytes.len()) {
             return refused_list(7, 0);
@@ -138,7 +138,7 @@ pub fn returns_in(list: &[u8]) -> usize
 
 // Record and list: the record is read whole before the list is looked at.
 pub fn read(bytes: &[u8], list: &[u8]) -> Agreement
-    ensures { λ r. ⌜ r ≡ bothRead (now (bytes .entry)) (now (list .entry)) ⌝ }
+    ensures { λ r. ⌜ agreementTells r ≡ bothRead (now (bytes .entry)) (now (list .entry)) ⌝ }
 {
     let reading = Contract::read(bytes);
     let Reading::Accepted(c) = reading else {
@@ -200,7 +200,10 @@ fn check_rates(rates: &[u8], dates: usize) -> Outcome
 
 // Record, list and rates, which are looked at last.
 pub fn read_all(bytes: &[u8], list: &[u8], rates: &[u8]) -> Agreement
-    ensures { λ r. ⌜ r ≡ inputRead (now (bytes .entry)) (now (list .entry)) (now (rates .entry)) ⌝ }
+    ensures { λ r. ⌜
+        agreementTells r
+        ≡ inputRead (record { bytes = now (bytes .entry); list = now (list .entry); rates = now (rates .entry) })
+        ⌝ }
 {
     let agreement = read(bytes, list);
     let Agreement::Accepted(c, _) = agreement else {

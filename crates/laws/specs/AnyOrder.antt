@@ -14,9 +14,11 @@ use Rattle.decision.specs.Layers.{lookup}
 use Rattle.rules.specs.Contract.{Terms, Returns, Rates, factorMost, weightMost, rateMost}
 use Rattle.rules.specs.Date.{Behaviour, nextAccount, excess, discounted}
 use Rattle.rules.specs.Product.{stateValue, recordedAmount, contractValue, suppliedValue}
-use Rattle.rules.specs.FixedTerm.{State, Held, admissibleIn, meanByAccount, valueWith, meanOver, processOf, layoutOf, fixedTerm}
+use Rattle.rules.specs.FixedTerm.{State, Held, admissibleIn, meanByAccount, valueWith, heldByAccount, processOf, layoutOf, fixedTerm}
 use Rattle.rules.specs.ByList.{by-account-is-by-list}
-use Rattle.rules.specs.Fee.{withFee, feeValue, meets, smallestFee}
+use Rattle.rules.specs.Fee.{feeSought}
+use Rattle.laws.specs.Terms.{withFee}
+use Rattle.laws.specs.Fee.{smallestFee}
 use Rattle.laws.specs.Accepted.{ValidReturns}
 
 -- how many returns have this factor and this weight
@@ -84,8 +86,8 @@ module _ {rs us : Returns} (same : Reordered rs us) where
       }
 
   -- the sums by account, and so the means
-  reordered-mean : (c : Terms) (ds : Rates) (i : ℕ) (h : Held) (v : State → ℕ) → meanOver c rs ds i h v ≡ meanOver c us ds i h v
-  unfolding meanOver meanByAccount
+  reordered-mean : (c : Terms) (ds : Rates) (i : ℕ) (h : Held) (v : State → ℕ) → heldByAccount c rs ds i h v ≡ heldByAccount c us ds i h v
+  unfolding heldByAccount meanByAccount
   reordered-mean c ds i h v =
       let f = valueWith ds i (h .guarantee) v in
       ap (discounted (c .discount))
@@ -105,7 +107,7 @@ module _ {rs us : Returns} (same : Reordered rs us) where
       final = λ s. refl;
       starts = tt;
       holds = λ i s t g. tt;
-      mean = λ i h v w g e. reordered-mean c ds i h v ∙ ap (meanOver c us ds i h) (fun-ext (λ s. e s tt));
+      byState = λ i h v w g e. reordered-mean c ds i h v ∙ ap (heldByAccount c us ds i h) (fun-ext (λ s. e s tt));
     }
 
     -- values: of the contract, of every state
@@ -134,6 +136,6 @@ module _ {rs us : Returns} (same : Reordered rs us) where
 
   -- the fee
   pub any-order-fee : (c : Terms) (ds : Rates) (b : Behaviour) (wanted : ℕ) → smallestFee c rs ds b wanted ≡ smallestFee c us ds b wanted
-  unfolding smallestFee meets feeValue
+  unfolding smallestFee feeSought
   any-order-fee c ds b wanted =
       first-eq _ _ (rateMost + 1) (λ fee l. ap (λ (x : ℕ). leb x wanted) (any-order-value (withFee c fee) ds b))

@@ -9,11 +9,12 @@ use lib.Dec.{T, ltb, eqb, eqb→eq, nltb→le}
 use lib.ListN.{length}
 use Rattle.rules.specs.Contract.{Terms, termsOf, topMost}
 use Rattle.rules.specs.Date.{dynamic, freeAmount, admits}
-use Rattle.rules.specs.Refusals.{Verdict, accepted, refused, verdict, numbers, numberOf, outside, recordChecks}
-use Rattle.rules.specs.Operations.{amountChecks, bookingChecks, bookingVerdict}
-use Rattle.laws.specs.Accepted.{Valid, Positive, zero-accepts, NoPlace, AllPass, all-pass}
-use Rattle.laws.specs.Accepted.{nor-left, nor-right, not-not, at-most, andThen, verdict-append}
+use Rattle.rules.specs.Refusals.{accepted, verdict, numberOf, outside, recordChecks, termsChecks, placeOf}
+use Rattle.laws.specs.Accepted.{Valid, Positive, zero-accepts, NoPlace, AllPass, all-pass, nor-left, nor-right, not-not, at-most}
+use Rattle.laws.specs.Accepted.{andThen, verdict-append, no-place, no-places}
 use Rattle.laws.specs.Date.{dynamic-is, amount-most}
+use Rattle.rules.specs.Facts.{checkNumbers}
+use Rattle.rules.specs.Booking.{amountChecks, bookingChecks}
 
 pub record Bookable (c : Terms) (i w a t : ℕ) (buffer : List ℕ) : Type 0 where
   pub sixteen : length buffer ≡ 16
@@ -44,18 +45,31 @@ module _ (c : Terms) (date w a t : ℕ) (buffer : List ℕ) where
 
   -- number 0 is success, and no refusal has another place than 0
   pub amount-accepts : numberOf (verdict (amountChecks c date w a t buffer)) ≡ 0 → verdict (amountChecks c date w a t buffer) ≡ accepted
-  unfolding amountChecks numbers Positive
+  unfolding amountChecks checkNumbers Positive
   amount-accepts e = zero-accepts (amountChecks c date w a t buffer) (omega arith) e
 
   pub amount-places : NoPlace (amountChecks c date w a t buffer)
   unfolding amountChecks NoPlace
   amount-places = (refl, (refl, (refl, tt)))
 
+-- EVERY REFUSAL of a record, and of a booking, has place 0
+record-no-places : (bytes : List ℕ) → NoPlace (recordChecks bytes)
+unfolding recordChecks termsChecks NoPlace
+record-no-places bytes = (refl, (refl, (refl, (refl, (refl, (refl, (refl, tt)))))))
+
+pub record-places : (bytes : List ℕ) → placeOf (verdict (recordChecks bytes)) ≡ 0
+record-places bytes = no-place (recordChecks bytes) (record-no-places bytes)
+
+pub booking-places : (bytes : List ℕ) (date w a t : ℕ) (buffer : List ℕ) → placeOf (verdict (bookingChecks bytes date w a t buffer)) ≡ 0
+unfolding bookingChecks
+booking-places bytes date w a t buffer =
+    no-place _ (no-places (recordChecks bytes) _ (record-no-places bytes) (amount-places (termsOf bytes) date w a t buffer))
+
 -- the record's checks come first
 pub booking-verdict : (bytes : List ℕ) (date w a t : ℕ) (buffer : List ℕ)
-    → bookingVerdict bytes date w a t buffer
+    → verdict (bookingChecks bytes date w a t buffer)
     ≡ andThen (verdict (recordChecks bytes)) (verdict (amountChecks (termsOf bytes) date w a t buffer))
-unfolding bookingVerdict bookingChecks
+unfolding bookingChecks
 booking-verdict bytes date w a t buffer = verdict-append (recordChecks bytes) (amountChecks (termsOf bytes) date w a t buffer)
 
 -- account, guarantee and amount are at most 4,000

@@ -12,12 +12,13 @@ use Rattle.decision.specs.Bounds.{value-bounded, start-bounded, table-bounded, 
 use Rattle.rules.specs.Contract.{Terms, Returns, Rates, topMost, datesMost, factorMost, discountMost, weightTotal}
 use Rattle.rules.specs.Date.{Behaviour, dynamic, liftedAccount, nextAccount, excessPaid, maturityValue, discounted}
 use Rattle.rules.specs.Product.{stateValue, recordedAmount, contractValue}
-use Rattle.rules.specs.FixedTerm.{State, Held, InRange, freeIn, admissibleIn, rateIn, cashIn, afterIn, reachBy, paidBy}
-use Rattle.rules.specs.FixedTerm.{deathBy, meanOf, expectOver, meanOver, startOf, processOf, fixedTerm}
+use Rattle.rules.specs.FixedTerm.{State, Held, InRange, freeIn, admissibleIn, rateIn, cashIn, afterIn, reachBy, paidBy, deathBy}
+use Rattle.rules.specs.FixedTerm.{meanByList, heldByList, heldByAccount, processOf, fixedTerm}
 use Rattle.rules.specs.ByList.{mean-by-list}
 use Rattle.laws.specs.Accepted.{Valid, ValidReturns, ValidInput}
 use Rattle.laws.specs.Date.{admits-within, amount-most, excess-paid-le, period-le, share-le, death-le}
 use Rattle.laws.specs.FixedTerm.{opened, closed}
+use Rattle.laws.specs.Terms.{startHeld}
 
 -- a discounted average is at most the largest value reached
 pub discounted-average : (d s x : ℕ) → d ≤ discountMost → s ≤ weightTotal * x → discounted d s ≤ x
@@ -25,8 +26,8 @@ unfolding discounted
 discounted-average d s x h l = div-le-of-le-mul 10000000000 (le-trans (mul-le-mul h l) (omega arith))
 
 pub mean-le : {c : Terms} {rs : Returns} {f : ℕ → ℕ} (x : ℕ) → Valid c → ValidReturns rs → ((k : ℕ) → k < rs .count → f k ≤ x)
-    → meanOf c rs f ≤ x
-unfolding meanOf
+    → meanByList c rs f ≤ x
+unfolding meanByList
 mean-le {c} {rs} x v r h = discounted-average (c .discount) _ x (v .discount) (weighted-le (rs .weight) _ (rs .count) (r .total) h)
 
 -- what no state's value passes on date i: 10,000 × top at maturity, and 20,000 × top for each decision to come with the arrival
@@ -82,19 +83,19 @@ module _ (c : Terms) (rs : Returns) (ds : Rates) (v : ValidInput c rs ds) where
       (v .returns .factor k l)
 
   -- what the first return pays on arrival
-  starts : (k : ℕ) → k < rs .count → processOf c rs ds .paid (startOf c) k ≤ 20000 * c .top
-  unfolding processOf paidBy startOf
+  starts : (k : ℕ) → k < rs .count → processOf c rs ds .paid (startHeld c) k ≤ 20000 * c .top
+  unfolding processOf paidBy
   starts k l = excess-paid-le (c .fee) (c .top) (c .premium) (rs .factor k) (v .terms .premium) (v .returns .factor k l)
 
   -- a death pays no more than 10,000 × top, with what is paid on arrival
   dies : (h : Held) (k x : ℕ) → InRange c (reachBy c rs h k) → paidBy c rs h k + 10000 * c .top ≤ x → deathBy c rs h k ≤ x
-  unfolding deathBy paidBy excessPaid
+  unfolding deathBy reachBy paidBy excessPaid
   dies h k x g room = le-trans (death-le _ _ _ (c .top) (g .account) (le-trans (g .guarantee) (v .terms .premium))) room
 
   within : (i : ℕ) (h : Held) (x : State → ℕ) (y : ℕ) → ((k : ℕ) → k < rs .count → InRange c (reachBy c rs h k))
       → ((k : ℕ) → k < rs .count → paidBy c rs h k + 10000 * c .top ≤ y)
-      → ((k : ℕ) → k < rs .count → reached (processOf c rs ds) x h k ≤ y) → meanOver c rs ds i h x ≤ y
-  unfolding expectOver
+      → ((k : ℕ) → k < rs .count → reached (processOf c rs ds) x h k ≤ y) → heldByAccount c rs ds i h x ≤ y
+  unfolding heldByList
   within i h x y range room g =
       rw (mean-by-list c rs ds i h x)
       (mean-le y (v .terms) (v .returns) (λ k l. share-le y (v .rates .rate i) (g k l) (dies h k y (range k l) (room k l))))

@@ -7,10 +7,13 @@ use lib.Dec.{leb}
 use Rattle.decision.specs.Index.{sum-eq, first}
 use Rattle.rules.specs.Contract.{Terms, Returns, Rates, rateMost}
 use Rattle.rules.specs.Date.{Behaviour, discounted}
-use Rattle.rules.specs.Product.{Product, stateValue, recordedAmount, contractValue, valueLayer, amountLayers, suppliedValue, suppliedLayer}
-use Rattle.rules.specs.FixedTerm.{State, Held, weightTo, excessMost, byAccount, meanByAccount, fixedTerm, listedTerm}
-use Rattle.rules.specs.ByList.{listed-contract}
-use Rattle.rules.specs.Fee.{withFee, feeValue, meets, smallestFee}
+use Rattle.rules.specs.Product.{Product, stateValue, recordedAmount, contractValue, valueLayer, amountLayers, suppliedValue}
+use Rattle.rules.specs.Product.{suppliedLayer}
+use Rattle.rules.specs.FixedTerm.{State, Held, weightTo, excessMost, byAccount, meanByAccount, fixedTerm}
+use Rattle.rules.specs.ByList.{listed-contract, listedTerm}
+use Rattle.rules.specs.Fee.{feeSought}
+use Rattle.laws.specs.Terms.{withFee}
+use Rattle.laws.specs.Fee.{smallestFee}
 
 -- only the accounts up to top count
 pub mean-by-account-same : (c : Terms) (rs : Returns) (balance : ℕ) {f g : ℕ → ℕ → ℕ} → ((w over : ℕ) → w ≤ c .top → f w over ≡ g w over)
@@ -53,7 +56,7 @@ module _ (c : Terms) (rs : Returns) (ds : Rates) where
   -- the fee
   pub by-list-fee : (b : Behaviour) (wanted : ℕ)
       → smallestFee c rs ds b wanted ≡ first (λ fee. leb (contractValue (listedTerm (withFee c fee) rs ds) b) wanted) (rateMost + 1)
-  unfolding smallestFee meets feeValue
+  unfolding smallestFee feeSought
   by-list-fee b wanted =
       ap (λ (F : Terms → Returns → Rates → Product State Held).
       first (λ fee. leb (contractValue (F (withFee c fee) rs ds) b) wanted) (rateMost + 1)) listed-contract

@@ -9,11 +9,14 @@ use Rattle.decision.specs.Index.{sum, sum-eq, sum-add, sum-times, tabulate, get
 use Rattle.rules.specs.Contract.{Terms, Returns, termsOf, returnsOf}
 use Rattle.rules.specs.Date.{penalty, cash, excess, excessPaid, maturityValue}
 use Rattle.rules.specs.Product.{walkState, walkAmount, walkHeld, walkPaid, walkCashOn, walkCashLast, walkCash}
-use Rattle.rules.specs.FixedTerm.{freeIn, rateIn, cashIn, paidBy, processOf, fixedTerm, livingTerm}
-use Rattle.rules.specs.Refusals.{accepted, onSuccess}
-use Rattle.rules.specs.Operations.{livingOf, walkChecks, walkVerdict, walkCashes}
-use Rattle.laws.specs.Accepted.{Valid, then-earlier, both-terms}
+use Rattle.rules.specs.FixedTerm.{freeIn, rateIn, cashIn, paidBy, processOf, fixedTerm}
+use Rattle.rules.specs.Refusals.{accepted, verdict, onSuccess}
+use Rattle.rules.specs.Operations.{filled, walkChecks, walkCashes}
+use Rattle.rules.specs.Policy.{livingPolicy}
+use Rattle.laws.specs.Walk.{walk-read}
+use Rattle.laws.specs.Accepted.{Valid, both-terms}
 use Rattle.laws.specs.Step.{rate-le}
+use Rattle.laws.specs.Terms.{livingTerm}
 
 -- the penalty on date j + 1, and the excess of the return that leads to date j + 1
 abbrev pub walkPenalty : Terms → Returns → List ℕ → List ℕ → ℕ → ℕ
@@ -90,15 +93,15 @@ module _ (c : Terms) (rs : Returns) (table path : List ℕ) (v : Valid c) where
       omega (arith, sum-times amounts 10000 n, sum-times (walkExcess c rs table path) 10000 n)
 
 -- .. of a walk that is accepted, by the cash that it leaves
-pub walk-settles : (bytes list table path cashes : List ℕ) → walkVerdict bytes list table path cashes ≡ accepted
-    → sum (λ j. getD (walkCashes bytes list table path cashes) j 0) (termsOf bytes .dates)
+pub walk-settles : (bytes list table path cashes : List ℕ) → verdict (walkChecks (livingPolicy bytes list) table path cashes) ≡ accepted
+    → sum (λ j. getD (walkCashes (livingPolicy bytes list) table path cashes) j 0) (termsOf bytes .dates)
     + sum (walkPenalty (termsOf bytes) (returnsOf list) table path) (termsOf bytes .dates - 1)
     ≡ walkDue (termsOf bytes) (returnsOf list) table path
-unfolding walkVerdict walkChecks walkCashes onSuccess livingOf
+unfolding walkCashes filled onSuccess fixedTerm processOf
 walk-settles bytes list table path cashes a =
     let c = termsOf bytes in
     let rs = returnsOf list in
-    let v = both-terms bytes list (then-earlier _ _ a) in
+    let v = both-terms bytes list (walk-read (livingPolicy bytes list) table path cashes a) in
     let cash = walkCash (livingTerm c rs) table path in
     let long = cash-long c rs table path v in
     let front = sum-eq (λ j. getD (cash ++ drop (c .dates) cashes) j 0) (λ j. getD cash j 0) (c .dates) (λ j l.

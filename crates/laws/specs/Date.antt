@@ -10,8 +10,8 @@ use lib.Dec.{T, lit<, leb, ltb, eqb, eqb→eq, eqb-refl, leb→le, le→leb, ltb
 use borrow.Author.Tests.{le-leb, lt-leb}
 use Rattle.decision.specs.Choice.{and-left, and-right, and-intro}
 use Rattle.rules.specs.Contract.{rateMost, factorMost}
-use Rattle.rules.specs.Date.{Behaviour, static, mixed, dynamic, freeAmount, largestAmount, surrenders, admits, cash}
-use Rattle.rules.specs.Date.{guaranteeAfter, balanceAfter, nextAccount, excess, excessPaid, deathPayment, deathShare}
+use Rattle.rules.specs.Date.{Behaviour, static, mixed, dynamic, freeAmount, largestAmount, surrenders, admits, cash, guaranteeAfter}
+use Rattle.rules.specs.Date.{balanceAfter, nextAccount, excess, excessPaid, deathPayment, deathShare}
 use Rattle.rules.specs.Facts.{lifted-le}
 
 -- ---- admissible amounts

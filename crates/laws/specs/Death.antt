@@ -9,13 +9,13 @@ use Rattle.decision.specs.Process.{reached, startValue, startTableValue}
 use Rattle.rules.specs.Contract.{Terms, Returns, Rates, word, termsOf, returnsOf, rateBytes, ratesOf}
 use Rattle.rules.specs.Date.{Behaviour, deathPayment, deathShare}
 use Rattle.rules.specs.Product.{Product, stateValue, contractValue, valueLayer, amountLayers, suppliedValue, suppliedLayer}
-use Rattle.rules.specs.FixedTerm.{State, Held, deathBy, meanOf, expectOver, meanByAccount, valueWith, meanOver, startOf, processOf}
-use Rattle.rules.specs.FixedTerm.{fixedTerm, livingTerm}
+use Rattle.rules.specs.FixedTerm.{State, Held, deathBy, meanByList, heldByList, meanByAccount, valueWith, heldByAccount, processOf}
+use Rattle.rules.specs.FixedTerm.{fixedTerm}
 use Rattle.rules.specs.ByList.{mean-by-list}
-use Rattle.rules.specs.Refusals.{onSuccess}
-use Rattle.rules.specs.Operations.{productOf, recordVerdict}
-use Rattle.rules.specs.Printed.{zeroRates, programOf}
+use Rattle.rules.specs.Refusals.{verdict, onSuccess, recordChecks}
+use Rattle.rules.specs.Printed.{zeroRateBytes, programOf}
 use Rattle.laws.specs.Date.{share-living, share-certain}
+use Rattle.laws.specs.Terms.{startHeld, livingTerm}
 
 -- a product that expects and averages by other rules, and is the same in all else
 abbrev pub expecting : {S H : Type 0} → (ℕ → H → (ℕ → ℕ) → ℕ) → (ℕ → H → (S → ℕ) → ℕ) → Product S H → Product S H
@@ -29,18 +29,19 @@ expecting expects means X = record {
     after = X .process .after;
     reach = X .process .reach;
     paid = X .process .paid;
-    expect = expects;
-    mean = means;
+    byList = expects;
+    byState = means;
     final = X .process .final;
   };
   admissible = X .admissible;
+  surrender = X .surrender;
   layout = X .layout;
 }
 
 -- the contract without death, as it is up to (iv)
 unfoldable pub deathless : Terms → Returns → Product State Held
 deathless c rs =
-    expecting (λ i h. meanOf c rs)
+    expecting (λ i h. meanByList c rs)
     (λ i h v. meanByAccount c rs (h .balance) (λ w over. 10000 * over + v (record { account = w; guarantee = h .guarantee })))
     (livingTerm c rs)
 
@@ -51,9 +52,9 @@ module _ (c : Terms) (rs : Returns) (ds : Rates) (none : (i : ℕ) → ds i ≡ 
 
   -- the whole product, so all that is said of it
   pub zero-rates : fixedTerm c rs ds ≡ deathless c rs
-  unfolding fixedTerm processOf expectOver meanOver valueWith deathless
+  unfolding fixedTerm processOf heldByList heldByAccount valueWith deathless
   zero-rates j =
-      expecting (λ i h x. meanOf c rs (λ k. shared-none i (x k) (deathBy c rs h k) j))
+      expecting (λ i h x. meanByList c rs (λ k. shared-none i (x k) (deathBy c rs h k) j))
       (λ i h v. meanByAccount c rs (h .balance) (λ w over.
       shared-none i (10000 * over + v (record { account = w; guarantee = h .guarantee })) (deathPayment w (h .guarantee) over) j))
       (livingTerm c rs)
@@ -90,26 +91,27 @@ unfolding ratesOf word
 zero-bytes n i = let low = getD-zeros n (2 * i) in let high = getD-zeros n (2 * i + 1) in omega arith
 
 -- .. and the program's
-pub program-deathless : (bytes list : List ℕ) → programOf bytes list ≡ deathless (termsOf bytes) (returnsOf list)
-unfolding productOf zeroRates
+pub program-deathless : (bytes list : List ℕ) → programOf bytes list .product ≡ deathless (termsOf bytes) (returnsOf list)
+unfolding zeroRateBytes
 program-deathless bytes list =
-    zero-rates (termsOf bytes) (returnsOf list) _ (zero-bytes (onSuccess (recordVerdict bytes) (rateBytes * termsOf bytes .dates) 0))
+    zero-rates (termsOf bytes) (returnsOf list) _ (zero-bytes
+    (onSuccess (verdict (recordChecks bytes)) (rateBytes * termsOf bytes .dates) 0))
 
 -- ---- a rate of 10,000 on the first period: the discounted mean of the death payments, whatever is withdrawn later
 module _ (c : Terms) (rs : Returns) (ds : Rates) (sure : ds 0 ≡ 10000) where
   certain : (value payment : ℕ) → deathShare (ds 0) value payment ≡ payment
   certain value payment = ap (λ (r : ℕ). deathShare r value payment) sure ∙ share-certain value payment
 
-  only-death : (v : State → ℕ) → meanOver c rs ds 0 (startOf c) v ≡ meanOf c rs (deathBy c rs (startOf c))
-  unfolding expectOver
+  only-death : (v : State → ℕ) → heldByAccount c rs ds 0 (startHeld c) v ≡ meanByList c rs (deathBy c rs (startHeld c))
+  unfolding heldByList
   only-death v =
-      mean-by-list c rs ds 0 (startOf c) v
-      ∙ (λ j. meanOf c rs (λ k. certain (reached (processOf c rs ds) v (startOf c) k) (deathBy c rs (startOf c) k) j))
+      mean-by-list c rs ds 0 (startHeld c) v
+      ∙ (λ j. meanByList c rs (λ k. certain (reached (processOf c rs ds) v (startHeld c) k) (deathBy c rs (startHeld c) k) j))
 
-  pub certain-death : (b : Behaviour) → contractValue (fixedTerm c rs ds) b ≡ meanOf c rs (deathBy c rs (startOf c))
+  pub certain-death : (b : Behaviour) → contractValue (fixedTerm c rs ds) b ≡ meanByList c rs (deathBy c rs (startHeld c))
   unfolding contractValue startValue fixedTerm processOf
   certain-death b = only-death _
 
-  pub certain-death-supplied : (table : List ℕ) → suppliedValue (fixedTerm c rs ds) table ≡ meanOf c rs (deathBy c rs (startOf c))
+  pub certain-death-supplied : (table : List ℕ) → suppliedValue (fixedTerm c rs ds) table ≡ meanByList c rs (deathBy c rs (startHeld c))
   unfolding suppliedValue startTableValue fixedTerm processOf
   certain-death-supplied table = only-death _

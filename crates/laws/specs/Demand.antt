@@ -4,9 +4,9 @@ use mathlib.Core.Path.{_≡_}
 use Prim.Native.Nat.{ℕ, suc, _-_, _≤_, _<_}
 use native.Mathlib.Omega.{arith}
 use lib.Dec.{T}
-use Rattle.decision.specs.Process.{Process, Averaging, Open, Closed, Decides, Attained}
+use Rattle.decision.specs.Process.{Averaging, Open, Closed, Decides, Attained}
 use Rattle.decision.specs.Optimal.{attained, wider, start-wider}
-use Rattle.decision.specs.Layers.{Layout, Placed, lookup, lookup-layers}
+use Rattle.decision.specs.Layers.{Placed, lookup, lookup-layers}
 use Rattle.rules.specs.Date.{Behaviour, static, mixed, dynamic}
 use Rattle.rules.specs.Product.{Product, decisions, stateValue, recordedAmount, contractValue, amountLayers, AtMost, ThirdDemand}
 

@@ -10,19 +10,25 @@ use Rattle.decision.specs.Index.{tabulate-eq}
 use Rattle.decision.specs.Means.{SameMeans, value-same, recorded-same, start-same, table-same, start-table-same}
 use Rattle.decision.specs.Arrivals.{arriving, Alike, arriving-means, start-met-same}
 use Rattle.decision.specs.Layers.{lookup, layer, layers}
-use Rattle.rules.specs.Contract.{Terms, Returns, Rates, living}
+use Rattle.rules.specs.Contract.{Terms, Returns, Rates, zeroRates}
 use Rattle.rules.specs.Date.{Behaviour, balanceAfter, liftedAccount, excess, excessPaid}
 use Rattle.rules.specs.Product.{Product, stateValue, recordedAmount, contractValue, valueLayer, amountLayers, suppliedValue}
 use Rattle.rules.specs.Product.{suppliedLayer, walkState, walkAmount, walkHeld, walkPaid, walkCashOn, walkCashLast, walkCash}
-use Rattle.rules.specs.FixedTerm.{State, Held, InRange, admissibleIn, cashIn, afterIn, paidBy, startOf, processOf, layerSize}
-use Rattle.rules.specs.FixedTerm.{layoutOf, fixedTerm, livingTerm}
+use Rattle.rules.specs.FixedTerm.{State, Held, InRange, admissibleIn, cashIn, afterIn, paidBy, processOf, layerSize, layoutOf, fixedTerm}
+use Rattle.rules.specs.FixedTerm.{surrenderIn}
 use Rattle.laws.specs.Accepted.{Valid}
 use Rattle.laws.specs.FixedTerm.{averages, reached-in-range, after-falls, placed-in-range, size-some}
 use Rattle.laws.specs.Walk.{walk-held}
+use Rattle.laws.specs.Terms.{livingTerm}
 
 -- the contract whose ceiling pays nothing, as document 01 has it
 unfoldable pub unpaid : Terms → Returns → Rates → Product State Held
-unpaid c rs ds = record { process = arriving (λ h k. 0) (processOf c rs ds); admissible = admissibleIn c; layout = layoutOf c }
+unpaid c rs ds = record {
+  process = arriving (λ h k. 0) (processOf c rs ds);
+  admissible = admissibleIn c;
+  surrender = surrenderIn c;
+  layout = layoutOf c;
+}
 
 -- no return lifts any balance up to top above top
 abbrev pub NoneAbove : Terms → Returns → Type 0
@@ -53,7 +59,7 @@ module _ (c : Terms) (rs : Returns) (v : Valid c) (none : NoneAbove c rs) where
 
   module _ (ds : Rates) where
     alike : Alike (processOf c rs ds) (λ h k. 0) (InRange c) (Within c)
-    unfolding processOf startOf afterIn balanceAfter
+    unfolding processOf afterIn balanceAfter
     alike = record {
       starts = record { balance = v .premium; guarantee = le-refl _ };
       holds = λ i s t g. record { balance = le-trans (sub-le _ _) (g .account); guarantee = after-falls c i s t (g .guarantee) };
@@ -97,11 +103,11 @@ module _ (c : Terms) (rs : Returns) (v : Valid c) (none : NoneAbove c rs) where
 
   -- a walk whose numbers are those of returns
   module _ (table path : List ℕ) (long : length path ≡ c .dates) (numbers : (j : ℕ) → j < c .dates → getD path j 0 < rs .count) where
-    state-same : (i : ℕ) → walkState (livingTerm c rs) table path i ≡ walkState (unpaid c rs living) table path i
+    state-same : (i : ℕ) → walkState (livingTerm c rs) table path i ≡ walkState (unpaid c rs zeroRates) table path i
     unfolding walkState fixedTerm unpaid
-    state-same i = start-met-same (processOf c rs living) (λ h k. 0) (lookup (layoutOf c) table) (take i path)
+    state-same i = start-met-same (processOf c rs zeroRates) (λ h k. 0) (lookup (layoutOf c) table) (take i path)
 
-    amount-same : (i : ℕ) → walkAmount (livingTerm c rs) table path i ≡ walkAmount (unpaid c rs living) table path i
+    amount-same : (i : ℕ) → walkAmount (livingTerm c rs) table path i ≡ walkAmount (unpaid c rs zeroRates) table path i
     unfolding walkAmount fixedTerm unpaid
     amount-same i = ap (lookup (layoutOf c) table i) (state-same i)
 
@@ -111,11 +117,11 @@ module _ (c : Terms) (rs : Returns) (v : Valid c) (none : NoneAbove c rs) where
         let h = walk-held c rs table path (v .premium) j (omega arith) in
         nothing-paid (walkHeld (livingTerm c rs) table path j) _ (numbers j l) (record { balance = h .0; guarantee = h .1 })
 
-    pub no-excess-walk : walkCash (livingTerm c rs) table path ≡ walkCash (unpaid c rs living) table path
+    pub no-excess-walk : walkCash (livingTerm c rs) table path ≡ walkCash (unpaid c rs zeroRates) table path
     unfolding walkCash walkCashOn walkCashLast walkPaid fixedTerm unpaid processOf
     no-excess-walk =
         ap₂ _++_
         (tabulate-eq (c .dates - 1) _ _ (λ j l.
         ap₂ _+_ (none-paid j (omega arith)) (ap₂ (cashIn c (suc j)) (state-same (suc j)) (amount-same (suc j)))))
         (ap (λ (x : ℕ). x ∷ []) (ap₂ _+_ (none-paid (c .dates - 1) (omega (arith, v .dates-least)))
-        (ap (processOf c rs living .final) (state-same (c .dates)))))
+        (ap (processOf c rs zeroRates .final) (state-same (c .dates)))))

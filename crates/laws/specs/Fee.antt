@@ -1,24 +1,42 @@
 -- Request (vi): a larger fee is never worth more, and what the search for a fee finds. Assumes nothing.
+use mathlib.Core.Bool.{Bool}
 use mathlib.Core.Logic.{_⊎_, inl, inr, _↔_}
 use mathlib.Core.Path.{_≡_, refl, sym, subst}
 use Prim.Native.Nat.{ℕ, _+_, _-_, _≤_, _<_}
 use native.Mathlib.Nat.{le-refl, le-trans, le-of-eq, sub-le}
 use native.Mathlib.Omega.{arith}
 use lib.Dec.{T, leb, leb→le, le→leb, nleb→lt, not-T}
-use Rattle.decision.specs.Index.{first-is, is-first, none-found, false-is}
+use Rattle.decision.specs.Index.{first, first-is, is-first, none-found, false-is}
 use Rattle.decision.specs.Compare.{Matched, value-less, start-less}
 use Rattle.decision.specs.Bisection.{Lasting}
 use Rattle.rules.specs.Contract.{Terms, Returns, Rates, rateMost}
 use Rattle.rules.specs.Date.{Behaviour, static, mixed, dynamic, freeAmount, admits, rateOn, cash, guaranteeAfter}
 use Rattle.rules.specs.Product.{stateValue, contractValue}
-use Rattle.rules.specs.FixedTerm.{State, Held, freeIn, admissibleIn, rateIn, cashIn, afterIn, reachBy, paidBy, deathBy, meanOf}
-use Rattle.rules.specs.FixedTerm.{expectOver, startOf, processOf, fixedTerm}
-use Rattle.rules.specs.Fee.{withFee, feeValue, meets, smallestFee}
+use Rattle.rules.specs.FixedTerm.{State, Held, freeIn, admissibleIn, rateIn, cashIn, afterIn, reachBy, paidBy, deathBy, meanByList}
+use Rattle.rules.specs.FixedTerm.{heldByList, processOf, fixedTerm}
+use Rattle.rules.specs.Fee.{feeSought}
+use Rattle.laws.specs.Terms.{startHeld, withFee}
 use Rattle.laws.specs.Date.{dynamic-is, share-mono}
 use Rattle.laws.specs.FixedTerm.{mean-mono, averages, opened}
 use Rattle.laws.specs.Rising.{account-rises, excess-rises, excess-paid-rises, maturity-rises, death-rises, free-rises}
 use Rattle.laws.specs.Rising.{dynamic-rises, cash-rises, balance-rises, guarantee-rises, answered, Answers, mixed-answers}
 use Rattle.laws.specs.Rising.{static-answers}
+
+-- ---- by terms, returns and rates: the value under a fee, whether it does not exceed a wanted one, and the fee sought
+unfoldable pub feeValue : Terms → Returns → Rates → Behaviour → ℕ → ℕ
+feeValue c rs ds b fee = contractValue (fixedTerm (withFee c fee) rs ds) b
+
+unfoldable pub meets : Terms → Returns → Rates → Behaviour → ℕ → ℕ → Bool
+meets c rs ds b wanted fee = leb (feeValue c rs ds b fee) wanted
+
+unfoldable pub smallestFee : Terms → Returns → Rates → Behaviour → ℕ → ℕ
+smallestFee c rs ds b wanted = feeSought (λ fee. fixedTerm (withFee c fee) rs ds) b wanted
+
+-- it is the first fee that meets the wanted value
+pub first-to-meet : (c : Terms) (rs : Returns) (ds : Rates) (b : Behaviour) (wanted : ℕ)
+    → smallestFee c rs ds b wanted ≡ first (meets c rs ds b wanted) (rateMost + 1)
+unfolding smallestFee feeSought meets feeValue
+first-to-meet c rs ds b wanted = refl
 
 -- the guarantees that are compared: under static and mixed withdrawals one and the same, under dynamic ones also a larger one. A
 -- static holder of more guarantee has to withdraw more, and may be worth less.
@@ -72,12 +90,11 @@ module _ (c : Terms) (rs : Returns) (ds : Rates) (small : c .penalty ≤ rateMos
         (excess-rises (c .top) (rs .factor k) fees (l .balance))
 
     expects : (i : ℕ) (h g : Held) (v w : ℕ → ℕ) → Less b h g → ((k : ℕ) → v k ≤ w k)
-        → expectOver dear rs ds i h v ≤ expectOver cheap rs ds i g w
-    unfolding meanOf expectOver
+        → heldByList dear rs ds i h v ≤ heldByList cheap rs ds i g w
+    unfolding meanByList heldByList
     expects i h g v w l m = mean-mono c rs (λ k n. share-mono (ds i) (m k) (dies h g k l))
 
-    starts : Less b (startOf dear) (startOf cheap)
-    unfolding startOf
+    starts : Less b (startHeld dear) (startHeld cheap)
     starts = record { balance = le-refl _; guarantee = covered-same b (c .premium) }
 
     final : (s u : State) → Below b s u → processOf dear rs ds .final s ≤ processOf cheap rs ds .final u
@@ -108,7 +125,7 @@ module _ (c : Terms) (rs : Returns) (ds : Rates) (small : c .penalty ≤ rateMos
     };
     reach = reaches dynamic;
     paid = pays dynamic;
-    expect = expects dynamic;
+    byList = expects dynamic;
   }
 
   -- static and mixed: one guarantee, and an answer that keeps it
@@ -146,7 +163,7 @@ module _ (c : Terms) (rs : Returns) (ds : Rates) (small : c .penalty ≤ rateMos
         };
         reach = reaches b;
         paid = pays b;
-        expect = expects b;
+        byList = expects b;
       }
 
   fee-answers : (b : Behaviour) → Fees b
@@ -191,7 +208,7 @@ pub record Sought (c : Terms) (rs : Returns) (ds : Rates) (b : Behaviour) (wante
 
 module _ (c : Terms) (rs : Returns) (ds : Rates) (b : Behaviour) (wanted : ℕ) where
   pub fee-sought : smallestFee c rs ds b wanted ≤ rateMost → Sought c rs ds b wanted (smallestFee c rs ds b wanted)
-  unfolding smallestFee meets
+  unfolding smallestFee feeSought meets feeValue
   fee-sought l =
       let x = first-is (meets c rs ds b wanted) (rateMost + 1) in record {
         within = l;
@@ -204,7 +221,7 @@ module _ (c : Terms) (rs : Returns) (ds : Rates) (b : Behaviour) (wanted : ℕ) 
 
   -- none is, exactly where every fee gives more
   pub no-fee : (rateMost < smallestFee c rs ds b wanted) ↔ ((fee : ℕ) → fee ≤ rateMost → wanted < feeValue c rs ds b fee)
-  unfolding smallestFee meets
+  unfolding smallestFee feeSought meets feeValue
   no-fee = (
     λ l fee m. nleb→lt _ wanted (not-T (leb (feeValue c rs ds b fee) wanted) (λ t.
         first-is (meets c rs ds b wanted) (rateMost + 1) .none fee (omega arith) (omega arith) t)),
@@ -217,7 +234,7 @@ module _ (c : Terms) (rs : Returns) (ds : Rates) (b : Behaviour) (wanted : ℕ) 
     -- values fall with the fee, so a fee is told by its own value and that of the fee before it ..
     pub fee-is : (fee : ℕ) → fee ≤ rateMost → feeValue c rs ds b fee ≤ wanted → (fee ≡ 0) ⊎ (wanted < feeValue c rs ds b (fee - 1))
         → smallestFee c rs ds b wanted ≡ fee
-    unfolding smallestFee meets
+    unfolding smallestFee feeSought meets feeValue
     fee-is fee l enough before = is-first (record {
       from = omega arith;
       within = omega arith;

@@ -7,32 +7,32 @@ use Rattle.decision.specs.Process.{Averaging, Open, Closed}
 use Rattle.decision.specs.Layers.{Placed, low-digit, high-digit, two-digits}
 use Rattle.rules.specs.Contract.{Terms, Returns, Rates}
 use Rattle.rules.specs.Date.{Behaviour, largestAmount, discounted}
-use Rattle.rules.specs.FixedTerm.{State, Held, InRange, freeIn, admissibleIn, limitIn, afterIn, reachBy, deathBy, meanOf, expectOver}
-use Rattle.rules.specs.FixedTerm.{startOf, processOf, layerSize, layoutOf, fixedTerm}
+use Rattle.rules.specs.FixedTerm.{State, Held, InRange, freeIn, admissibleIn, afterIn, reachBy, deathBy, meanByList, heldByList}
+use Rattle.rules.specs.FixedTerm.{processOf, layerSize, layoutOf, fixedTerm}
 use Rattle.rules.specs.ByList.{mean-by-list}
-use Rattle.rules.specs.Operations.{tableSize}
 use Rattle.laws.specs.Accepted.{Valid}
 use Rattle.laws.specs.Date.{static-mixed, mixed-dynamic, admits-free, admits-within, guarantee-le, account-le, share-mono}
 use Rattle.laws.specs.Demand.{Sound}
+use Rattle.laws.specs.Terms.{startHeld, tableSize}
 
 discounted-le : (d x y : ℕ) → x ≤ y → discounted d x ≤ discounted d y
 unfolding discounted
 discounted-le d x y l = let m = mul-le-mul-left d l in omega arith
 
 -- more reached is never a smaller mean
-pub mean-mono : (c : Terms) (rs : Returns) {f g : ℕ → ℕ} → ((k : ℕ) → k < rs .count → f k ≤ g k) → meanOf c rs f ≤ meanOf c rs g
-unfolding meanOf
+pub mean-mono : (c : Terms) (rs : Returns) {f g : ℕ → ℕ} → ((k : ℕ) → k < rs .count → f k ≤ g k) → meanByList c rs f ≤ meanByList c rs g
+unfolding meanByList
 mean-mono c rs h = discounted-le (c .discount) _ _ (sum-le _ _ (rs .count) (λ k l. mul-le-mul-left (rs .weight k) (h k l)))
 
 pub averages : (c : Terms) (rs : Returns) (ds : Rates) → Averaging (processOf c rs ds)
-unfolding processOf expectOver
+unfolding processOf heldByList
 averages c rs ds = record {
   rises = λ i h v w g. mean-mono c rs (λ k l. share-mono (ds i) (g k l) (le-refl (deathBy c rs h k)));
   listed = mean-by-list c rs ds;
 }
 
 pub opened : (c : Terms) (rs : Returns) (ds : Rates) (b : Behaviour) → Open (processOf c rs ds) (admissibleIn c b)
-unfolding processOf admissibleIn limitIn largestAmount
+unfolding processOf admissibleIn largestAmount
 opened c rs ds b = record {
   some = freeIn c;
   admissible = λ s. admits-free b (freeIn c s) (s .account);
@@ -50,9 +50,9 @@ after-falls c i s t g = le-trans (guarantee-le (freeIn c s) (s .account) (s .gua
 
 -- whatever is withdrawn, the next state has an entry
 pub closed : (c : Terms) (rs : Returns) (ds : Rates) (b : Behaviour) → Closed (processOf c rs ds) (admissibleIn c b) (InRange c)
-unfolding processOf afterIn startOf
+unfolding processOf afterIn
 closed c rs ds b = record {
-  starts = λ k l. reached-in-range c rs (startOf c) k (le-refl _);
+  starts = λ k l. reached-in-range c rs (startHeld c) k (le-refl _);
   stays = λ i s t k g p l. reached-in-range c rs (afterIn c i s t) k (after-falls c i s t (g .guarantee));
 }
 

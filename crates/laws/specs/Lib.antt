@@ -1,4 +1,5 @@
 -- What is proved of the rules.
+pub mod Terms
 pub mod Accepted
 pub mod Date
 pub mod Demand

@@ -11,8 +11,8 @@ use borrow.Author.Tests.{le-leb, lt-leb}
 use Rattle.rules.specs.Contract.{rateMost}
 use Rattle.rules.specs.Date.{Behaviour, static, mixed, dynamic, freeAmount, admits, penalty, cash, guaranteeAfter, balanceAfter}
 use Rattle.rules.specs.Date.{liftedAccount, nextAccount, excess, excessPaid, maturityValue, deathPayment}
-use Rattle.laws.specs.Date.{mixed-is, dynamic-is, is-dynamic, static-mixed}
-use Rattle.laws.specs.Date.{admits-free, admits-surrender, guarantee-free, guarantee-above}
+use Rattle.laws.specs.Date.{mixed-is, dynamic-is, is-dynamic, static-mixed, admits-free, admits-surrender, guarantee-free}
+use Rattle.laws.specs.Date.{guarantee-above}
 
 -- ---- what a return makes: a larger fee, and a smaller balance, never more
 pub lifted-rises : {low high x y : ℕ} (factor : ℕ) → low ≤ high → x ≤ y → liftedAccount high x factor ≤ liftedAccount low y factor

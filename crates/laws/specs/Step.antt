@@ -8,7 +8,7 @@ use Rattle.rules.specs.Contract.{Terms, Returns, Rates, bytesOf}
 use Rattle.rules.specs.Date.{Behaviour, freeAmount, rateOn, penalty, cash, guaranteeAfter, balanceAfter}
 use Rattle.rules.specs.Product.{Product, stateValue, contractValue, valueLayer, amountLayers, suppliedValue, suppliedLayer, walkCash}
 use Rattle.rules.specs.FixedTerm.{State, Held, freeIn, rateIn, cashIn, processOf, fixedTerm}
-use Rattle.rules.specs.Operations.{bookingBytes}
+use Rattle.rules.specs.Booking.{bookingBytes}
 
 -- ---- the rate
 -- date 1 has the record's own rate
@@ -46,11 +46,12 @@ paying pays X = record {
     after = X .process .after;
     reach = X .process .reach;
     paid = X .process .paid;
-    expect = X .process .expect;
-    mean = X .process .mean;
+    byList = X .process .byList;
+    byState = X .process .byState;
     final = X .process .final;
   };
   admissible = X .admissible;
+  surrender = X .surrender;
   layout = X .layout;
 }
 

@@ -1,130 +1,114 @@
--- The checks of a valuation beyond the record, the list and the rates. Assumes nothing.
+-- The checks of a valuation beyond those of what a policy is read from, of any policy. Assumes nothing.
 use mathlib.Core.Bool.{Bool, true, false, cond, not, _||_}
 use mathlib.Core.List.{List, [], _∷_, _++_}
 use mathlib.Core.Logic.{_↔_}
 use mathlib.Core.Path.{_≡_, refl, ap, sym, _∙_, subst}
-use Prim.Native.Nat.{ℕ, _+_, _*_, _≤_}
+use Prim.Native.Nat.{ℕ, _*_, _≤_}
 use native.Mathlib.Nat.{zero-add}
 use native.Mathlib.Omega.{arith}
 use lib.Dec.{T, ltb, eqb, nltb→le}
 use borrow.Author.Tests.{le-ltb}
 use lib.ListN.{length}
 use Rattle.decision.specs.Index.{first}
-use Rattle.rules.specs.Contract.{Terms, termsOf, rateMost, rateBytes, ratesOf}
-use Rattle.rules.specs.FixedTerm.{layerSize}
-use Rattle.rules.specs.Refusals.{Check, check, checkEach, Verdict, accepted, refused, verdict, numbers, short, termsChecks}
-use Rattle.rules.specs.Refusals.{recordChecks, listChecks}
+use Rattle.rules.specs.Contract.{Input, termsOf, rateMost, rateBytes, ratesOf}
+use Rattle.rules.specs.Product.{entries}
+use Rattle.rules.specs.Refusals.{check, checkEach, Verdict, accepted, refused, verdict, short, termsChecks, recordChecks, listChecks}
 use Rattle.rules.specs.Refusals.{ratesChecks, inputChecks}
-use Rattle.rules.specs.Operations.{tableSize, lentChecks, valuingChecks, valuingVerdict, valuedAnswer, valuedWork, valuingAnswer}
-use Rattle.rules.specs.Operations.{valuingWork, workChecks, aloneChecks, aloneVerdict, aloneAnswer, aloneWork}
-use Rattle.laws.specs.Accepted.{nor-left, nor-right, AllPass, all-pass, andThen, verdict-append, then-later, apart, absent}
-use Rattle.laws.specs.Accepted.{refused-iff}
+use Rattle.rules.specs.Operations.{Policy, workSize, slicesShort, valuingChecks, valuedAnswer, valuedWork, noTableChecks}
+use Rattle.rules.specs.Policy.{policyOf}
+use Rattle.rules.specs.Facts.{checkNumbers}
+use Rattle.laws.specs.Accepted.{AllPass, all-pass, andThen, verdict-append, then-accepted, then-refused, then-earlier, then-later}
+use Rattle.laws.specs.Accepted.{apart, absent, refused-iff}
 
--- ---- the checks that need no table
-module _ (c : Terms) (behaviour : ℕ) (work : List ℕ) where
-  pub behaviour-refused : ltb 2 behaviour ≡ true → verdict (workChecks c behaviour work) ≡ refused 10 0
-  unfolding workChecks verdict
-  behaviour-refused e = rw e
+module _ {S H : Type 0} (p : Policy S H) (behaviour : ℕ) (work : List ℕ) where
+  -- ---- with no table: the checks of what is read come first ..
+  pub no-table-refused : {n q : ℕ} → verdict (p .checks) ≡ refused n q → verdict (noTableChecks p behaviour work) ≡ refused n q
+  unfolding noTableChecks
+  no-table-refused e = then-refused (p .checks) _ e
 
-  pub work-refused : ltb 2 behaviour ≡ false → short (2 * layerSize c) work ≡ true → verdict (workChecks c behaviour work) ≡ refused 11 0
-  unfolding workChecks verdict
-  work-refused e f = rw (e, f)
+  pub no-table-read : verdict (noTableChecks p behaviour work) ≡ accepted → verdict (p .checks) ≡ accepted
+  unfolding noTableChecks
+  no-table-read a = then-earlier (p .checks) _ a
 
-  pub work-accepted : ltb 2 behaviour ≡ false → short (2 * layerSize c) work ≡ false → verdict (workChecks c behaviour work) ≡ accepted
-  unfolding workChecks verdict
-  work-accepted e f = rw (e, f)
+  -- .. then the behaviour and the working slice
+  module _ (read : verdict (p .checks) ≡ accepted) where
+    pub behaviour-refused : ltb 2 behaviour ≡ true → verdict (noTableChecks p behaviour work) ≡ refused 10 0
+    unfolding noTableChecks verdict
+    behaviour-refused e = then-accepted (p .checks) _ read ∙ rw e
 
--- a valuation that is accepted: its behaviour is known and its working slice is long enough
-pub record RoomAlone (behaviour : ℕ) (c : Terms) (work : List ℕ) : Type 0 where
-  pub known : behaviour ≤ 2
-  pub layers : layerSize c + layerSize c ≤ length work
+    pub work-refused : ltb 2 behaviour ≡ false → short (workSize p) work ≡ true → verdict (noTableChecks p behaviour work) ≡ refused 11 0
+    unfolding noTableChecks verdict
+    work-refused e f = then-accepted (p .checks) _ read ∙ rw (e, f)
 
-pub alone-room : (bytes list rates : List ℕ) (behaviour : ℕ) (work : List ℕ) → aloneVerdict bytes list rates behaviour work ≡ accepted
-    → RoomAlone behaviour (termsOf bytes) work
-unfolding aloneVerdict aloneChecks workChecks AllPass short
-alone-room bytes list rates behaviour work a =
-    let t = all-pass _ (then-later (inputChecks bytes list rates) _ a) in
-    let w = nltb→le (length work) (2 * layerSize (termsOf bytes)) (t .1 .0) in
-    record { known = nltb→le 2 behaviour (t .0); layers = omega arith }
+    pub work-accepted : ltb 2 behaviour ≡ false → short (workSize p) work ≡ false → verdict (noTableChecks p behaviour work) ≡ accepted
+    unfolding noTableChecks verdict
+    work-accepted e f = then-accepted (p .checks) _ read ∙ rw (e, f)
 
--- ---- .. and behind them the length of the table
-abbrev pub tableCheck : Terms → List ℕ → List Check
-tableCheck c table = check 11 0 (short (tableSize c) table) ∷ []
+  -- a valuation that is accepted: its behaviour is known and its working slice is long enough
+  pub record WorkRoom : Type 0 where
+    pub known : behaviour ≤ 2
+    pub layers : workSize p ≤ length work
 
-lent-last : (c : Terms) (behaviour : ℕ) (work table : List ℕ)
-    → verdict (lentChecks c behaviour work table) ≡ andThen (verdict (workChecks c behaviour work)) (verdict (tableCheck c table))
-unfolding lentChecks workChecks verdict
-lent-last c behaviour work table = go (ltb 2 behaviour) (short (2 * layerSize c) work) (short (tableSize c) table)
-  where
-    go : (x y z : Bool)
-        → cond x (refused 10 0) (cond (y || z) (refused 11 0) accepted)
-        ≡ andThen (cond x (refused 10 0) (cond y (refused 11 0) accepted)) (cond z (refused 11 0) accepted)
-    go true y z = refl
-    go false true z = refl
-    go false false true = refl
-    go false false false = refl
+  pub no-table-room : verdict (noTableChecks p behaviour work) ≡ accepted → WorkRoom
+  unfolding noTableChecks AllPass short
+  no-table-room a =
+      let t = all-pass _ (then-later (p .checks) _ a) in
+      record { known = nltb→le 2 behaviour (t .0); layers = nltb→le (length work) (workSize p) (t .1 .0) }
 
-then-assoc : (u v w : Verdict) → andThen u (andThen v w) ≡ andThen (andThen u v) w
-then-assoc accepted v w = refl
-then-assoc (refused n p) v w = refl
+  -- ---- .. and last the length of the table
+  module _ (table : List ℕ) where
+    abbrev pub tableVerdict : Verdict
+    tableVerdict = verdict (check 11 0 (short (entries (p .product)) table) ∷ [])
 
-module _ (bytes list rates : List ℕ) (behaviour : ℕ) (work table : List ℕ) where
-  -- valuing is refused as without a table, and then where the table is too short
-  pub table-last : valuingVerdict bytes list rates behaviour work table
-      ≡ andThen (aloneVerdict bytes list rates behaviour work) (verdict (tableCheck (termsOf bytes) table))
-  unfolding valuingVerdict valuingChecks aloneVerdict aloneChecks
-  table-last =
-      let given = verdict (inputChecks bytes list rates) in
-      let last = verdict (tableCheck (termsOf bytes) table) in
-      verdict-append (inputChecks bytes list rates) _
-      ∙ ap (andThen given) (lent-last (termsOf bytes) behaviour work table)
-      ∙ then-assoc given (verdict (workChecks (termsOf bytes) behaviour work)) last
-      ∙ ap (λ (v : Verdict). andThen v last) (sym (verdict-append (inputChecks bytes list rates) _))
+    -- valuing is refused as without a table, and then where the table is too short
+    pub table-last : verdict (valuingChecks p behaviour work table) ≡ andThen (verdict (noTableChecks p behaviour work)) tableVerdict
+    unfolding valuingChecks noTableChecks slicesShort verdict
+    table-last =
+        verdict-append (p .checks) _
+        ∙ go (verdict (p .checks)) (ltb 2 behaviour) (short (workSize p) work) (short (entries (p .product)) table)
+        ∙ ap (λ (v : Verdict). andThen v tableVerdict) (sym (verdict-append (p .checks) _))
+      where
+        go : (u : Verdict) (x y z : Bool)
+            → andThen u (cond x (refused 10 0) (cond (y || z) (refused 11 0) accepted))
+            ≡ andThen (andThen u (cond x (refused 10 0) (cond y (refused 11 0) accepted))) (cond z (refused 11 0) accepted)
+        go (refused n q) x y z = refl
+        go accepted true y z = refl
+        go accepted false true z = refl
+        go accepted false false true = refl
+        go accepted false false false = refl
 
-  -- WHAT STAYS: with a table that is long enough, valuing answers what it answers with none, and leaves the same working slice
-  pub alone-is-valuing : tableSize (termsOf bytes) ≤ length table
-      → aloneVerdict bytes list rates behaviour work ≡ valuingVerdict bytes list rates behaviour work table
-  unfolding verdict short
-  alone-is-valuing room =
-      sym (table-last ∙ rw (le-ltb (length table) (tableSize (termsOf bytes)) room) (all (aloneVerdict bytes list rates behaviour work)))
-    where
-      all : (v : Verdict) → andThen v accepted ≡ v
-      all accepted = refl
-      all (refused n p) = refl
+    -- WHAT STAYS: with a table that is long enough, valuing answers what it answers with none, and leaves the same working slice
+    pub no-table-is-valuing : entries (p .product) ≤ length table
+        → verdict (noTableChecks p behaviour work) ≡ verdict (valuingChecks p behaviour work table)
+    unfolding verdict short
+    no-table-is-valuing room =
+        sym (table-last ∙ rw (le-ltb (length table) (entries (p .product)) room) (all (verdict (noTableChecks p behaviour work))))
+      where
+        all : (v : Verdict) → andThen v accepted ≡ v
+        all accepted = refl
+        all (refused n q) = refl
 
-  pub alone-keeps-answer : tableSize (termsOf bytes) ≤ length table
-      → aloneAnswer bytes list rates behaviour work ≡ valuingAnswer bytes list rates behaviour work table
-  unfolding aloneAnswer valuingAnswer
-  alone-keeps-answer room = ap (λ (v : Verdict). valuedAnswer v bytes list rates behaviour) (alone-is-valuing room)
+    pub no-table-keeps-answer : entries (p .product) ≤ length table
+        → valuedAnswer p (verdict (noTableChecks p behaviour work)) behaviour
+        ≡ valuedAnswer p (verdict (valuingChecks p behaviour work table)) behaviour
+    no-table-keeps-answer room = ap (λ (v : Verdict). valuedAnswer p v behaviour) (no-table-is-valuing room)
 
-  pub alone-keeps-work : tableSize (termsOf bytes) ≤ length table
-      → aloneWork bytes list rates behaviour work ≡ valuingWork bytes list rates behaviour work table
-  unfolding aloneWork valuingWork
-  alone-keeps-work room = ap (λ (v : Verdict). valuedWork v bytes list rates behaviour work) (alone-is-valuing room)
+    pub no-table-keeps-work : entries (p .product) ≤ length table
+        → valuedWork p (verdict (noTableChecks p behaviour work)) behaviour work
+        ≡ valuedWork p (verdict (valuingChecks p behaviour work table)) behaviour work
+    no-table-keeps-work room = ap (λ (v : Verdict). valuedWork p v behaviour work) (no-table-is-valuing room)
 
-  -- a valuation that is accepted is accepted without its table, which is long enough
-  pub valuing-alone : valuingVerdict bytes list rates behaviour work table ≡ accepted
-      → (aloneVerdict bytes list rates behaviour work ≡ accepted) × (tableSize (termsOf bytes) ≤ length table)
-  unfolding AllPass short
-  valuing-alone a =
-      let both =
-      first-and-last (aloneVerdict bytes list rates behaviour work) (verdict (tableCheck (termsOf bytes) table)) (sym table-last ∙ a) in
-      (both .0, nltb→le (length table) (tableSize (termsOf bytes)) (all-pass _ (both .1) .0))
-    where
-      first-and-last : (u v : Verdict) → andThen u v ≡ accepted → (u ≡ accepted) × (v ≡ accepted)
-      first-and-last accepted v e = (refl, e)
-      first-and-last (refused n p) v e = let z : _≡_ {A = ℕ} 0 1 = cc in absurd (omega arith)
-
--- slices that are not short
-pub lent-room : (c : Terms) (work table : List ℕ) → (short (2 * layerSize c) work || short (tableSize c) table) ≡ false
-    → (layerSize c + layerSize c ≤ length work) × (tableSize c ≤ length table)
-unfolding short
-lent-room c work table f =
-    let x = ltb (length work) (2 * layerSize c) in
-    let y = ltb (length table) (tableSize c) in
-    let t : T (not (x || y)) = rw f tt in
-    let w = nltb→le (length work) (2 * layerSize c) (nor-left x y t) in
-    (omega arith, nltb→le (length table) (tableSize c) (nor-right x y t))
+    -- a valuation that is accepted is accepted without its table, which is long enough
+    pub valuing-no-table : verdict (valuingChecks p behaviour work table) ≡ accepted
+        → (verdict (noTableChecks p behaviour work) ≡ accepted) × (entries (p .product) ≤ length table)
+    unfolding AllPass short
+    valuing-no-table a =
+        let both = first-and-last (verdict (noTableChecks p behaviour work)) tableVerdict (sym table-last ∙ a) in
+        (both .0, nltb→le (length table) (entries (p .product)) (all-pass _ (both .1) .0))
+      where
+        first-and-last : (u v : Verdict) → andThen u v ≡ accepted → (u ≡ accepted) × (v ≡ accepted)
+        first-and-last accepted v e = (refl, e)
+        first-and-last (refused n q) v e = let z : _≡_ {A = ℕ} 0 1 = cc in absurd (omega arith)
 
 -- ---- 17 and 18, of a valuation, exactly under their conditions
 -- the first rate above 10,000, or how many there are
@@ -134,19 +118,22 @@ firstHigh rates dates = first (λ i. ltb rateMost (ratesOf rates i)) dates
 abbrev pub otherLength : List ℕ → ℕ → Bool
 otherLength rates dates = not (eqb (length rates) (rateBytes * dates))
 
-module _ (bytes list rates : List ℕ) (behaviour : ℕ) (work table : List ℕ) where
-  pub rates-length-iff : (valuingVerdict bytes list rates behaviour work table ≡ refused 17 0)
-      ↔ (AllPass (recordChecks bytes ++ listChecks list) × T (otherLength rates (termsOf bytes .dates)))
-  unfolding valuingVerdict valuingChecks inputChecks ratesChecks recordChecks termsChecks listChecks lentChecks checkEach numbers apart
-  rates-length-iff = refused-iff (recordChecks bytes ++ listChecks list) _ _ (absent 17 _ tt) (absent 17 _ tt)
+module _ (x : Input) (behaviour : ℕ) (work table : List ℕ) where
+  abbrev dates : ℕ
+  dates = termsOf (x .bytes) .dates
 
-  pub death-rate-iff : (valuingVerdict bytes list rates behaviour work table ≡ refused 18 (firstHigh rates (termsOf bytes .dates)))
-      ↔ (AllPass (recordChecks bytes ++ listChecks list ++ (check 17 0 (otherLength rates (termsOf bytes .dates)) ∷ []))
-      × T (ltb (firstHigh rates (termsOf bytes .dates)) (termsOf bytes .dates)))
-  unfolding valuingVerdict valuingChecks inputChecks ratesChecks recordChecks termsChecks listChecks lentChecks checkEach numbers apart
+  pub rates-length-iff : (verdict (valuingChecks (policyOf x) behaviour work table) ≡ refused 17 0)
+      ↔ (AllPass (recordChecks (x .bytes) ++ listChecks (x .list)) × T (otherLength (x .rates) dates))
+  unfolding valuingChecks inputChecks ratesChecks recordChecks termsChecks listChecks checkEach checkNumbers apart
+  rates-length-iff = refused-iff (recordChecks (x .bytes) ++ listChecks (x .list)) 17 0 _ _ (absent 17 _ tt) (absent 17 _ tt)
+
+  pub death-rate-iff : (verdict (valuingChecks (policyOf x) behaviour work table) ≡ refused 18 (firstHigh (x .rates) dates))
+      ↔ (AllPass (recordChecks (x .bytes) ++ listChecks (x .list) ++ (check 17 0 (otherLength (x .rates) dates) ∷ []))
+      × T (ltb (firstHigh (x .rates) dates) dates))
+  unfolding valuingChecks inputChecks ratesChecks recordChecks termsChecks listChecks checkEach checkNumbers apart
   death-rate-iff =
-      let ks = recordChecks bytes ++ listChecks list ++ (check 17 0 (otherLength rates (termsOf bytes .dates)) ∷ []) in
-      let high = firstHigh rates (termsOf bytes .dates) in
-      let v = valuingVerdict bytes list rates behaviour work table in
-      subst (λ (p : ℕ). (v ≡ refused 18 p) ↔ (AllPass ks × T (ltb high (termsOf bytes .dates)))) (zero-add high)
-      (refused-iff ks _ _ (absent 18 _ tt) (absent 18 _ tt))
+      let ks = recordChecks (x .bytes) ++ listChecks (x .list) ++ (check 17 0 (otherLength (x .rates) dates) ∷ []) in
+      let high = firstHigh (x .rates) dates in
+      let v = verdict (valuingChecks (policyOf x) behaviour work table) in
+      subst (λ (q : ℕ). (v ≡ refused 18 q) ↔ (AllPass ks × T (ltb high dates))) (zero-add high)
+      (refused-iff ks 18 _ _ _ (absent 18 _ tt) (absent 18 _ tt))

@@ -28,7 +28,7 @@ pub fn value_map(
     table: &mut [u16],
     map: &mut [u64],
 ) -> Mapped
-    ensures { λ r. ⌜ Mapping (now (bytes .entry)) (now (list .entry)) (now (rates .entry)) behaviour
+    ensures { λ r. ⌜ Mapping (record { bytes = now (bytes .entry); list = now (list .entry); rates = now (rates .entry) }) behaviour
         (now (work .entry)) (now (table .entry)) (now (map .entry)) r
         (now (work .exit)) (now (table .exit)) (now (map .exit)) ⌝ }
 {

@@ -12,23 +12,25 @@ use native.Mathlib.Decide.{decLe}
 use borrow.Author.Tests.{lt-ltb, le-ltb}
 use Rattle.decision.specs.Index.{first, firstFrom, false-is}
 use Rattle.decision.specs.Layers.{layer}
-use Rattle.decision.specs.Bisection.{narrow-none, narrow-down, narrow-up, narrow-end, halvings, half, Halved, halved}
-use Rattle.decision.specs.Bisection.{halvings-fall, half-is}
+use Rattle.decision.specs.Bisection.{narrow-none, narrow-down, narrow-up, narrow-end, halvings, half, Halved, halved, halvings-fall}
+use Rattle.decision.specs.Bisection.{half-is}
 use Rattle.slices.specs.Stored.{stored, length-stored, stored-out, stored-two, stored-clear}
-use Rattle.rules.specs.Contract.{Terms, Returns, Rates, termsOf, returnsOf, ratesOf, rateMost}
+use Rattle.rules.specs.Contract.{Terms, Returns, Rates, termsOf, returnsOf, ratesOf, rateMost, Input, termsUnder}
 use Rattle.rules.specs.Date.{Behaviour}
 use Rattle.rules.specs.Product.{valueLayer}
 use Rattle.rules.specs.FixedTerm.{fixedTerm, layerSize, layoutOf}
-use Rattle.rules.specs.Refusals.{accepted, refused, numberOf, placeOf, onSuccess}
-use Rattle.rules.specs.Operations.{answer, workAfter, behaviourOf, aloneVerdict}
-use Rattle.rules.specs.Fee.{withFee, feeValue, meets, smallestFee, feeSought, feeFound, feeAnswer, feeWork}
-use Rattle.laws.specs.Fee.{meets-lasts}
+use Rattle.rules.specs.Refusals.{accepted, refused, numberOf, placeOf, onSuccess, Verdict, verdict}
+use Rattle.rules.specs.Operations.{answer, workAfter, behaviourOf, filled, noTableChecks}
+use Rattle.rules.specs.Fee.{underFee, feeFound, feeAnswer, feeWork}
+use Rattle.laws.specs.Terms.{withFee}
+use Rattle.laws.specs.Fee.{feeValue, meets, smallestFee, first-to-meet, meets-lasts}
 use Rattle.laws.specs.Pricing.{valid-fee, fee-refused, fee-accepted, fee-wanting, fee-accepts, fee-claim}
 use Rattle.valuing.specs.declared.Answer as valued
-use Rattle.valuing.specs.Answered.{Alone, Worked, answerOf}
+use Rattle.valuing.specs.Answered.{WorkLent, Worked, answerOf}
 use Rattle.pricing.specs.declared.Bracket as bracket
 use Rattle.pricing.specs.declared.Priced as declared
 use Rattle.pricing.specs.Priced.{feeRefusal, pricedAt, narrowed, Kept, Searching, Found, Pricing}
+use Rattle.rules.specs.Policy.{policyOf}
 
 -- ---- what stands behind both layers is kept
 pub kept-same : (c : Terms) (work : List ℕ) → Kept c work work
@@ -40,7 +42,7 @@ kept-more x y = record { long = y .long ∙ x .long; rest = λ j l. y .rest j l 
 -- by a valuation, whatever the fee
 worked-kept : {b : Behaviour} {c : Terms} {rs : Returns} {ds : Rates} {work work' : List ℕ} {a : valued.Answer}
     → layerSize c + layerSize c ≤ length work → Worked b c rs ds work a work' → Kept c work work'
-unfolding workAfter onSuccess valueLayer layer fixedTerm layoutOf
+unfolding workAfter filled onSuccess valueLayer layer fixedTerm layoutOf
 worked-kept {c = c} {work = work} room w =
     let n = layerSize c in
     let z : ℕ → ℕ = λ i. 0 in
@@ -51,10 +53,10 @@ worked-kept {c = c} {work = work} room w =
     }
 
 -- ---- what a valuation under a fee is given
-pub alone-fee : {behaviour : ℕ} {c d : Terms} {list rates work work' : List ℕ} (fee : ℕ) → d ≡ withFee c fee → fee ≤ rateMost
-    → Alone behaviour c list rates work → Kept c work work' → Alone behaviour d list rates work'
+pub lent-under-fee : {behaviour : ℕ} {c d : Terms} {list rates work work' : List ℕ} (fee : ℕ) → d ≡ withFee c fee → fee ≤ rateMost
+    → WorkLent behaviour c list rates work → Kept c work work' → WorkLent behaviour d list rates work'
 unfolding layerSize
-alone-fee fee e l given kept = rw e (record {
+lent-under-fee fee e l given kept = rw e (record {
   known = given .known;
   given = record {
     valid = record {
@@ -127,9 +129,8 @@ module _ {c : Terms} {rs : Returns} {ds : Rates} {b : Behaviour} {wanted : ℕ} 
 
     -- .. where none is left
     pub searching-done : s .high ≤ s .low → Found c rs ds b wanted work (s .found) work'
-    unfolding smallestFee
     searching-done l = record {
-      found-is = x .found-is ∙ ap (pricedAt c rs ds b) (sym (narrow-end (x .ends) l));
+      found-is = x .found-is ∙ ap (pricedAt c rs ds b) (sym (first-to-meet c rs ds b wanted ∙ narrow-end (x .ends) l));
       kept = x .kept;
     }
 
@@ -174,66 +175,69 @@ unfolding halvings first firstFrom
 fourteen = refl
 
 -- ---- what the call tells
-module _ (bytes list rates : List ℕ) (behaviour wanted : ℕ) (work : List ℕ) {r : declared.Priced} where
+module _ (x : Input) (behaviour wanted : ℕ) (work : List ℕ) where
+  abbrev said : Verdict
+  said = verdict (noTableChecks (policyOf x) behaviour work)
+
+  abbrev sought : ℕ
+  sought = smallestFee (termsOf (x .bytes)) (returnsOf (x .list)) (ratesOf (x .rates)) (behaviourOf behaviour) wanted
+
   -- the claim follows from the equations
-  told : {work' : List ℕ} → r .answer ≡ answerOf (feeAnswer bytes list rates behaviour wanted work)
-      → r .fee ≡ feeFound bytes list rates behaviour wanted work → work' ≡ feeWork bytes list rates behaviour work
-      → Pricing bytes list rates behaviour wanted work r work'
-  told is fee left = record {
+  tells : {r : declared.Priced} {work' : List ℕ}
+      → r .answer ≡ answerOf (feeAnswer (policyOf x) (underFee fixedTerm x) behaviour wanted work)
+      → r .fee ≡ feeFound (policyOf x) (underFee fixedTerm x) behaviour wanted work → work' ≡ feeWork (policyOf x) behaviour work
+      → Pricing x behaviour wanted work r work'
+  tells is fee left = record {
     answer-is = is;
     fee-is = fee;
     work-is = left;
     claim = λ zero-number rest.
-        let yes-to = fee-accepts bytes list rates behaviour wanted work (ap (λ (a : valued.Answer). a .number) (sym is) ∙ zero-number) in
-        rw (ap (λ (a : valued.Answer). a .value) is, fee) (fee-claim bytes list rates behaviour wanted work yes-to rest);
+        let yes-to = fee-accepts x behaviour wanted work (ap (λ (a : valued.Answer). a .number) (sym is) ∙ zero-number) in
+        rw (ap (λ (a : valued.Answer). a .value) is, fee) (fee-claim x behaviour wanted work yes-to rest);
   }
 
-  pub told-refused : (n p : ℕ) → aloneVerdict bytes list rates behaviour work ≡ refused n p → r ≡ feeRefusal n p
-      → Pricing bytes list rates behaviour wanted work r work
-  unfolding feeAnswer feeFound feeWork answer onSuccess numberOf placeOf
-  told-refused n p e f =
-      let v = fee-refused bytes list rates behaviour wanted work n p e in
-      told (rw v (ap (λ (x : declared.Priced). x .answer) f)) (rw v (ap (λ (x : declared.Priced). x .fee) f)) (rw e)
+  pub told-refused : {r : declared.Priced} (n q : ℕ) → said ≡ refused n q → r ≡ feeRefusal n q → Pricing x behaviour wanted work r work
+  unfolding feeAnswer feeFound feeWork answer filled onSuccess numberOf placeOf
+  told-refused n q e f =
+      let v = fee-refused x behaviour wanted work e in
+      tells (rw v (ap (λ (y : declared.Priced). y .answer) f)) (rw v (ap (λ (y : declared.Priced). y .fee) f)) (rw e)
 
-  module _ {c : Terms} (e : aloneVerdict bytes list rates behaviour work ≡ accepted) (same : c ≡ termsOf bytes) where
+  module _ {c : Terms} (e : said ≡ accepted) (same : c ≡ termsOf (x .bytes)) where
     -- a fee was found, or none
-    priced : {work' : List ℕ} → r ≡ pricedAt (termsOf bytes) (returnsOf list) (ratesOf rates) (behaviourOf behaviour)
-        (feeSought bytes list rates behaviour wanted)
-        → work' ≡ feeWork bytes list rates behaviour work → Pricing bytes list rates behaviour wanted work r work'
-    unfolding pricedAt feeAnswer feeFound answer onSuccess numberOf placeOf
-    priced {work' = work'} f left = go (decLe (feeSought bytes list rates behaviour wanted) rateMost)
+    priced : {r : declared.Priced} {work' : List ℕ}
+        → r ≡ pricedAt (termsOf (x .bytes)) (returnsOf (x .list)) (ratesOf (x .rates)) (behaviourOf behaviour) sought
+        → work' ≡ feeWork (policyOf x) behaviour work → Pricing x behaviour wanted work r work'
+    unfolding pricedAt feeAnswer feeFound answer onSuccess numberOf placeOf smallestFee feeValue termsUnder termsOf
+    priced {r = r} {work' = work'} f left = go (decLe sought rateMost)
       where
-        sought : ℕ
-        sought = feeSought bytes list rates behaviour wanted
-
-        go : Dec (sought ≤ rateMost) → Pricing bytes list rates behaviour wanted work r work'
+        go : Dec (sought ≤ rateMost) → Pricing x behaviour wanted work r work'
         go (yes l) =
-            let v = fee-accepted bytes list rates behaviour wanted work e l in
+            let v = fee-accepted x behaviour wanted work e l in
             let g = rw (le-ltb rateMost sought l) at f in
-            told (rw v (ap (λ (x : declared.Priced). x .answer) g)) (rw v (ap (λ (x : declared.Priced). x .fee) g)) left
+            tells (rw v (ap (λ (y : declared.Priced). y .answer) g)) (rw v (ap (λ (y : declared.Priced). y .fee) g)) left
         go (no l) =
             let m : rateMost < sought = omega arith in
-            let v = fee-wanting bytes list rates behaviour wanted work e m in
+            let v = fee-wanting x behaviour wanted work e m in
             let g = rw (lt-ltb rateMost sought m) at f in
-            told (rw v (ap (λ (x : declared.Priced). x .answer) g)) (rw v (ap (λ (x : declared.Priced). x .fee) g)) left
+            tells (rw v (ap (λ (y : declared.Priced). y .answer) g)) (rw v (ap (λ (y : declared.Priced). y .fee) g)) left
 
     -- the working slice is cleared behind the search
-    pub told-found : {work' work'' : List ℕ} {size : ℕ} → layerSize c + layerSize c ≤ length work
-        → Found c (returnsOf list) (ratesOf rates) (behaviourOf behaviour) wanted work r work'
-        → size ≡ layerSize c → work'' ≡ stored work' 0 (λ (i : ℕ). 0) (2 * size) → Pricing bytes list rates behaviour wanted work r work''
-    unfolding feeWork onSuccess
-    told-found {work' = work'} room s size-is cleared =
-        priced (subst (λ (x : Terms). r ≡ pricedAt x rs ds b (smallestFee x rs ds b wanted)) same (s .found-is))
+    pub told-found : {r : declared.Priced} {work' work'' : List ℕ} {size : ℕ} → layerSize c + layerSize c ≤ length work
+        → Found c (returnsOf (x .list)) (ratesOf (x .rates)) (behaviourOf behaviour) wanted work r work'
+        → size ≡ layerSize c → work'' ≡ stored work' 0 (λ (i : ℕ). 0) (2 * size) → Pricing x behaviour wanted work r work''
+    unfolding feeWork filled onSuccess fixedTerm layoutOf
+    told-found {r = r} {work' = work'} room s size-is cleared =
+        priced (subst (λ (t : Terms). r ≡ pricedAt t rs ds b (smallestFee t rs ds b wanted)) same (s .found-is))
         (cleared
         ∙ ap (λ (n : ℕ). stored work' 0 (λ (i : ℕ). 0) (2 * n)) size-is
         ∙ stored-clear work _ (2 * layerSize c) (s .kept .long) (omega arith) (λ j l. s .kept .rest j (omega arith))
         ∙ rw (e, same))
       where
         rs : Returns
-        rs = returnsOf list
+        rs = returnsOf (x .list)
 
         ds : Rates
-        ds = ratesOf rates
+        ds = ratesOf (x .rates)
 
         b : Behaviour
         b = behaviourOf behaviour

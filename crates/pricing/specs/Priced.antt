@@ -6,13 +6,15 @@ use Prim.Native.Nat.{ℕ, _+_, _≤_}
 use lib.Dec.{ltb}
 use lib.ListN.{length, getD}
 use Rattle.decision.specs.Bisection.{Narrowed}
-use Rattle.rules.specs.Contract.{Terms, Returns, Rates, termsOf, returnsOf, ratesOf, rateMost}
+use Rattle.rules.specs.Contract.{Input, Terms, Returns, Rates, rateMost}
 use Rattle.rules.specs.Date.{Behaviour}
 use Rattle.rules.specs.Product.{amountLayers, Claim}
 use Rattle.rules.specs.FixedTerm.{fixedTerm, layerSize}
 use Rattle.rules.specs.Refusals.{accepted}
 use Rattle.rules.specs.Operations.{answer, behaviourOf}
-use Rattle.rules.specs.Fee.{withFee, feeValue, meets, smallestFee, feeAnswer, feeFound, feeWork}
+use Rattle.rules.specs.Policy.{policyOf}
+use Rattle.rules.specs.Fee.{underFee, feeAnswer, feeFound, feeWork}
+use Rattle.laws.specs.Fee.{feeValue, meets, smallestFee}
 use Rattle.valuing.specs.declared.Answer as valued
 use Rattle.valuing.specs.Answered.{answerOf, refusal}
 use Rattle.pricing.specs.declared.Priced as declared
@@ -58,11 +60,10 @@ pub record Found (c : Terms) (rs : Returns) (ds : Rates) (b : Behaviour) (wanted
 
 -- WHAT THE SEARCH FOR A FEE ANSWERS AND LEAVES, on any input; and where it answers number 0, the third demand's claim of the value
 -- told, for the contract with the fee found and any table that starts with its recorded amounts
-pub record Pricing (bytes list rates : List ℕ) (behaviour wanted : ℕ) (work : List ℕ) (r : declared.Priced) (work' : List ℕ) : Type 0
-  where
-    pub answer-is : r .answer ≡ answerOf (feeAnswer bytes list rates behaviour wanted work)
-    pub fee-is : r .fee ≡ feeFound bytes list rates behaviour wanted work
-    pub work-is : work' ≡ feeWork bytes list rates behaviour work
-    pub claim : r .answer .number ≡ 0 → (rest : List ℕ)
-        → let X = fixedTerm (withFee (termsOf bytes) (r .fee)) (returnsOf list) (ratesOf rates) in
-        Claim X (behaviourOf behaviour) (r .answer .value) (amountLayers X (behaviourOf behaviour) ++ rest)
+pub record Pricing (x : Input) (behaviour wanted : ℕ) (work : List ℕ) (r : declared.Priced) (work' : List ℕ) : Type 0 where
+  pub answer-is : r .answer ≡ answerOf (feeAnswer (policyOf x) (underFee fixedTerm x) behaviour wanted work)
+  pub fee-is : r .fee ≡ feeFound (policyOf x) (underFee fixedTerm x) behaviour wanted work
+  pub work-is : work' ≡ feeWork (policyOf x) behaviour work
+  pub claim : r .answer .number ≡ 0 → (rest : List ℕ)
+      → let X = underFee fixedTerm x (r .fee) in
+      Claim X (behaviourOf behaviour) (r .answer .value) (amountLayers X (behaviourOf behaviour) ++ rest)

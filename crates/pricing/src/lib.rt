@@ -4,9 +4,9 @@ ghost use Prim.Native.Nat.{_+_, _≤_};
 ghost use Rattle.decision.specs.Bisection.{half};
 ghost use Rattle.rules.specs.Contract.{rateMost, returnsOf, ratesOf};
 ghost use Rattle.rules.specs.Operations.{behaviourOf};
-ghost use Rattle.rules.specs.Fee.{withFee};
+ghost use Rattle.laws.specs.Terms.{withFee};
 ghost use Rattle.contract.specs.Reading.{termsIn};
-ghost use Rattle.valuing.specs.Answered.{Alone};
+ghost use Rattle.valuing.specs.Answered.{WorkLent};
 ghost use Rattle.pricing.specs.Priced.{feeRefusal, narrowed, Found, Pricing};
 use contract::Contract;
 use contract::Outcome;
@@ -86,7 +86,7 @@ fn search(
     wanted: u64,
     work: &mut [u64],
 ) -> Priced
-    requires { ⌜ Alone behaviour (termsIn c) (now list) (now rates) (now work) ⌝ }
+    requires { ⌜ WorkLent behaviour (termsIn c) (now list) (now rates) (now work) ⌝ }
     ensures { λ r. ⌜
         Found (termsIn c) (returnsOf (now (list .entry))) (ratesOf (now (rates .entry))) (behaviourOf behaviour) wanted
         (now (work .entry)) r (now (work .exit))
@@ -103,7 +103,7 @@ fn search(
     while 0 < s.high - s.low {
         let high = s.high;
         let fee = high - power_within(high - s.low);
-        let answer = valuing::valued_alone(with_fee(c, fee), list, rates, behaviour, work);
+        let answer = valuing::valued_no_table(with_fee(c, fee), list, rates, behaviour, work);
         s = narrow(s, fee, answer, wanted);
     }
     s.found
@@ -120,11 +120,11 @@ pub fn find_fee(
     work: &mut [u64],
 ) -> Priced
     ensures { λ r. ⌜
-        Pricing (now (bytes .entry)) (now (list .entry)) (now (rates .entry)) behaviour wanted (now (work .entry)) r
-        (now (work .exit))
+        Pricing (record { bytes = now (bytes .entry); list = now (list .entry); rates = now (rates .entry) }) behaviour wanted
+        (now (work .entry)) r (now (work .exit))
         ⌝ }
 {
-    let agreement = valuing::check_alone(bytes, list, rates, behaviour, &work[..]);
+    let agreement = valuing::check_no_table(bytes, list, rates, behaviour, &work[..]);
     let Agreement::Accepted(c, _) = agreement else {
         return refused(agreement.outcome());
     };

@@ -6,7 +6,7 @@ ghost use Prim.Native.Nat.{ℕ, _+_, _-_, _*_, _^_, _≤_, _<_, min, max};
 ghost use lib.ListN.{length, getD, set};
 ghost use Rattle.slices.specs.Stored.{stored};
 ghost use Rattle.slices.specs.Rows.{cells};
-ghost use Rattle.rules.specs.Contract.{topMost};
+ghost use Rattle.rules.specs.Contract.{rateMost, topMost};
 ghost use Rattle.keys.specs.Sums.{Sums, Span};
 ghost use Rattle.proportion.specs.Held.{Held, raisedTo, freeOf, keyAt, triedBelow};
 ghost use Rattle.proportion.specs.Share.{Shared, Stepped, Sharing, Rising, Running, Leading, Bounded, Bounds, Ascending};
@@ -48,7 +48,7 @@ fn lead(d: Date, w: usize, inverse: usize, t: usize) -> Way
         × ((w - t) * inverse < 18446744073709551616)
         × (t ≤ w)
         × (w ≤ topMost)
-        × (d .rate ≤ 10000)
+        × (d .rate ≤ rateMost)
         × (inverse ≡ inverseOf w)
         ⌝ }
     ensures { λ r. ⌜ (r .t ≡ t) × Shared d w r ⌝ }
@@ -69,7 +69,7 @@ fn step_on(to: Way, d: Date, inverse: usize) -> Way
         × (inverse ≤ to .step)
         × (1 ≤ to .add)
         × (to .add < 2 ^ 59)
-        × (d .rate ≤ 10000)
+        × (d .rate ≤ rateMost)
         ⌝ }
     ensures { λ r. ⌜ Stepped d inverse to r ⌝ }
 {

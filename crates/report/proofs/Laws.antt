@@ -13,29 +13,30 @@ use lib.ListN.{length, getD, take, drop, replicate, length-append, length-replic
 use lib.Seq.{drop-append-seam}
 use Rattle.decision.specs.Index.{length-tabulate}
 use Rattle.decision.specs.Layers.{entry, lookup, layer}
-use Rattle.rules.specs.Contract.{Terms, termsOf, Returns, returnsOf, Rates, rateBytes, ratesOf}
+use Rattle.rules.specs.Contract.{Terms, termsOf, Returns, returnsOf, Rates, rateBytes, ratesOf, Input}
 use Rattle.rules.specs.Date.{Behaviour, static, mixed, dynamic}
-use Rattle.rules.specs.Product.{recordedAmount, contractValue, valueLayer, amountLayers}
-use Rattle.rules.specs.FixedTerm.{InRange, fixedTerm, processOf, startOf, reachBy, layoutOf, layerSize}
-use Rattle.rules.specs.Refusals.{check, Verdict, accepted, refused, verdict, numberOf, placeOf, onSuccess, short, inputChecks}
-use Rattle.rules.specs.Operations.{productOf, recordVerdict, answer, behaviourNumber, behaviourOf, tableSize, lentChecks, valuingChecks}
-use Rattle.rules.specs.Operations.{valuingVerdict, workAfter, valuingAnswer, valuingWork, valuingTable}
-use Rattle.rules.specs.Printed.{decimal, line, nameOf, refusedWord, linesOf, valueLine, returnLine, lineCount, valuesText, textOf}
-use Rattle.rules.specs.Printed.{zeroRates, programOf, programVerdict, printed}
-use Rattle.laws.specs.Accepted.{Valid, then-earlier, input-both, refusal-keeps}
+use Rattle.rules.specs.Product.{recordedAmount, contractValue, valueLayer, amountLayers, entries}
+use Rattle.rules.specs.FixedTerm.{InRange, fixedTerm, processOf, reachBy, layoutOf, layerSize}
+use Rattle.rules.specs.Refusals.{check, Verdict, accepted, refused, verdict, numberOf, placeOf, onSuccess, short, recordChecks}
+use Rattle.rules.specs.Operations.{answer, behaviourNumber, behaviourOf, valuingChecks, workAfter, valuedTable, valuedAnswer, filled}
+use Rattle.rules.specs.Operations.{valuedWork, slicesShort, workSize}
+use Rattle.rules.specs.Printed.{decimal, line, nameOf, refusedWord, linesOf, valueLine, returnLine, lineCount, textOf, zeroRateBytes}
+use Rattle.rules.specs.Printed.{programOf, programVerdict, printed}
+use Rattle.laws.specs.Accepted.{Valid, input-both, refusal-keeps}
 use Rattle.laws.specs.Date.{account-le}
 use Rattle.laws.specs.Demand.{table-filled}
 use Rattle.laws.specs.FixedTerm.{sound}
-use Rattle.laws.specs.Valuing.{valuing-alone}
-use Rattle.laws.specs.ThirdDemand.{valuing-accepts, valuing-valid, valuing-reports, valuing-leaves}
+use Rattle.laws.specs.ThirdDemand.{valuing-accepts, valuing-valid, valued-number, valued-reports, valued-leaves}
 use Rattle.contract.specs.declared.Contract.{Contract}
 use Rattle.contract.specs.Reading.{termsIn}
 use Rattle.input.specs.Accepted.{Both}
-use Rattle.input.specs.declared.Returns as listed
-use Rattle.returns.specs.Listed.{listing}
+use Rattle.input.specs.declared.Returns as inputs
+use Rattle.returns.specs.Counted.{counted}
 use Rattle.valuing.specs.declared.Answer as declared
 use Rattle.valuing.specs.Answered.{answerOf}
 use Rattle.report.specs.Tables.{accountBy, entryBy, tableLine, Tabled, Filled, one-layer, tableLeft, workLeft}
+use Rattle.laws.specs.Terms.{startHeld, tableSize}
+use Rattle.laws.specs.Valuing.{valuing-no-table, no-table-read}
 
 caseOf : Verdict → ℕ
 caseOf accepted = 0
@@ -46,36 +47,36 @@ unfolding caseOf
 not-both e f = let z : _≡_ {A = ℕ} 0 1 = ap caseOf (sym e ∙ f) in omega arith
 
 -- ---- how many lines
-module _ {bytes list : List ℕ} {c : Contract} {rs : listed.Returns} (x : Both bytes list c rs) where
+module _ {bytes list : List ℕ} {c : Contract} {rs : inputs.Returns} (x : Both bytes list c rs) where
   dates-are : c .dates ≡ termsOf bytes .dates
   dates-are = ap (λ (t : Terms). t .dates) (x .terms)
 
-  pub no-lines : c .dates < 2 → lineCount (programOf bytes list) ≡ 0
-  unfolding lineCount productOf fixedTerm processOf
+  pub no-lines : c .dates < 2 → lineCount (programOf bytes list .product) ≡ 0
+  unfolding lineCount fixedTerm processOf
   no-lines h = rw (le-ltb 1 (termsOf bytes .dates) (omega (arith, dates-are)))
 
-  pub some-lines : 2 ≤ c .dates → lineCount (programOf bytes list) ≡ returnsOf list .count
-  unfolding lineCount productOf fixedTerm processOf
+  pub some-lines : 2 ≤ c .dates → lineCount (programOf bytes list .product) ≡ returnsOf list .count
+  unfolding lineCount fixedTerm processOf
   some-lines h = rw (lt-ltb 1 (termsOf bytes .dates) (omega (arith, dates-are)))
 
 -- ---- the amounts of date 1
 module _ (c : Terms) (rs : Returns) (ds : Rates) (k : ℕ) where
-  reached-range : InRange c (reachBy c rs (startOf c) k)
-  unfolding reachBy startOf
+  reached-range : InRange c (reachBy c rs (startHeld c) k)
+  unfolding reachBy
   reached-range = record { account = account-le _ _ _ _; guarantee = le-refl (c .premium) }
 
-  first-entry : entryBy c rs k ≡ entry (layoutOf c) 1 (reachBy c rs (startOf c) k)
-  unfolding entry layoutOf reachBy startOf entryBy accountBy
+  first-entry : entryBy c rs k ≡ entry (layoutOf c) 1 (reachBy c rs (startHeld c) k)
+  unfolding entry layoutOf reachBy entryBy accountBy
   first-entry = sym (ap (λ (x : ℕ). x + (accountBy c rs k * (c .premium + 1) + c .premium)) (zero-mul (layerSize c)) ∙ zero-add _)
 
   -- what the first layer holds for return k
   pub first-amount : Valid c → 1 < c .dates → (b : Behaviour) (rest : List ℕ)
       → getD (amountLayers (fixedTerm c rs ds) b ++ rest) (entryBy c rs k) 0
-      ≡ recordedAmount (fixedTerm c rs ds) b 1 (reachBy c rs (startOf c) k)
+      ≡ recordedAmount (fixedTerm c rs ds) b 1 (reachBy c rs (startHeld c) k)
   unfolding lookup fixedTerm processOf layoutOf
   first-amount v later b rest =
       ap (λ (e : ℕ). getD (amountLayers (fixedTerm c rs ds) b ++ rest) e 0) first-entry
-      ∙ table-filled (fixedTerm c rs ds) (sound c rs ds v) b rest 1 (reachBy c rs (startOf c) k)
+      ∙ table-filled (fixedTerm c rs ds) (sound c rs ds v) b rest 1 (reachBy c rs (startHeld c) k)
       (record { from = le-refl 1; before = later; range = reached-range })
 
 -- ---- the same lines, the same text
@@ -84,30 +85,38 @@ unfolding linesOf
 lines-eq f g zero h = refl
 lines-eq f g (suc n) h = ap₂ (λ (x y : List ℕ). x ++ y) (lines-eq f g n (λ k l. h k (omega arith))) (h n (le-refl (suc n)))
 
+abbrev pub programGiven : List ℕ → List ℕ → Input
+programGiven bytes list = record { bytes = bytes; list = list; rates = zeroRateBytes bytes }
+
+-- what the checks of a call say
+abbrev pub said : List ℕ → List ℕ → ℕ → List ℕ → List ℕ → Verdict
+said bytes list behaviour work table = verdict (valuingChecks (programOf bytes list) behaviour work table)
+
 module _ (bytes list : List ℕ) where
   -- the checks ask no more of the slices than their lengths
   pub same-verdict : (behaviour : ℕ) (work table : List ℕ) → behaviour ≤ 2 → length work ≡ 4096 → length table ≡ 16384
-      → valuingVerdict bytes list (zeroRates bytes) behaviour work table ≡ programVerdict bytes list
-  unfolding programVerdict valuingVerdict lentChecks valuingChecks short behaviourNumber
+      → said bytes list behaviour work table ≡ programVerdict bytes list
+  unfolding programVerdict valuingChecks slicesShort short behaviourNumber
   same-verdict behaviour work table h long long-table =
       let known : ltb 2 behaviour ≡ ltb 2 0 = le-ltb 2 behaviour h ∙ sym (le-ltb 2 0 (omega arith)) in
       let work-is : length work ≡ length {A = ℕ} (replicate 4096 0) = long ∙ sym (length-replicate {A = ℕ} 4096 0) in
       let table-is : length table ≡ length {A = ℕ} (replicate 16384 0) = long-table ∙ sym (length-replicate {A = ℕ} 16384 0) in
       λ i. verdict
-      (inputChecks bytes list (zeroRates bytes)
+      (programOf bytes list .checks
       ++ (check 10 0 (known i)
-      ∷ check 11 0 (ltb (work-is i) (2 * layerSize (termsOf bytes)) || ltb (table-is i) (tableSize (termsOf bytes))) ∷ []))
+      ∷ check 11 0 (ltb (work-is i) (workSize (programOf bytes list)) || ltb (table-is i) (entries (programOf bytes list .product))) ∷ []))
 
-  refused-text : (v : Verdict) → (numberOf v ≡ 0 → ⊥) → line refusedWord (numberOf v ∷ placeOf v ∷ []) ≡ textOf (programOf bytes list) v
+  refused-text : (v : Verdict) → (numberOf v ≡ 0 → ⊥)
+      → line refusedWord (numberOf v ∷ placeOf v ∷ []) ≡ textOf (programOf bytes list .product) v
   unfolding numberOf placeOf textOf
   refused-text accepted h = absurd (h refl)
   refused-text (refused n p) h = refl
 
   -- what a refusal prints
   pub refused-printed : (work table : List ℕ) (r : declared.Answer) → length work ≡ 4096 → length table ≡ 16384
-      → r ≡ answerOf (valuingAnswer bytes list (zeroRates bytes) 0 work table) → (r .number ≡ 0 → ⊥)
+      → r ≡ answerOf (valuedAnswer (programOf bytes list) (said bytes list 0 work table) 0) → (r .number ≡ 0 → ⊥)
       → line refusedWord (r .number ∷ r .place ∷ []) ≡ printed bytes list
-  unfolding printed valuingAnswer answer
+  unfolding printed programVerdict valuedAnswer answer
   refused-printed work table r long long-table e h =
       let same = same-verdict 0 work table (omega arith) long long-table in
       let n : r .number ≡ numberOf (programVerdict bytes list) = ap (λ (a : declared.Answer). a .number) e ∙ ap numberOf same in
@@ -115,23 +124,26 @@ module _ (bytes list : List ℕ) where
       ap₂ (λ (x y : ℕ). line refusedWord (x ∷ y ∷ [])) n p ∙ refused-text (programVerdict bytes list) (λ z. h (n ∙ z))
 
   pub program-accepts : (work table : List ℕ) (r : declared.Answer) → length work ≡ 4096 → length table ≡ 16384
-      → r ≡ answerOf (valuingAnswer bytes list (zeroRates bytes) 0 work table) → r .number ≡ 0 → programVerdict bytes list ≡ accepted
+      → r ≡ answerOf (valuedAnswer (programOf bytes list) (said bytes list 0 work table) 0) → r .number ≡ 0
+      → programVerdict bytes list ≡ accepted
   program-accepts work table r long long-table e z =
       sym (same-verdict 0 work table (omega arith) long long-table)
-      ∙ valuing-accepts bytes list (zeroRates bytes) 0 work table (ap (λ (a : declared.Answer). a .number) (sym e) ∙ z)
+      ∙ valuing-accepts (programGiven bytes list) 0 work table
+      (sym (valued-number (programOf bytes list) (said bytes list 0 work table) 0) ∙ ap (λ (a : declared.Answer). a .number) (sym e) ∙ z)
 
   -- what was accepted, and that the tables have room
-  pub filled : {t₀ t₁ t₂ : List ℕ} → programVerdict bytes list ≡ accepted → length t₀ ≡ 16384 → length t₁ ≡ 16384
+  pub all-filled : {t₀ t₁ t₂ : List ℕ} → programVerdict bytes list ≡ accepted → length t₀ ≡ 16384 → length t₁ ≡ 16384
       → length t₂ ≡ 16384 → Filled bytes list t₀ t₁ t₂
-  unfolding programVerdict behaviourNumber valuingVerdict valuingChecks
-  filled a l₀ l₁ l₂ =
+  unfolding programVerdict behaviourNumber entries tableSize fixedTerm processOf layoutOf
+  all-filled a l₀ l₁ l₂ =
       let work = replicate {A = ℕ} 4096 0 in
       let table = replicate {A = ℕ} 16384 0 in
       let c = termsOf bytes in
-      let within = valuing-alone bytes list (zeroRates bytes) 0 work table a .1 in
+      let both = valuing-no-table (programOf bytes list) 0 work table a in
+      let within = both .1 in
       let room = subst (λ (n : ℕ). tableSize c ≤ n) (length-replicate {A = ℕ} 16384 0) within in
       record {
-        accepts = input-both bytes list (zeroRates bytes) (then-earlier _ _ a);
+        accepts = input-both (programGiven bytes list) (no-table-read (programOf bytes list) 0 work (both .0));
         static-room = omega (arith, room, l₀);
         mixed-room = omega (arith, room, l₁);
         dynamic-room = omega (arith, room, l₂);
@@ -139,35 +151,35 @@ module _ (bytes list : List ℕ) where
 
   -- what a call that is accepted reports and leaves
   pub record Valued (behaviour : ℕ) (value : ℕ) (table : List ℕ) : Type 0 where
-    pub value-is : value ≡ contractValue (programOf bytes list) (behaviourOf behaviour)
+    pub value-is : value ≡ contractValue (programOf bytes list .product) (behaviourOf behaviour)
     pub amounts : (k : ℕ) → 1 < termsOf bytes .dates
         → getD table (entryBy (termsOf bytes) (returnsOf list) k) 0
-        ≡ recordedAmount (programOf bytes list) (behaviourOf behaviour) 1
-        (reachBy (termsOf bytes) (returnsOf list) (startOf (termsOf bytes)) k)
+        ≡ recordedAmount (programOf bytes list .product) (behaviourOf behaviour) 1
+        (reachBy (termsOf bytes) (returnsOf list) (startHeld (termsOf bytes)) k)
 
   pub valued : (behaviour : ℕ) (work table : List ℕ) (r : declared.Answer) (table' : List ℕ) → behaviour ≤ 2
       → length work ≡ 4096 → length table ≡ 16384
       → programVerdict bytes list ≡ accepted
-      → r ≡ answerOf (valuingAnswer bytes list (zeroRates bytes) behaviour work table)
-      → table' ≡ valuingTable bytes list (zeroRates bytes) behaviour work table → Valued behaviour (r .value) table'
-  unfolding productOf
+      → r ≡ answerOf (valuedAnswer (programOf bytes list) (said bytes list behaviour work table) behaviour)
+      → table' ≡ valuedTable (programOf bytes list) (said bytes list behaviour work table) behaviour table
+      → Valued behaviour (r .value) table'
   valued behaviour work table r table' h long long-table yes-to e f =
       let a = same-verdict behaviour work table h long long-table ∙ yes-to in
       record {
-        value-is = ap (λ (x : declared.Answer). x .value) e ∙ valuing-reports bytes list (zeroRates bytes) behaviour work table a;
+        value-is = ap (λ (x : declared.Answer). x .value) e ∙ valued-reports (programOf bytes list) _ behaviour a;
         amounts = λ k later.
             ap (λ (t : List ℕ). getD t (entryBy (termsOf bytes) (returnsOf list) k) 0)
-            (f ∙ valuing-leaves bytes list (zeroRates bytes) behaviour work table a)
-            ∙ first-amount (termsOf bytes) (returnsOf list) (ratesOf (zeroRates bytes)) k
-            (valuing-valid bytes list (zeroRates bytes) behaviour work table a .terms) later (behaviourOf behaviour)
-            (drop (tableSize (termsOf bytes)) table);
+            (f ∙ valued-leaves (programOf bytes list) _ behaviour table a)
+            ∙ first-amount (termsOf bytes) (returnsOf list) (ratesOf (zeroRateBytes bytes)) k
+            (valuing-valid (programGiven bytes list) behaviour work table a .terms) later (behaviourOf behaviour)
+            (drop (entries (programOf bytes list .product)) table);
       }
 
   module _ {v₀ v₁ v₂ : ℕ} {t₀ t₁ t₂ : List ℕ} (x₀ : Valued 0 v₀ t₀) (x₁ : Valued 1 v₁ t₁) (x₂ : Valued 2 v₂ t₂) where
     -- the amounts of the tables are the recorded ones
     return-line : (k : ℕ) → 1 < termsOf bytes .dates
-        → tableLine (termsOf bytes) (returnsOf list) t₀ t₁ t₂ k ≡ returnLine (programOf bytes list) k
-    unfolding tableLine returnLine productOf fixedTerm processOf reachBy startOf accountBy behaviourOf
+        → tableLine (termsOf bytes) (returnsOf list) t₀ t₁ t₂ k ≡ returnLine (programOf bytes list .product) k
+    unfolding tableLine returnLine fixedTerm processOf reachBy accountBy behaviourOf
     return-line k later =
         let static-is = x₀ .amounts k later in
         let mixed-is = x₁ .amounts k later in
@@ -175,10 +187,10 @@ module _ (bytes list : List ℕ) where
         λ i. line (decimal k) (accountBy (termsOf bytes) (returnsOf list) k ∷ termsOf bytes .premium ∷ static-is i ∷ mixed-is i
         ∷ dynamic-is i ∷ [])
 
-    lines-are : linesOf (tableLine (termsOf bytes) (returnsOf list) t₀ t₁ t₂) (lineCount (programOf bytes list))
-        ≡ linesOf (returnLine (programOf bytes list)) (lineCount (programOf bytes list))
-    unfolding lineCount productOf fixedTerm processOf
-    lines-are = lines-eq _ _ (lineCount (programOf bytes list)) (λ k l. return-line k (later k l (decLe 2 (termsOf bytes .dates))))
+    lines-are : linesOf (tableLine (termsOf bytes) (returnsOf list) t₀ t₁ t₂) (lineCount (programOf bytes list .product))
+        ≡ linesOf (returnLine (programOf bytes list .product)) (lineCount (programOf bytes list .product))
+    unfolding lineCount fixedTerm processOf
+    lines-are = lines-eq _ _ (lineCount (programOf bytes list .product)) (λ k l. return-line k (later k l (decLe 2 (termsOf bytes .dates))))
       where
         later : (k : ℕ) → k < cond (ltb 1 (termsOf bytes .dates)) (returnsOf list .count) 0 → Dec (2 ≤ termsOf bytes .dates)
             → 1 < termsOf bytes .dates
@@ -191,26 +203,26 @@ module _ (bytes list : List ℕ) where
     -- what is printed where nothing is refused
     pub accepted-printed : programVerdict bytes list ≡ accepted
         → line (nameOf static) (v₀ ∷ []) ++ line (nameOf mixed) (v₁ ∷ []) ++ line (nameOf dynamic) (v₂ ∷ [])
-        ++ linesOf (tableLine (termsOf bytes) (returnsOf list) t₀ t₁ t₂) (lineCount (programOf bytes list))
+        ++ linesOf (tableLine (termsOf bytes) (returnsOf list) t₀ t₁ t₂) (lineCount (programOf bytes list .product))
         ≡ printed bytes list
-    unfolding printed textOf valuesText valueLine behaviourOf
+    unfolding printed programVerdict textOf valueLine behaviourOf
     accepted-printed a =
         let static-is = x₀ .value-is in
         let mixed-is = x₁ .value-is in
         let dynamic-is = x₂ .value-is in
         (λ i. line (nameOf static) (static-is i ∷ []) ++ line (nameOf mixed) (mixed-is i ∷ []) ++ line (nameOf dynamic)
         (dynamic-is i ∷ []) ++ lines-are i)
-        ∙ ap (textOf (programOf bytes list)) (sym a)
+        ∙ ap (textOf (programOf bytes list .product)) (sym a)
 
 -- ---- terms and returns that were read, with their tables
-pub tabled : {bytes list t₀ t₁ t₂ : List ℕ} {c : Contract} {returns : listed.Returns} → Both bytes list c returns → 2 ≤ c .dates
+pub tabled : {bytes list t₀ t₁ t₂ : List ℕ} {c : Contract} {returns : inputs.Returns} → Both bytes list c returns → 2 ≤ c .dates
     → Filled bytes list t₀ t₁ t₂ → Tabled (termsIn c) (returns .count) list t₀ t₁ t₂
 tabled {t₀ = t₀} {t₁ = t₁} {t₂ = t₂} {c = c} x h f =
     let room : (t : List ℕ) → tableSize (termsOf _) ≤ length t → layerSize (termsIn c) ≤ length t =
     λ t l. one-layer (termsIn c) (length t) h (subst (λ (z : Terms). tableSize z ≤ length t) (sym (x .terms)) l) in
     record {
       valid = x .valid;
-      listing = listing (x .count) (x .returns);
+      counted = counted (x .count) (x .returns);
       static-layer = room t₀ (f .static-room);
       mixed-layer = room t₁ (f .mixed-room);
       dynamic-layer = room t₂ (f .dynamic-room);
@@ -219,54 +231,56 @@ tabled {t₀ = t₀} {t₁ = t₁} {t₂ = t₂} {c = c} x h f =
 -- ---- what the arrays hold at the end
 module _ (bytes list : List ℕ) where
   module _ (behaviour : ℕ) (work table : List ℕ) (h : behaviour ≤ 2) (long : length work ≡ 4096) (long-table : length table ≡ 16384) where
-    pub table-left : valuingTable bytes list (zeroRates bytes) behaviour work table ≡ tableLeft bytes list (behaviourOf behaviour) table
-    unfolding valuingTable tableLeft
+    pub table-left : valuedTable (programOf bytes list) (said bytes list behaviour work table) behaviour table
+        ≡ tableLeft bytes list (behaviourOf behaviour) table
+    unfolding valuedTable tableLeft
     table-left =
-        ap (λ (v : Verdict). onSuccess v
-        (amountLayers (programOf bytes list) (behaviourOf behaviour) ++ drop (tableSize (termsOf bytes)) table) table)
+        ap (λ (v : Verdict). filled v (entries (programOf bytes list .product))
+        (amountLayers (programOf bytes list .product) (behaviourOf behaviour)) table)
         (same-verdict bytes list behaviour work table h long long-table)
 
-    pub work-left : valuingWork bytes list (zeroRates bytes) behaviour work table ≡ workLeft bytes list (behaviourOf behaviour) work
-    unfolding valuingWork workLeft
+    pub work-left : valuedWork (programOf bytes list) (said bytes list behaviour work table) behaviour work
+        ≡ workLeft bytes list (behaviourOf behaviour) work
+    unfolding valuedWork workLeft
     work-left =
-        ap (λ (v : Verdict). workAfter v (layerSize (termsOf bytes)) (valueLayer (programOf bytes list) (behaviourOf behaviour)) work)
+        ap (λ (v : Verdict). workAfter (programOf bytes list) v (valueLayer (programOf bytes list .product) (behaviourOf behaviour)) work)
         (same-verdict bytes list behaviour work table h long long-table)
 
   -- a refusal leaves all as it was
   pub refuses : (work table : List ℕ) (r : declared.Answer) → length work ≡ 4096 → length table ≡ 16384
-      → r ≡ answerOf (valuingAnswer bytes list (zeroRates bytes) 0 work table) → (r .number ≡ 0 → ⊥)
+      → r ≡ answerOf (valuedAnswer (programOf bytes list) (said bytes list 0 work table) 0) → (r .number ≡ 0 → ⊥)
       → numberOf (programVerdict bytes list) ≡ 0 → ⊥
-  unfolding valuingAnswer answer
+  unfolding valuedAnswer answer
   refuses work table r long long-table e h z =
       h (ap (λ (a : declared.Answer). a .number) e ∙ ap numberOf (same-verdict bytes list 0 work table (omega arith) long long-table) ∙ z)
 
   module _ (h : numberOf (programVerdict bytes list) ≡ 0 → ⊥) where
     pub table-kept : (b : Behaviour) (table : List ℕ) → table ≡ tableLeft bytes list b table
-    unfolding tableLeft
+    unfolding tableLeft filled
     table-kept b table = sym (refusal-keeps (programVerdict bytes list) _ table h)
 
     pub work-kept : (a b : Behaviour) (work : List ℕ) → workLeft bytes list a work ≡ workLeft bytes list b work
-    unfolding workLeft workAfter
+    unfolding workLeft workAfter filled
     work-kept a b work = refusal-keeps (programVerdict bytes list) _ work h ∙ sym (refusal-keeps (programVerdict bytes list) _ work h)
 
   -- a call on what another left leaves what it would have left alone
   two-layers : (b : Behaviour)
-      → length (valueLayer (programOf bytes list) b ++ replicate (layerSize (termsOf bytes)) 0) ≡ 2 * layerSize (termsOf bytes)
-  unfolding valueLayer layer productOf fixedTerm layoutOf
+      → length (valueLayer (programOf bytes list .product) b ++ replicate (layerSize (termsOf bytes)) 0) ≡ 2 * layerSize (termsOf bytes)
+  unfolding valueLayer layer fixedTerm layoutOf
   two-layers b =
-      length-append (valueLayer (programOf bytes list) b) (replicate (layerSize (termsOf bytes)) 0)
+      length-append (valueLayer (programOf bytes list .product) b) (replicate (layerSize (termsOf bytes)) 0)
       ∙ ap₂ _+_ (length-tabulate (layerSize (termsOf bytes)) _) (length-replicate {A = ℕ} (layerSize (termsOf bytes)) 0)
       ∙ omega arith
 
   pub work-again : (a b : Behaviour) (work : List ℕ) → workLeft bytes list b (workLeft bytes list a work) ≡ workLeft bytes list b work
-  unfolding workLeft workAfter onSuccess
+  unfolding workLeft workAfter filled onSuccess fixedTerm layoutOf
   work-again a b work = go (programVerdict bytes list)
     where
       size : ℕ
       size = layerSize (termsOf bytes)
 
       layers : Behaviour → List ℕ
-      layers x = valueLayer (programOf bytes list) x ++ replicate (layerSize (termsOf bytes)) 0
+      layers x = valueLayer (programOf bytes list .product) x ++ replicate (layerSize (termsOf bytes)) 0
 
       go : (v : Verdict)
           → onSuccess v (layers b ++ drop (2 * size) (onSuccess v (layers a ++ drop (2 * size) work) work))
@@ -284,9 +298,9 @@ take-zeros m zero l = refl
 take-zeros zero (suc n) l = absurd (omega arith)
 take-zeros (suc m) (suc n) l = ap (λ (xs : List ℕ). 0 ∷ xs) (take-zeros m n (omega arith))
 
-pub zeros-lent : (bytes : List ℕ) {n : ℕ} → (n ≡ onSuccess (recordVerdict bytes) (rateBytes * termsOf bytes .dates) 0) × (n ≤ 80)
-    → midOf 0 (n - 0) (replicate 80 0) ≡ zeroRates bytes
-unfolding zeroRates
+pub zeros-lent : (bytes : List ℕ) {n : ℕ} → (n ≡ onSuccess (verdict (recordChecks bytes)) (rateBytes * termsOf bytes .dates) 0) × (n ≤ 80)
+    → midOf 0 (n - 0) (replicate 80 0) ≡ zeroRateBytes bytes
+unfolding zeroRateBytes
 zeros-lent bytes {n} (is, few) =
     let whole : n - 0 ≡ n = omega arith in
     rw (whole, sym is) (take-zeros 80 n few)

@@ -4,17 +4,18 @@ use mathlib.Core.Path.{_≡_, ap, sym, _∙_}
 use Prim.Native.Nat.{ℕ, _+_, _-_, _*_, _≤_, _<_}
 use native.Mathlib.Nat.{le-trans, le-of-eq, one-mul, mul-le-mul, mul-le-mul-right}
 use native.Mathlib.Omega.{arith}
-use lib.ListN.{length, getD, drop}
+use lib.ListN.{length, getD, replicate}
 use Rattle.decision.specs.Layers.{two-digits}
 use Rattle.rules.specs.Contract.{word, Terms, termsOf, Returns, returnsOf, topMost, factorMost}
 use Rattle.rules.specs.Date.{Behaviour, nextAccount}
-use Rattle.rules.specs.Product.{valueLayer, amountLayers}
+use Rattle.rules.specs.Product.{entries, valueLayer, amountLayers}
 use Rattle.rules.specs.FixedTerm.{layerSize}
-use Rattle.rules.specs.Refusals.{accepted, verdict, onSuccess, recordChecks, listChecks}
-use Rattle.rules.specs.Operations.{workAfter, tableSize}
+use Rattle.rules.specs.Refusals.{accepted, verdict, recordChecks, listChecks}
+use Rattle.rules.specs.Operations.{filled, workAfter}
 use Rattle.rules.specs.Printed.{decimal, line, programOf, programVerdict}
+use Rattle.laws.specs.Terms.{tableSize}
 use Rattle.laws.specs.Accepted.{Valid}
-use Rattle.returns.specs.Listed.{Listing}
+use Rattle.returns.specs.Counted.{Counted}
 
 -- the account at date 1 after return k
 unfoldable pub accountBy : Terms → Returns → ℕ → ℕ
@@ -32,7 +33,7 @@ tableLine c rs statics mixeds dynamics k =
 -- terms, returns, and tables of at least one layer
 pub record Tabled (c : Terms) (count : ℕ) (list statics mixeds dynamics : List ℕ) : Type 0 where
   pub valid : Valid c
-  pub listing : Listing list count
+  pub counted : Counted list count
   pub static-layer : layerSize c ≤ length statics
   pub mixed-layer : layerSize c ≤ length mixeds
   pub dynamic-layer : layerSize c ≤ length dynamics
@@ -47,13 +48,14 @@ pub record Filled (bytes list statics mixeds dynamics : List ℕ) : Type 0 where
 -- ---- what the arrays hold at the end: what the last call on each of them leaves
 unfoldable pub tableLeft : List ℕ → List ℕ → Behaviour → List ℕ → List ℕ
 tableLeft bytes list b table =
-    onSuccess (programVerdict bytes list) (amountLayers (programOf bytes list) b ++ drop (tableSize (termsOf bytes)) table) table
+    let X = programOf bytes list .product in filled (programVerdict bytes list) (entries X) (amountLayers X b) table
 
 unfoldable pub workLeft : List ℕ → List ℕ → Behaviour → List ℕ → List ℕ
-workLeft bytes list b work = workAfter (programVerdict bytes list) (layerSize (termsOf bytes)) (valueLayer (programOf bytes list) b) work
+workLeft bytes list b work =
+    workAfter (programOf bytes list) (programVerdict bytes list) (valueLayer (programOf bytes list .product) b) work
 
 -- ---- what one line asks
-pub factor-le : {list : List ℕ} {count k : ℕ} → Listing list count → k < count → word list (4 * k) ≤ factorMost
+pub factor-le : {list : List ℕ} {count k : ℕ} → Counted list count → k < count → word list (4 * k) ≤ factorMost
 unfolding returnsOf
 factor-le {k = k} x l = x .valid .factor k (omega (arith, x .all))
 

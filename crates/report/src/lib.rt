@@ -4,10 +4,9 @@ ghost use mathlib.Core.Path.{_≡_};
 ghost use mathlib.Core.List.{[], _∷_, _++_};
 ghost use Prim.Native.Nat.{_+_, _*_, _≤_, _<_};
 ghost use lib.ListN.{length, take, drop, getD};
-ghost use Rattle.rules.specs.Contract.{termsOf, returnsOf, rateBytes};
+ghost use Rattle.rules.specs.Contract.{termsOf, returnsOf, rateBytes, datesMost};
 ghost use Rattle.rules.specs.Date.{static, mixed, dynamic};
-ghost use Rattle.rules.specs.Refusals.{onSuccess};
-ghost use Rattle.rules.specs.Operations.{recordVerdict};
+ghost use Rattle.rules.specs.Refusals.{verdict, onSuccess, recordChecks};
 ghost use Rattle.rules.specs.Printed.{digits, decimal, line, nameOf, refusedWord, linesOf, lineCount, programOf, printed};
 ghost use Rattle.contract.specs.Reading.{termsIn};
 ghost use Rattle.report.specs.Text.{Put, Counts};
@@ -196,7 +195,7 @@ fn all_lines(
         (linesOf
         (tableLine (termsOf (now (bytes .entry))) (returnsOf (now (list .entry)))
         (now (statics .entry)) (now (mixeds .entry)) (now (dynamics .entry)))
-        (lineCount (programOf (now (bytes .entry)) (now (list .entry)))))
+        (lineCount (programOf (now (bytes .entry)) (now (list .entry)) .product)))
         r (now (out .exit))
         ⌝ }
 {
@@ -213,7 +212,8 @@ fn all_lines(
 // The bytes of N death rates; none for a record that is refused.
 fn rates_length(bytes: &[u8]) -> usize
     ensures { λ r. ⌜
-        (r ≡ onSuccess (recordVerdict (now (bytes .entry))) (rateBytes * termsOf (now (bytes .entry)) .dates) 0) × (r ≤ 80)
+        (r ≡ onSuccess (verdict (recordChecks (now (bytes .entry)))) (rateBytes * termsOf (now (bytes .entry)) .dates) 0)
+        × (r ≤ rateBytes * datesMost)
         ⌝ }
 {
     let reading = Contract::read(bytes);
@@ -241,7 +241,7 @@ pub fn print(
     ensures { λ _. ⌜ now (mixeds .exit) ≡ tableLeft (now (bytes .entry)) (now (list .entry)) mixed (now (mixeds .entry)) ⌝ }
     ensures { λ _. ⌜ now (dynamics .exit) ≡ tableLeft (now (bytes .entry)) (now (list .entry)) dynamic (now (dynamics .entry)) ⌝ }
 {
-    let zeros = [0u8; 80];
+    let zeros = [0u8; Contract::RATE_BYTES * Contract::DATES_MOST];
     let n = rates_length(bytes);
     let a = valuing::value(bytes, list, &zeros[0..n], 0, work, statics);
     if a.number != 0 {

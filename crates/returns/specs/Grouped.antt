@@ -20,8 +20,8 @@ abbrev pub paidMost : ℕ
 paidMost = weightMost * (30000 * topMost)
 
 -- where the row starts to which return k leads
-abbrev pub startOf : Terms → Returns → ℕ → ℕ → ℕ → ℕ
-startOf c rs balance stride k = nextAccount (c .fee) (c .top) balance (rs .factor k) * stride
+abbrev pub startHeld : Terms → Returns → ℕ → ℕ → ℕ → ℕ
+startHeld c rs balance stride k = nextAccount (c .fee) (c .top) balance (rs .factor k) * stride
 
 -- one return more, to the last of n groups or after it
 abbrev pub again : List ℕ → ℕ → ℕ → Bool
@@ -54,7 +54,7 @@ pub record Grouped (c : Terms) (rs : Returns) (balance stride : ℕ) (starts wei
   pub eights : count % 8 ≡ 0
   pub paid-is : paid ≡ paidSum c rs balance
   pub sums : (f : ℕ → ℕ)
-      → sum (λ g. getD weights g 0 * f (getD starts g 0)) count ≡ sum (λ k. rs .weight k * f (startOf c rs balance stride k)) (rs .count)
+      → sum (λ g. getD weights g 0 * f (getD starts g 0)) count ≡ sum (λ k. rs .weight k * f (startHeld c rs balance stride k)) (rs .count)
   pub rows : (g : ℕ) → g < count → RowStart (c .top) stride (getD starts g 0)
   pub rising : (g h : ℕ) → g < h → h < count → 0 < getD weights h 0 → getD starts g 0 < getD starts h 0
   pub long : 64 ≤ length starts

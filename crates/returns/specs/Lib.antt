@@ -1,3 +1,3 @@
-pub mod Listed
+pub mod Counted
 pub mod Sorted
 pub mod Grouped

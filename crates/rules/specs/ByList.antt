@@ -7,12 +7,13 @@ use native.Mathlib.Omega.{arith}
 use Rattle.decision.specs.Index.{sum}
 use Rattle.decision.specs.Groups.{le-most, sum-by-keys}
 use Rattle.decision.specs.Process.{reached}
-use Rattle.decision.specs.Means.{averaging}
+use Rattle.decision.specs.Means.{averaging, listed}
 use Rattle.rules.specs.Contract.{Terms, Returns, Rates}
 use Rattle.rules.specs.Date.{liftedAccount, nextAccount, excess, excessPaid, discounted}
 use Rattle.rules.specs.Product.{Product}
-use Rattle.rules.specs.FixedTerm.{State, Held, admissibleIn, reachBy, paidBy, deathBy, meanOf, expectOver, weightTo, excessMost}
-use Rattle.rules.specs.FixedTerm.{byAccount, meanByAccount, valueWith, meanOver, processOf, layoutOf, fixedTerm, listedTerm}
+use Rattle.rules.specs.FixedTerm.{State, Held, admissibleIn, surrenderIn, reachBy, paidBy, deathBy, meanByList, heldByList}
+use Rattle.rules.specs.FixedTerm.{weightTo, excessMost, byAccount, meanByAccount, valueWith, heldByAccount, processOf, layoutOf}
+use Rattle.rules.specs.FixedTerm.{fixedTerm}
 
 -- "proved equal to the list's for every list": accepted or not, in any order, with equal factors; for every function of account and
 -- excess
@@ -29,9 +30,18 @@ by-account-is-by-list c rs balance f =
 
 -- the mean of every date
 pub mean-by-list : (c : Terms) (rs : Returns) (ds : Rates) (i : ℕ) (h : Held) (v : State → ℕ)
-    → meanOver c rs ds i h v ≡ expectOver c rs ds i h (reached (processOf c rs ds) v h)
-unfolding meanOver meanByAccount valueWith expectOver meanOf reached processOf paidBy excessPaid reachBy deathBy
+    → heldByAccount c rs ds i h v ≡ heldByList c rs ds i h (reached (processOf c rs ds) v h)
+unfolding heldByAccount meanByAccount valueWith heldByList meanByList reached processOf paidBy excessPaid reachBy deathBy
 mean-by-list c rs ds i h v = ap (discounted (c .discount)) (by-account-is-by-list c rs (h .balance) (valueWith ds i (h .guarantee) v))
+
+-- the contract whose means are summed return by return, as document 01 has it
+unfoldable pub listedTerm : Terms → Returns → Rates → Product State Held
+listedTerm c rs ds = record {
+  process = listed (processOf c rs ds);
+  admissible = admissibleIn c;
+  surrender = surrenderIn c;
+  layout = layoutOf c;
+}
 
 -- THE WHOLE CONTRACT, so every value, table, supplied value and fee
 pub listed-contract : fixedTerm ≡ listedTerm
@@ -39,5 +49,6 @@ unfolding fixedTerm listedTerm processOf
 listed-contract j c rs ds = record {
   process = averaging (λ i h v. mean-by-list c rs ds i h v j) (processOf c rs ds);
   admissible = admissibleIn c;
+  surrender = surrenderIn c;
   layout = layoutOf c;
 }

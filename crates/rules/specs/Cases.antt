@@ -2,38 +2,36 @@
 -- the definitions; and cases of document 02, by its requests. Assumes nothing.
 use mathlib.Core.Bool.{Bool, false}
 use mathlib.Core.List.{List, [], _∷_, _++_, map}
-use mathlib.Core.Path.{_≡_, refl, ap, _∙_, fun-ext}
-use Prim.Native.Nat.{ℕ, _+_, _*_}
+use mathlib.Core.Path.{_≡_, refl, ap}
+use Prim.Native.Nat.{ℕ, _+_}
 use lib.IntN.{ℤ, pos}
-use lib.Dec.{leb, ltb}
-use lib.ListN.{replicate, drop}
+use lib.ListN.{replicate}
 use Rattle.decision.specs.Index.{sum, tabulate, first, firstFrom}
 use Rattle.decision.specs.Groups.{most}
 use Rattle.decision.specs.Bits.{bit, fromBits, wordsFor, wordOf, wordsOf, setBits}
 use Rattle.decision.specs.Layers.{lookup, layers, entry}
 use Rattle.decision.specs.Choice.{largest, smallestBest}
 use Rattle.decision.specs.Process.{reached, worth, valueOver, value, recorded, startValue, met, startMet}
-use Rattle.rules.specs.Contract.{word, long, bytesOf, Terms, Returns, Rates, termsOf, returnsOf, ratesOf, living, rateMost}
-use Rattle.rules.specs.Date.{Behaviour, static, mixed, dynamic, freeAmount, largestAmount, surrenders, admits, rateOn}
-use Rattle.rules.specs.Date.{penalty, cash, guaranteeAfter, balanceAfter, liftedAccount, nextAccount, excess, excessPaid}
-use Rattle.rules.specs.Date.{maturityValue, deathPayment, deathShare, discounted, margin}
-use Rattle.rules.specs.Product.{Product, stateValue, recordedAmount, contractValue, amountLayers, walkState, walkAmount, walkHeld}
-use Rattle.rules.specs.Product.{walkPaid, walkCashOn, walkCashLast, walkCash}
-use Rattle.rules.specs.FixedTerm.{State, freeIn, admissibleIn, limitIn, cashIn, afterIn, reachBy, paidBy, deathBy}
-use Rattle.rules.specs.FixedTerm.{Held, meanOf, expectOver, startOf, processOf, layerSize, layoutOf, fixedTerm, listedTerm}
-use Rattle.rules.specs.FixedTerm.{weightTo, excessMost, byAccount, meanByAccount, valueWith, meanOver}
-use Rattle.rules.specs.ByList.{listed-contract}
-use Rattle.rules.specs.Refusals.{check, checkEach, Verdict, accepted, refused, verdict, numberOf, placeOf, onSuccess, outside}
-use Rattle.rules.specs.Refusals.{short, termsChecks, recordChecks, badReturn, listChecks, ratesChecks, inputChecks}
-use Rattle.rules.specs.Operations.{productOf, livingOf, Answer, answer, behaviourNumber, behaviourOf, tableSize, lentChecks}
-use Rattle.rules.specs.Operations.{recordVerdict, valuingChecks, valuingVerdict, valuingAnswer, amountChecks, bookingChecks}
-use Rattle.rules.specs.Operations.{bookingVerdict, bookingBytes, bookingBuffer, badDate, pathChecks, walkChecks}
-use Rattle.rules.specs.Operations.{walkVerdict, walkCashes, workChecks, aloneChecks, aloneVerdict}
-use Rattle.rules.specs.Map.{surrendered, surrenderMap, surrenderCount, mapSize, mapChecks, mappingChecks, mappingVerdict}
-use Rattle.rules.specs.Map.{mappingTable, mappingMap, mappingCount}
-use Rattle.rules.specs.Fee.{withFee, feeValue, meets, smallestFee, wantedChecks, feeChecks, feeVerdict, feeFound, feeAnswer, feeWork}
-use Rattle.rules.specs.Printed.{digits, decimal, numbered, line, nameOf, linesOf, valueLine, returnLine, lineCount}
-use Rattle.rules.specs.Printed.{valuesText, textOf, zeroRates, programVerdict, printed}
+use Rattle.rules.specs.Contract.{word, long, bytesOf, Terms, termsUnder, termsOf, returnsOf, ratesOf, zeroRates, Input}
+use Rattle.rules.specs.Date.{Behaviour, static, mixed, dynamic, freeAmount, largestAmount, surrenders, admits, rateOn, penalty}
+use Rattle.rules.specs.Date.{cash, guaranteeAfter, balanceAfter, liftedAccount, nextAccount, excess, excessPaid, maturityValue}
+use Rattle.rules.specs.Date.{deathPayment, deathShare, discounted, margin}
+use Rattle.rules.specs.Product.{entries, stateValue, recordedAmount, contractValue, amountLayers, walkState, walkAmount, walkHeld}
+use Rattle.rules.specs.Product.{badDate, walkPaid, walkCashOn, walkCashLast, walkCash}
+use Rattle.rules.specs.FixedTerm.{State, freeIn, admissibleIn, surrenderIn, cashIn, afterIn, reachBy, paidBy, deathBy, meanByList}
+use Rattle.rules.specs.FixedTerm.{heldByList, weightTo, excessMost, byAccount, meanByAccount, valueWith, heldByAccount, processOf}
+use Rattle.rules.specs.FixedTerm.{layerSize, layoutOf, fixedTerm}
+use Rattle.rules.specs.ByList.{listedTerm, listed-contract}
+use Rattle.rules.specs.Refusals.{checkEach, Verdict, accepted, refused, verdict, numberOf, placeOf, onSuccess, outside, short}
+use Rattle.rules.specs.Refusals.{termsChecks, recordChecks, badReturn, listChecks, ratesChecks, inputChecks}
+use Rattle.rules.specs.Operations.{answer, filled, behaviourNumber, behaviourOf, workSize, slicesShort, valuingChecks, valuedAnswer}
+use Rattle.rules.specs.Operations.{valuedTable, noTableChecks, walkChecks, walkCashes}
+use Rattle.rules.specs.Policy.{Family, policyBy, policyOf, livingPolicy}
+use Rattle.rules.specs.Booking.{amountChecks, bookingChecks, bookingBytes, bookingBuffer}
+use Rattle.rules.specs.Map.{surrendered, surrenderMap, surrenderCount, mapSize, mappingChecks, mapAfter, countAfter}
+use Rattle.rules.specs.Fee.{underFee, feeSought, feeWork, feeChecks, feeFound, feeAnswer}
+use Rattle.rules.specs.Printed.{digits, decimal, numbered, line, nameOf, linesOf, valueLine, returnLine, lineCount, textOf}
+use Rattle.rules.specs.Printed.{zeroRateBytes, programVerdict, printed}
 
 -- ---- contracts P and Q
 -- a record's bytes
@@ -118,154 +116,97 @@ pub data Question : Type 0 where
   -- booking an amount on a date, at (w, a)
   bookingOf : Terms → ℕ → ℕ → ℕ → ℕ → Question
 
-pub data Told : Type 0 where
-  value-margin : ℕ → ℤ → Told
-  value-amount : ℕ → ℕ → Told
-  allowed : Bool → Told
-  cash-penalty-balance-guarantee : ℕ → ℕ → ℕ → ℕ → Told
-  words-count : List ℕ → ℕ → Told
-  fee-value-margin : ℕ → ℕ → ℤ → Told
-  cashes : List ℕ → Told
-  number-place : ℕ → ℕ → Told
+pub data Reply : Type 0 where
+  value-margin : ℕ → ℤ → Reply
+  value-amount : ℕ → ℕ → Reply
+  allowed : Bool → Reply
+  cash-penalty-balance-guarantee : ℕ → ℕ → ℕ → ℕ → Reply
+  words-count : List ℕ → ℕ → Reply
+  fee-value-margin : ℕ → ℕ → ℤ → Reply
+  cashes : List ℕ → Reply
+  number-place : ℕ → ℕ → Reply
 
 at : ℕ → ℕ → State
 at w a = record { account = w; guarantee = a }
 
 -- a refusal, or what success tells
-unless-refused : Verdict → Told → Told
+unless-refused : Verdict → Reply → Reply
 unless-refused accepted told = told
 unless-refused (refused n p) told = number-place n p
 
-booked : List ℕ → Told
+booked : List ℕ → Reply
 booked buffer = cash-penalty-balance-guarantee (long buffer 0) (long buffer 4) (word buffer 8) (word buffer 10)
 
-valued : Verdict → Answer → Told
-valued v a = unless-refused v (value-margin (a .value) (a .margin))
+-- the bytes of terms, contract P's returns and rates
+abbrev given : Terms → List ℕ → Input
+given c rates = record { bytes = packed c; list = returnsP; rates = rates }
 
-valuedWith : Terms → List ℕ → Behaviour → Told
-valuedWith c rates b =
-    let work : List ℕ = replicate (2 * layerSize c) 0 in
-    let table : List ℕ = replicate (tableSize c) 0 in
-    valued
-    (valuingVerdict (packed c) returnsP rates (behaviourNumber b) work table)
-    (valuingAnswer (packed c) returnsP rates (behaviourNumber b) work table)
+abbrev zeros : Terms → List ℕ
+zeros c = zeroRateBytes (packed c)
 
-walkedAlong : Terms → List ℕ → List ℕ → Told
-walkedAlong c path table =
-    let before : List ℕ = replicate (c .dates + 1) 7 in
-    unless-refused (walkVerdict (packed c) returnsP table path before) (cashes (walkCashes (packed c) returnsP table path before))
+-- of any family of contracts: one whose means are summed in another way is computed sooner
+module _ (F : Family) where
+  valuedWith : Terms → List ℕ → Behaviour → Reply
+  valuedWith c rates b =
+      let p = policyBy F (given c rates) in
+      let v = verdict (valuingChecks p (behaviourNumber b) (replicate (workSize p) 0) (replicate (entries (p .product)) 0)) in
+      let a = valuedAnswer p v (behaviourNumber b) in
+      unless-refused v (value-margin (a .value) (a .margin))
 
-surrenderTold : Terms → ℕ → ℕ → Told
-surrenderTold c w a = allowed (surrenders (freeIn c (at w a)) w w)
+  mapped : Terms → Behaviour → List ℕ → Reply
+  mapped c b map =
+      let p = policyBy F (given c (zeros c)) in
+      let table : List ℕ = replicate (entries (p .product)) 0 in
+      let v = verdict (mappingChecks p (behaviourNumber b) (replicate (workSize p) 0) table map) in
+      unless-refused v (words-count (mapAfter p v (behaviourNumber b) table map) (countAfter p v (behaviourNumber b) table))
 
-recordTold : Terms → Told
-recordTold c = let v = recordVerdict (packed c) in number-place (numberOf v) (placeOf v)
+  priced : Terms → Behaviour → ℕ → Reply
+  priced c b wanted =
+      let x = given c (zeros c) in
+      let p = policyBy F x in
+      let work : List ℕ = replicate (workSize p + 1) 7 in
+      let a = feeAnswer p (underFee F x) (behaviourNumber b) wanted work in
+      unless-refused
+      (verdict (feeChecks p (underFee F x) (behaviourNumber b) wanted work))
+      (fee-value-margin (feeFound p (underFee F x) (behaviourNumber b) wanted work) (a .value) (a .margin))
 
-bookingTold : Terms → ℕ → ℕ → ℕ → ℕ → Told
-bookingTold c i w a t =
-    unless-refused (bookingVerdict (packed c) i w a t (replicate 16 0)) (booked (bookingBuffer (packed c) i w a t (replicate 16 0)))
+  walked : Terms → Behaviour → List ℕ → Reply
+  walked c b path =
+      let p = livingPolicy (packed c) returnsP in
+      let table = amountLayers (F (termsOf (packed c)) (returnsOf returnsP) zeroRates) b in
+      let before : List ℕ = replicate (c .dates + 1) 7 in
+      unless-refused (verdict (walkChecks p table path before)) (cashes (walkCashes p table path before))
 
-pub tell : Question → Told
-tell (contractOf c b) = valuedWith c (zeroRates (packed c)) b
-tell (ratedOf c rates b) = valuedWith c (packedRates rates) b
-tell (mapOf c b words word) =
-    let rates : List ℕ = zeroRates (packed c) in
-    let work : List ℕ = replicate (2 * layerSize c) 0 in
-    let table : List ℕ = replicate (tableSize c) 0 in
-    let map : List ℕ = replicate words word in
-    unless-refused
-    (mappingVerdict (packed c) returnsP rates (behaviourNumber b) work table map)
-    (words-count
-    (mappingMap (packed c) returnsP rates (behaviourNumber b) work table map)
-    (mappingCount (packed c) returnsP rates (behaviourNumber b) work table map))
-tell (stateOf c b w a) =
-    let X = fixedTerm c (returnsOf returnsP) living in
-    value-amount (stateValue X b 1 (at w a)) (recordedAmount X b 1 (at w a))
-tell (walkOf c b path) = walkedAlong c path (amountLayers (livingOf (packed c) returnsP) b)
-tell (feeOf c b wanted) =
-    let rates : List ℕ = zeroRates (packed c) in
-    let work : List ℕ = replicate (2 * layerSize c + 1) 7 in
-    let a = feeAnswer (packed c) returnsP rates (behaviourNumber b) wanted work in
-    unless-refused
-    (feeVerdict (packed c) returnsP rates (behaviourNumber b) wanted work)
-    (fee-value-margin (feeFound (packed c) returnsP rates (behaviourNumber b) wanted work) (a .value) (a .margin))
-tell (surrenderAt c w a) = surrenderTold c w a
-tell (recordOf c) = recordTold c
-tell (bookingOf c i w a t) = bookingTold c i w a t
+  pub tellBy : Question → Reply
+  tellBy (contractOf c b) = valuedWith c (zeros c) b
+  tellBy (ratedOf c rates b) = valuedWith c (packedRates rates) b
+  tellBy (stateOf c b w a) =
+      let X = F c (returnsOf returnsP) zeroRates in value-amount (stateValue X b 1 (at w a)) (recordedAmount X b 1 (at w a))
+  tellBy (surrenderAt c w a) = allowed (surrenders (freeIn c (at w a)) w w)
+  tellBy (recordOf c) = let v = verdict (recordChecks (packed c)) in number-place (numberOf v) (placeOf v)
+  tellBy (mapOf c b words word) = mapped c b (replicate words word)
+  tellBy (walkOf c b path) = walked c b path
+  tellBy (feeOf c b wanted) = priced c b wanted
+  tellBy (bookingOf c i w a t) =
+      unless-refused (verdict (bookingChecks (packed c) i w a t (replicate 16 0)))
+      (booked (bookingBuffer (packed c) i w a t (replicate 16 0)))
 
--- ---- (vii) what is told of a contract whose means are summed in another way, and so computed sooner
-abbrev Family : Type 1
-Family = Terms → Returns → Rates → Product State Held
+-- THE CONTRACT'S REPLY
+pub tell : Question → Reply
+tell q = tellBy fixedTerm q
 
-contractBy : Family → List ℕ → List ℕ → Product State Held
-contractBy F bytes rates = F (termsOf bytes) (returnsOf returnsP) (ratesOf rates)
-
-valuedBy : Family → Terms → List ℕ → Behaviour → Told
-valuedBy F c rates b =
-    let v = valuingVerdict (packed c) returnsP rates (behaviourNumber b) (replicate (2 * layerSize c) 0) (replicate (tableSize c) 0) in
-    valued v (answer v (contractValue (contractBy F (packed c) rates) (behaviourOf (behaviourNumber b))) (termsOf (packed c) .premium))
-
-mapBy : Family → Terms → Behaviour → ℕ → ℕ → Told
-mapBy F c b words filler =
-    let bytes = packed c in
-    let rates = zeroRates bytes in
-    let table : List ℕ = replicate (tableSize c) 0 in
-    let map : List ℕ = replicate words filler in
-    let v = mappingVerdict bytes returnsP rates (behaviourNumber b) (replicate (2 * layerSize c) 0) table map in
-    let after =
-    onSuccess v
-    (amountLayers (contractBy F bytes rates) (behaviourOf (behaviourNumber b)) ++ drop (tableSize (termsOf bytes)) table) table in
-    unless-refused v
-    (words-count (onSuccess v (surrenderMap (termsOf bytes) after ++ drop (mapSize (termsOf bytes)) map) map)
-    (onSuccess v (surrenderCount (termsOf bytes) after) 0))
-
-feeBy : Family → Terms → Behaviour → ℕ → Told
-feeBy F c b wanted =
-    let bytes = packed c in
-    let rates = zeroRates bytes in
-    let n = behaviourNumber b in
-    let value : ℕ → ℕ = λ fee. contractValue (F (withFee (termsOf bytes) fee) (returnsOf returnsP) (ratesOf rates)) (behaviourOf n) in
-    let fee = first (λ x. leb (value x) wanted) (rateMost + 1) in
-    let v = verdict (aloneChecks bytes returnsP rates n (replicate (2 * layerSize c + 1) 7) ++ (check 19 0 (ltb rateMost fee) ∷ [])) in
-    let a = answer v (value fee) (termsOf bytes .premium) in
-    unless-refused v (fee-value-margin (onSuccess v fee 0) (a .value) (a .margin))
-
-tellBy : Family → Question → Told
-tellBy F (contractOf c b) = valuedBy F c (zeroRates (packed c)) b
-tellBy F (ratedOf c rates b) = valuedBy F c (packedRates rates) b
-tellBy F (stateOf c b w a) =
-    let X = F c (returnsOf returnsP) living in value-amount (stateValue X b 1 (at w a)) (recordedAmount X b 1 (at w a))
-tellBy F (surrenderAt c w a) = surrenderTold c w a
-tellBy F (recordOf c) = recordTold c
-tellBy F (mapOf c b words word) = mapBy F c b words word
-tellBy F (walkOf c b path) = walkedAlong c path (amountLayers (F (termsOf (packed c)) (returnsOf returnsP) living) b)
-tellBy F (feeOf c b wanted) = feeBy F c b wanted
-tellBy F (bookingOf c i w a t) = bookingTold c i w a t
-
-tell-by : (q : Question) → tell q ≡ tellBy fixedTerm q
-unfolding tell tellBy valuedWith valuedBy mapBy feeBy contractBy valuingAnswer mappingTable mappingMap mappingCount feeVerdict feeChecks
-    wantedChecks feeFound feeAnswer smallestFee meets feeValue productOf livingOf
-tell-by (contractOf c b) = refl
-tell-by (ratedOf c rates b) = refl
-tell-by (stateOf c b w a) = refl
-tell-by (surrenderAt c w a) = refl
-tell-by (recordOf c) = refl
-tell-by (mapOf c b words word) = refl
-tell-by (walkOf c b path) = refl
-tell-by (feeOf c b wanted) = refl
-tell-by (bookingOf c i w a t) = refl
-
--- return by return
+-- (vii) the same where its means are summed return by return
 tell-listed : tell ≡ tellBy listedTerm
-tell-listed = fun-ext tell-by ∙ ap tellBy listed-contract
+unfolding tell
+tell-listed = ap tellBy listed-contract
 
 -- ---- the marked cases
 pub record Row : Type 0 where
   pub number : ℕ
   pub asked : Question
-  pub told : Told
+  pub told : Reply
 
-row : ℕ → Question → Told → Row
+row : ℕ → Question → Reply → Row
 row n q t = record { number = n; asked = q; told = t }
 
 pub marked : List Row
@@ -293,12 +234,11 @@ marked =
 pub marked-cases : map (λ r. tell (r .asked)) marked ≡ map (λ r. r .told) marked
 unfolding sum first firstFrom largest smallestBest reached worth valueOver value recorded startValue word long bytesOf termsOf returnsOf
     ratesOf freeAmount largestAmount surrenders admits rateOn penalty cash guaranteeAfter balanceAfter liftedAccount nextAccount excess
-    excessPaid maturityValue discounted margin stateValue recordedAmount contractValue freeIn admissibleIn limitIn cashIn afterIn reachBy
-    paidBy deathPayment deathShare deathBy meanOf expectOver startOf processOf layerSize layoutOf listedTerm checkEach verdict numberOf
-    placeOf onSuccess outside short termsChecks recordChecks badReturn listChecks ratesChecks inputChecks productOf answer behaviourNumber
-    behaviourOf tableSize lentChecks valuingChecks valuingVerdict valuingAnswer amountChecks bookingChecks bookingVerdict bookingBytes
-    bookingBuffer packed P P-one P-discounted Q returnsP at unless-refused booked valued valuedBy recordVerdict zeroRates contractBy
-    bookingTold surrenderTold tellBy row marked
+    excessPaid maturityValue discounted margin stateValue recordedAmount contractValue freeIn admissibleIn cashIn afterIn reachBy paidBy
+    deathPayment deathShare deathBy meanByList heldByList processOf layerSize layoutOf listedTerm checkEach verdict numberOf placeOf
+    onSuccess outside short termsChecks recordChecks badReturn listChecks ratesChecks inputChecks answer behaviourNumber behaviourOf
+    valuingChecks amountChecks bookingChecks bookingBytes bookingBuffer packed P P-one P-discounted Q returnsP at unless-refused booked
+    zeroRateBytes tellBy row marked termsUnder filled entries slicesShort valuedAnswer valuedWith
 marked-cases = rw tell-listed refl
 
 -- ---- document 02 (i): contract P with N 4 at steps 0, 100 and 1,000; bookings by date; the ends of the two fields
@@ -325,12 +265,11 @@ step-rows =
 pub step-cases : map (λ r. tell (r .asked)) step-rows ≡ map (λ r. r .told) step-rows
 unfolding sum first firstFrom largest smallestBest reached worth valueOver value recorded startValue word long bytesOf termsOf returnsOf
     ratesOf freeAmount largestAmount surrenders admits rateOn penalty cash guaranteeAfter balanceAfter liftedAccount nextAccount excess
-    excessPaid maturityValue discounted margin stateValue recordedAmount contractValue freeIn admissibleIn limitIn cashIn afterIn reachBy
-    paidBy deathPayment deathShare deathBy meanOf expectOver startOf processOf layerSize layoutOf listedTerm checkEach verdict numberOf
-    placeOf onSuccess outside short termsChecks recordChecks badReturn listChecks ratesChecks inputChecks productOf answer behaviourNumber
-    behaviourOf tableSize lentChecks recordVerdict valuingChecks valuingVerdict valuingAnswer amountChecks bookingChecks bookingVerdict
-    bookingBytes bookingBuffer packed P-spare P-step returnsP at unless-refused booked valued valuedBy zeroRates contractBy
-    bookingTold recordTold tellBy row step-rows
+    excessPaid maturityValue discounted margin stateValue recordedAmount contractValue freeIn admissibleIn cashIn afterIn reachBy paidBy
+    deathPayment deathShare deathBy meanByList heldByList processOf layerSize layoutOf listedTerm checkEach verdict numberOf placeOf
+    onSuccess outside short termsChecks recordChecks badReturn listChecks ratesChecks inputChecks answer behaviourNumber behaviourOf
+    valuingChecks amountChecks bookingChecks bookingBytes bookingBuffer packed P-spare P-step returnsP at unless-refused booked
+    zeroRateBytes tellBy row step-rows termsUnder filled entries slicesShort valuedAnswer valuedWith
 step-cases = rw tell-listed refl
 
 -- ---- document 02 (ii): the maps of contract P, in words that held ones before; a word too few; of a contract with two decision
@@ -348,13 +287,13 @@ map-rows =
 
 pub map-cases : map (λ r. tell (r .asked)) map-rows ≡ map (λ r. r .told) map-rows
 unfolding sum tabulate first firstFrom largest smallestBest reached worth valueOver value recorded startValue word long bytesOf termsOf
-    returnsOf ratesOf freeAmount largestAmount surrenders admits rateOn penalty cash guaranteeAfter balanceAfter liftedAccount nextAccount
-    excess excessPaid maturityValue discounted recordedAmount amountLayers layers freeIn admissibleIn limitIn cashIn afterIn reachBy
-    paidBy deathPayment deathShare deathBy meanOf expectOver startOf processOf layerSize layoutOf listedTerm checkEach verdict onSuccess
-    outside short termsChecks recordChecks badReturn listChecks ratesChecks inputChecks productOf behaviourNumber behaviourOf tableSize
-    lentChecks valuingChecks bit fromBits wordsFor wordOf wordsOf setBits surrendered surrenderMap surrenderCount mapSize mapChecks
-    mappingChecks mappingVerdict mappingTable mappingMap mappingCount packed P P-one small returnsP unless-refused recordVerdict
-    zeroRates contractBy mapBy tellBy row map-rows
+    returnsOf ratesOf freeAmount largestAmount surrenders admits rateOn penalty cash guaranteeAfter balanceAfter liftedAccount
+    nextAccount excess excessPaid maturityValue discounted recordedAmount amountLayers layers freeIn admissibleIn cashIn afterIn reachBy
+    paidBy deathPayment deathShare deathBy meanByList heldByList processOf layerSize layoutOf listedTerm checkEach verdict onSuccess
+    outside short termsChecks recordChecks badReturn listChecks ratesChecks inputChecks behaviourNumber behaviourOf valuingChecks bit
+    fromBits wordsFor wordOf wordsOf setBits surrendered surrenderMap surrenderCount mapSize mappingChecks packed P P-one small returnsP
+    unless-refused zeroRateBytes tellBy row map-rows termsUnder filled entries slicesShort valuedTable mapAfter countAfter mapped
+    surrenderIn
 map-cases = rw tell-listed refl
 
 -- ---- document 02 (iv): contract P with N 3, and its walks along the dynamic table; with top 12, where the first return pays
@@ -379,11 +318,11 @@ pub excess-cases : map (λ r. tell (r .asked)) excess-rows ≡ map (λ r. r .tol
 unfolding sum tabulate first firstFrom largest smallestBest reached worth valueOver value recorded startValue met startMet word long
     bytesOf termsOf returnsOf ratesOf freeAmount largestAmount surrenders admits rateOn penalty cash guaranteeAfter balanceAfter
     liftedAccount nextAccount excess excessPaid maturityValue discounted margin recordedAmount contractValue amountLayers walkState
-    walkAmount walkHeld walkPaid walkCashOn walkCashLast walkCash lookup layers entry freeIn admissibleIn limitIn cashIn afterIn reachBy
-    paidBy deathPayment deathShare deathBy meanOf expectOver startOf processOf layerSize layoutOf fixedTerm listedTerm checkEach verdict
-    onSuccess outside short termsChecks recordChecks badReturn listChecks ratesChecks inputChecks productOf livingOf answer behaviourNumber
-    behaviourOf tableSize lentChecks valuingChecks valuingVerdict valuingAnswer badDate pathChecks walkChecks walkVerdict walkCashes
-    packed P-three P-tight returnsP unless-refused valued valuedBy recordVerdict zeroRates contractBy walkedAlong tellBy row excess-rows
+    walkAmount walkHeld walkPaid walkCashOn walkCashLast walkCash lookup layers entry freeIn admissibleIn cashIn afterIn reachBy paidBy
+    deathPayment deathShare deathBy meanByList heldByList processOf layerSize layoutOf fixedTerm listedTerm checkEach verdict onSuccess
+    outside short termsChecks recordChecks badReturn listChecks ratesChecks inputChecks answer behaviourNumber behaviourOf valuingChecks
+    badDate walkChecks walkCashes packed P-three P-tight returnsP unless-refused zeroRateBytes tellBy row excess-rows termsUnder filled
+    entries slicesShort valuedAnswer valuedWith walked
 excess-cases = rw tell-listed refl
 
 -- ---- document 02 (v): contract P with death rates, also of three and four periods, of a discount, and of top 12, where a death
@@ -415,12 +354,12 @@ death-rows =
 
 pub death-cases : map (λ r. tell (r .asked)) death-rows ≡ map (λ r. r .told) death-rows
 unfolding sum first firstFrom largest smallestBest reached worth valueOver value startValue word long bytesOf termsOf returnsOf ratesOf
-    freeAmount largestAmount surrenders admits rateOn penalty cash guaranteeAfter balanceAfter liftedAccount nextAccount excess excessPaid
-    maturityValue deathPayment deathShare discounted margin contractValue freeIn admissibleIn limitIn cashIn afterIn reachBy paidBy
-    deathBy meanOf expectOver startOf processOf layerSize layoutOf listedTerm checkEach verdict numberOf placeOf onSuccess outside short
-    termsChecks recordChecks badReturn listChecks ratesChecks inputChecks productOf answer behaviourNumber behaviourOf tableSize
-    lentChecks valuingChecks valuingVerdict valuingAnswer packed packedRates P P-three P-four P-discounted P-tight returnsP unless-refused
-    valued valuedBy recordVerdict zeroRates contractBy tellBy row death-rows
+    freeAmount largestAmount surrenders admits rateOn penalty cash guaranteeAfter balanceAfter liftedAccount nextAccount excess
+    excessPaid maturityValue deathPayment deathShare discounted margin contractValue freeIn admissibleIn cashIn afterIn reachBy paidBy
+    deathBy meanByList heldByList processOf layerSize layoutOf listedTerm checkEach verdict numberOf placeOf onSuccess outside short
+    termsChecks recordChecks badReturn listChecks ratesChecks inputChecks answer behaviourNumber behaviourOf valuingChecks packed
+    packedRates P P-three P-four P-discounted P-tight returnsP unless-refused zeroRateBytes tellBy row death-rows termsUnder filled
+    entries slicesShort valuedAnswer valuedWith
 death-cases = rw tell-listed refl
 
 -- ---- document 02 (vi): contract P; Q, whose record has a fee; a contract of one unit. Fees further from 0, and a value that no fee
@@ -440,12 +379,11 @@ fee-rows =
 
 pub fee-cases : map (λ r. tell (r .asked)) fee-rows ≡ map (λ r. r .told) fee-rows
 unfolding sum first firstFrom largest smallestBest reached worth valueOver value startValue word long bytesOf termsOf returnsOf ratesOf
-    freeAmount largestAmount surrenders admits rateOn penalty cash guaranteeAfter balanceAfter liftedAccount nextAccount excess excessPaid
-    maturityValue deathPayment deathShare discounted margin contractValue freeIn admissibleIn limitIn cashIn afterIn reachBy paidBy
-    deathBy meanOf expectOver startOf processOf layerSize layoutOf listedTerm checkEach verdict numberOf placeOf onSuccess outside short
-    termsChecks recordChecks badReturn listChecks ratesChecks inputChecks productOf answer behaviourNumber behaviourOf workChecks
-    aloneChecks feeValue meets smallestFee wantedChecks feeChecks feeVerdict feeFound feeAnswer packed P Q tiny returnsP unless-refused
-    recordVerdict zeroRates contractBy feeBy tellBy row fee-rows
+    freeAmount largestAmount surrenders admits rateOn penalty cash guaranteeAfter balanceAfter liftedAccount nextAccount excess
+    excessPaid maturityValue deathPayment deathShare discounted margin contractValue freeIn admissibleIn cashIn afterIn reachBy paidBy
+    deathBy meanByList heldByList processOf layerSize layoutOf listedTerm checkEach verdict numberOf placeOf onSuccess outside short
+    termsChecks recordChecks badReturn listChecks ratesChecks inputChecks answer behaviourNumber behaviourOf feeChecks feeFound
+    feeAnswer packed P Q tiny returnsP unless-refused zeroRateBytes tellBy row fee-rows termsUnder noTableChecks feeSought priced
 fee-cases = rw tell-listed refl
 
 -- ---- document 02 (vii): contracts of few states, computed by account, as the definitions are
@@ -466,23 +404,22 @@ tiny-rows =
 pub tiny-cases : map (λ r. tell (r .asked)) tiny-rows ≡ map (λ r. r .told) tiny-rows
 unfolding sum first firstFrom largest smallestBest worth valueOver value startValue word long bytesOf termsOf returnsOf ratesOf
     freeAmount largestAmount surrenders admits rateOn penalty cash guaranteeAfter balanceAfter liftedAccount nextAccount excess
-    excessPaid maturityValue deathPayment deathShare discounted margin contractValue freeIn admissibleIn limitIn cashIn afterIn startOf
-    processOf layerSize layoutOf checkEach verdict numberOf placeOf onSuccess outside short termsChecks recordChecks badReturn
-    listChecks ratesChecks inputChecks productOf answer behaviourNumber behaviourOf workChecks aloneChecks feeValue meets smallestFee
-    wantedChecks feeChecks feeVerdict feeFound feeAnswer packed returnsP unless-refused recordVerdict zeroRates row tabulate recorded
-    recordedAmount amountLayers layers tableSize lentChecks valuingChecks bit fromBits wordsFor wordOf wordsOf setBits surrendered
-    surrenderMap surrenderCount mapSize mapChecks mappingChecks mappingVerdict mappingTable mappingMap mappingCount most weightTo
-    excessMost byAccount meanByAccount valueWith meanOver fixedTerm valuingVerdict valuingAnswer valuedWith valued tell two two-dated
-    tiny-rows
+    excessPaid maturityValue deathPayment deathShare discounted margin contractValue freeIn admissibleIn cashIn afterIn processOf
+    layerSize layoutOf checkEach verdict numberOf placeOf onSuccess outside short termsChecks recordChecks badReturn listChecks
+    ratesChecks inputChecks answer behaviourNumber behaviourOf feeChecks feeFound feeAnswer packed returnsP unless-refused zeroRateBytes
+    row tabulate recorded recordedAmount amountLayers layers valuingChecks bit fromBits wordsFor wordOf wordsOf setBits surrendered
+    surrenderMap surrenderCount mapSize mappingChecks most weightTo excessMost byAccount meanByAccount valueWith heldByAccount fixedTerm
+    valuedWith two two-dated tiny-rows termsUnder filled entries slicesShort valuedAnswer tellBy valuedTable mapAfter countAfter mapped
+    surrenderIn noTableChecks feeSought priced tell
 tiny-cases = refl
 
 -- "After the search, found or not, the needed working entries are zero": both layers of four entries, and the one behind them as it
 -- was; a slice that is too short keeps what it held
-pub fee-leaves : (feeWork (packed tiny) returnsP (zeroRates (packed tiny)) 0 (replicate 9 7) ≡ 0 ∷ 0 ∷ 0 ∷ 0 ∷ 0 ∷ 0 ∷ 0 ∷ 0 ∷ 7 ∷ [])
-    × (feeWork (packed tiny) returnsP (zeroRates (packed tiny)) 0 (replicate 7 7) ≡ replicate 7 7)
-unfolding sum first firstFrom word long bytesOf termsOf returnsOf ratesOf layerSize checkEach verdict onSuccess outside short termsChecks
-    recordChecks badReturn listChecks ratesChecks inputChecks workChecks aloneChecks aloneVerdict feeWork packed tiny returnsP
-    recordVerdict zeroRates
+pub fee-leaves : (feeWork (policyOf (given tiny (zeros tiny))) 0 (replicate 9 7) ≡ 0 ∷ 0 ∷ 0 ∷ 0 ∷ 0 ∷ 0 ∷ 0 ∷ 0 ∷ 7 ∷ [])
+    × (feeWork (policyOf (given tiny (zeros tiny))) 0 (replicate 7 7) ≡ replicate 7 7)
+unfolding sum first firstFrom word long bytesOf termsOf returnsOf ratesOf layerSize checkEach verdict onSuccess outside short
+    termsChecks recordChecks badReturn listChecks ratesChecks inputChecks feeWork packed tiny returnsP zeroRateBytes termsUnder
+    noTableChecks filled fixedTerm layoutOf
 fee-leaves = (refl, refl)
 
 -- "The program .. prints exactly": the five lines for P, as ASCII codes
@@ -492,13 +429,13 @@ pub printed-P : printed (packed P) returnsP
     100 ∷ 121 ∷ 110 ∷ 97 ∷ 109 ∷ 105 ∷ 99 ∷ 32 ∷ 49 ∷ 51 ∷ 48 ∷ 48 ∷ 48 ∷ 48 ∷ 10 ∷
     48 ∷ 32 ∷ 53 ∷ 32 ∷ 49 ∷ 48 ∷ 32 ∷ 53 ∷ 32 ∷ 53 ∷ 32 ∷ 48 ∷ 10 ∷
     49 ∷ 32 ∷ 49 ∷ 53 ∷ 32 ∷ 49 ∷ 48 ∷ 32 ∷ 53 ∷ 32 ∷ 53 ∷ 32 ∷ 48 ∷ 10 ∷ []
-unfolding sum first firstFrom largest smallestBest reached worth valueOver value recorded startValue word long bytesOf termsOf returnsOf
-    ratesOf freeAmount largestAmount surrenders admits rateOn penalty cash guaranteeAfter balanceAfter liftedAccount nextAccount excess
-    excessPaid maturityValue discounted stateValue recordedAmount contractValue freeIn admissibleIn limitIn cashIn afterIn reachBy paidBy
-    deathPayment deathShare deathBy meanOf expectOver startOf processOf layerSize layoutOf listedTerm checkEach verdict outside short
-    termsChecks recordChecks badReturn listChecks ratesChecks inputChecks productOf behaviourNumber tableSize lentChecks valuingChecks
-    valuingVerdict digits decimal numbered line nameOf linesOf valueLine returnLine lineCount valuesText textOf recordVerdict onSuccess
-    zeroRates programVerdict printed packed P returnsP
+unfolding programVerdict sum first firstFrom largest smallestBest reached worth valueOver value recorded startValue word long bytesOf
+    termsOf returnsOf ratesOf freeAmount largestAmount surrenders admits rateOn penalty cash guaranteeAfter balanceAfter liftedAccount
+    nextAccount excess excessPaid maturityValue discounted stateValue recordedAmount contractValue freeIn admissibleIn cashIn afterIn
+    reachBy paidBy deathPayment deathShare deathBy meanByList heldByList processOf layerSize layoutOf listedTerm checkEach verdict
+    outside short termsChecks recordChecks badReturn listChecks ratesChecks inputChecks behaviourNumber valuingChecks digits decimal
+    numbered line nameOf linesOf valueLine returnLine lineCount textOf onSuccess zeroRateBytes printed packed P returnsP termsUnder
+    entries slicesShort
 printed-P = rw listed-contract refl
 
 -- "the program lends 4,096 working numbers, refusing by 11 what needs more": two layers of 64 × 32 entries, and of 683 × 3
@@ -517,7 +454,7 @@ P-wide premium top = record {
 
 pub program-room : (programVerdict (packed (P-wide 31 63)) returnsP ≡ accepted)
     × (programVerdict (packed (P-wide 2 682)) returnsP ≡ refused 11 0)
-unfolding sum first firstFrom word long bytesOf termsOf returnsOf ratesOf layerSize checkEach verdict outside short termsChecks
-    recordChecks badReturn listChecks ratesChecks inputChecks behaviourNumber tableSize lentChecks valuingChecks valuingVerdict
-    recordVerdict onSuccess zeroRates programVerdict packed returnsP
+unfolding programVerdict sum first firstFrom word long bytesOf termsOf returnsOf ratesOf layerSize checkEach verdict outside short
+    termsChecks recordChecks badReturn listChecks ratesChecks inputChecks behaviourNumber valuingChecks onSuccess zeroRateBytes packed
+    returnsP termsUnder entries slicesShort fixedTerm processOf layoutOf
 program-room = (refl, refl)

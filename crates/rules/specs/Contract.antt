@@ -1,5 +1,5 @@
 -- Document 01, 'Units and records': the contract record, the return list and the death rates, their layout and their ranges.
--- Sentences marked (i), (v) are of document 02, by its requests. Assumes nothing.
+-- Sentences marked (i), (v), (vi) are of document 02, by its requests. Assumes nothing.
 use mathlib.Core.List.{List, [], _∷_}
 use Prim.Native.Nat.{ℕ, zero, suc, _+_, _*_, _/_, _%_}
 use lib.ListN.{getD, length}
@@ -33,19 +33,24 @@ pub record Terms : Type 0 where
 abbrev pub recordBytes : ℕ
 recordBytes = 20
 
--- the table of offsets, and (i) "a penalty step in ten-thousandths at offset 16, and two spare bytes at 18"
-unfoldable pub termsOf : List ℕ → Terms
-termsOf bytes = record {
+-- the table of offsets, and (i) "a penalty step in ten-thousandths at offset 16, and two spare bytes at 18"; the fee, of which (vi)
+-- tries others, is given
+unfoldable pub termsUnder : ℕ → List ℕ → Terms
+termsUnder fee bytes = record {
   premium = word bytes 0;
   level = word bytes 2;
   top = word bytes 4;
   dates = word bytes 6;
-  fee = word bytes 8;
+  fee = fee;
   penalty = word bytes 10;
   discount = long bytes 12;
   step = word bytes 16;
   spare = word bytes 18;
 }
+
+-- the record's own fee stands at offset 8
+unfoldable pub termsOf : List ℕ → Terms
+termsOf bytes = termsUnder (word bytes 8) bytes
 
 -- the column of ranges
 abbrev pub topMost : ℕ
@@ -105,5 +110,11 @@ unfoldable pub ratesOf : List ℕ → Rates
 ratesOf bytes i = word bytes (rateBytes * i)
 
 -- (v) "a walk is a living holder's and takes no rates"
-abbrev pub living : Rates
-living i = 0
+abbrev pub zeroRates : Rates
+zeroRates i = 0
+
+-- ---- what a contract is read from: the bytes of its record, of its return list and of its death rates
+pub record Input : Type 0 where
+  pub bytes : List ℕ
+  pub list : List ℕ
+  pub rates : List ℕ

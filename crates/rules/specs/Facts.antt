@@ -12,59 +12,69 @@ use native.Mathlib.Omega.{arith}
 use lib.Dec.{lit<, ltb}
 use borrow.Author.Tests.{lt-ltb, le-ltb}
 use lib.IntN.{pos, negℤ}
-use Rattle.rules.specs.Contract.{factorMost}
+use Rattle.rules.specs.Contract.{Input, factorMost}
 use Rattle.rules.specs.Date.{liftedAccount, nextAccount, excess, deathShare, discounted, margin}
-use Rattle.rules.specs.Refusals.{checkEach, numbers, termsChecks, recordChecks, listChecks, ratesChecks, inputChecks}
+use Rattle.rules.specs.Product.{Product}
+use Rattle.rules.specs.FixedTerm.{State, Held}
+use Rattle.rules.specs.Refusals.{Check, check, checkEach, termsChecks, recordChecks, listChecks, ratesChecks, inputChecks}
+use Rattle.rules.specs.Operations.{valuingChecks, noTableChecks, suppliedChecks, walkChecks}
+use Rattle.rules.specs.Policy.{policyOf, livingPolicy}
+use Rattle.rules.specs.Booking.{amountChecks, bookingChecks}
+use Rattle.rules.specs.Map.{mappingChecks}
+use Rattle.rules.specs.Fee.{feeChecks}
 use Rattle.rules.specs.Printed.{digits, decimal}
-use Rattle.rules.specs.Operations.{lentChecks, valuingChecks, tableChecks, suppliedChecks, amountChecks, bookingChecks}
-use Rattle.rules.specs.Operations.{pathChecks, walkChecks, workChecks, aloneChecks}
-use Rattle.rules.specs.Map.{mapChecks, mappingChecks}
-use Rattle.rules.specs.Fee.{wantedChecks, feeChecks}
 
 -- ---- "Checks run in the order of the table; an operation makes those for which it has the input."
-pub record-order : (bytes : List ℕ) → numbers (recordChecks bytes) ≡ 1 ∷ 2 ∷ 3 ∷ 4 ∷ 5 ∷ 6 ∷ 15 ∷ []
-unfolding numbers termsChecks recordChecks
+-- the numbers of checks, in order
+unfoldable pub checkNumbers : List Check → List ℕ
+checkNumbers [] = []
+checkNumbers (check number place failed ∷ ks) = number ∷ checkNumbers ks
+
+pub record-order : (bytes : List ℕ) → checkNumbers (recordChecks bytes) ≡ 1 ∷ 2 ∷ 3 ∷ 4 ∷ 5 ∷ 6 ∷ 15 ∷ []
+unfolding checkNumbers termsChecks recordChecks
 record-order bytes = refl
 
-pub valuing-order : (bytes list rates : List ℕ) (behaviour : ℕ) (work table : List ℕ)
-    → numbers (valuingChecks bytes list rates behaviour work table)
-    ≡ 1 ∷ 2 ∷ 3 ∷ 4 ∷ 5 ∷ 6 ∷ 15 ∷ 7 ∷ 8 ∷ 9 ∷ 17 ∷ 18 ∷ 10 ∷ 11 ∷ []
-unfolding numbers termsChecks recordChecks listChecks ratesChecks inputChecks lentChecks valuingChecks checkEach
-valuing-order bytes list rates behaviour work table = refl
-
-pub mapping-order : (bytes list rates : List ℕ) (behaviour : ℕ) (work table map : List ℕ)
-    → numbers (mappingChecks bytes list rates behaviour work table map)
-    ≡ 1 ∷ 2 ∷ 3 ∷ 4 ∷ 5 ∷ 6 ∷ 15 ∷ 7 ∷ 8 ∷ 9 ∷ 17 ∷ 18 ∷ 10 ∷ 11 ∷ 16 ∷ []
-unfolding numbers termsChecks recordChecks listChecks ratesChecks inputChecks lentChecks valuingChecks checkEach mapChecks mappingChecks
-mapping-order bytes list rates behaviour work table map = refl
-
-pub alone-order : (bytes list rates : List ℕ) (behaviour : ℕ) (work : List ℕ)
-    → numbers (aloneChecks bytes list rates behaviour work)
-    ≡ 1 ∷ 2 ∷ 3 ∷ 4 ∷ 5 ∷ 6 ∷ 15 ∷ 7 ∷ 8 ∷ 9 ∷ 17 ∷ 18 ∷ 10 ∷ 11 ∷ []
-unfolding numbers termsChecks recordChecks listChecks ratesChecks inputChecks workChecks aloneChecks checkEach
-alone-order bytes list rates behaviour work = refl
-
-pub fee-order : (bytes list rates : List ℕ) (behaviour wanted : ℕ) (work : List ℕ)
-    → numbers (feeChecks bytes list rates behaviour wanted work)
-    ≡ 1 ∷ 2 ∷ 3 ∷ 4 ∷ 5 ∷ 6 ∷ 15 ∷ 7 ∷ 8 ∷ 9 ∷ 17 ∷ 18 ∷ 10 ∷ 11 ∷ 19 ∷ []
-unfolding numbers termsChecks recordChecks listChecks ratesChecks inputChecks workChecks aloneChecks checkEach wantedChecks feeChecks
-fee-order bytes list rates behaviour wanted work = refl
-
-pub supplied-order : (bytes list rates work table : List ℕ)
-    → numbers (suppliedChecks bytes list rates work table)
-    ≡ 1 ∷ 2 ∷ 3 ∷ 4 ∷ 5 ∷ 6 ∷ 15 ∷ 7 ∷ 8 ∷ 9 ∷ 17 ∷ 18 ∷ 11 ∷ 14 ∷ []
-unfolding numbers termsChecks recordChecks listChecks ratesChecks inputChecks tableChecks suppliedChecks checkEach
-supplied-order bytes list rates work table = refl
-
 pub booking-order : (bytes : List ℕ) (date w a t : ℕ) (buffer : List ℕ)
-    → numbers (bookingChecks bytes date w a t buffer) ≡ 1 ∷ 2 ∷ 3 ∷ 4 ∷ 5 ∷ 6 ∷ 15 ∷ 11 ∷ 12 ∷ 14 ∷ []
-unfolding numbers termsChecks recordChecks amountChecks bookingChecks
+    → checkNumbers (bookingChecks bytes date w a t buffer) ≡ 1 ∷ 2 ∷ 3 ∷ 4 ∷ 5 ∷ 6 ∷ 15 ∷ 11 ∷ 12 ∷ 14 ∷ []
+unfolding checkNumbers termsChecks recordChecks amountChecks bookingChecks
 booking-order bytes date w a t buffer = refl
 
 pub walk-order : (bytes list table path cashes : List ℕ)
-    → numbers (walkChecks bytes list table path cashes) ≡ 1 ∷ 2 ∷ 3 ∷ 4 ∷ 5 ∷ 6 ∷ 15 ∷ 7 ∷ 8 ∷ 9 ∷ 11 ∷ 13 ∷ 13 ∷ 14 ∷ []
-unfolding numbers termsChecks recordChecks listChecks pathChecks walkChecks checkEach
+    → checkNumbers (walkChecks (livingPolicy bytes list) table path cashes)
+    ≡ 1 ∷ 2 ∷ 3 ∷ 4 ∷ 5 ∷ 6 ∷ 15 ∷ 7 ∷ 8 ∷ 9 ∷ 11 ∷ 13 ∷ 13 ∷ 14 ∷ []
+unfolding checkNumbers termsChecks recordChecks listChecks walkChecks checkEach
 walk-order bytes list table path cashes = refl
+
+module _ (x : Input) where
+  pub valuing-order : (behaviour : ℕ) (work table : List ℕ)
+      → checkNumbers (valuingChecks (policyOf x) behaviour work table)
+      ≡ 1 ∷ 2 ∷ 3 ∷ 4 ∷ 5 ∷ 6 ∷ 15 ∷ 7 ∷ 8 ∷ 9 ∷ 17 ∷ 18 ∷ 10 ∷ 11 ∷ []
+  unfolding checkNumbers termsChecks recordChecks listChecks ratesChecks inputChecks valuingChecks checkEach
+  valuing-order behaviour work table = refl
+
+  pub mapping-order : (behaviour : ℕ) (work table map : List ℕ)
+      → checkNumbers (mappingChecks (policyOf x) behaviour work table map)
+      ≡ 1 ∷ 2 ∷ 3 ∷ 4 ∷ 5 ∷ 6 ∷ 15 ∷ 7 ∷ 8 ∷ 9 ∷ 17 ∷ 18 ∷ 10 ∷ 11 ∷ 16 ∷ []
+  unfolding checkNumbers termsChecks recordChecks listChecks ratesChecks inputChecks valuingChecks mappingChecks checkEach
+  mapping-order behaviour work table map = refl
+
+  pub no-table-order : (behaviour : ℕ) (work : List ℕ)
+      → checkNumbers (noTableChecks (policyOf x) behaviour work)
+      ≡ 1 ∷ 2 ∷ 3 ∷ 4 ∷ 5 ∷ 6 ∷ 15 ∷ 7 ∷ 8 ∷ 9 ∷ 17 ∷ 18 ∷ 10 ∷ 11 ∷ []
+  unfolding checkNumbers termsChecks recordChecks listChecks ratesChecks inputChecks noTableChecks checkEach
+  no-table-order behaviour work = refl
+
+  pub fee-order : (under : ℕ → Product State Held) (behaviour wanted : ℕ) (work : List ℕ)
+      → checkNumbers (feeChecks (policyOf x) under behaviour wanted work)
+      ≡ 1 ∷ 2 ∷ 3 ∷ 4 ∷ 5 ∷ 6 ∷ 15 ∷ 7 ∷ 8 ∷ 9 ∷ 17 ∷ 18 ∷ 10 ∷ 11 ∷ 19 ∷ []
+  unfolding checkNumbers termsChecks recordChecks listChecks ratesChecks inputChecks noTableChecks feeChecks checkEach
+  fee-order under behaviour wanted work = refl
+
+  pub supplied-order : (work table : List ℕ)
+      → checkNumbers (suppliedChecks (policyOf x) work table)
+      ≡ 1 ∷ 2 ∷ 3 ∷ 4 ∷ 5 ∷ 6 ∷ 15 ∷ 7 ∷ 8 ∷ 9 ∷ 17 ∷ 18 ∷ 11 ∷ 14 ∷ []
+  unfolding checkNumbers termsChecks recordChecks listChecks ratesChecks inputChecks suppliedChecks checkEach
+  supplied-order work table = refl
 
 -- ---- "rounded down a single time": the next account is the largest that top and the exact product allow
 pub account-rounds : (fee top balance factor x : ℕ)

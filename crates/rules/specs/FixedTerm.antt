@@ -5,10 +5,9 @@ use lib.Dec.{eqb}
 use Rattle.decision.specs.Index.{sum}
 use Rattle.decision.specs.Groups.{most}
 use Rattle.decision.specs.Process.{Process}
-use Rattle.decision.specs.Means.{listed}
 use Rattle.decision.specs.Layers.{Layout}
-use Rattle.rules.specs.Contract.{Terms, Returns, Rates, living}
-use Rattle.rules.specs.Date.{Behaviour, freeAmount, largestAmount, admits, rateOn, cash, guaranteeAfter, balanceAfter}
+use Rattle.rules.specs.Contract.{Terms, Returns, Rates}
+use Rattle.rules.specs.Date.{Behaviour, freeAmount, largestAmount, surrenders, admits, rateOn, cash, guaranteeAfter, balanceAfter}
 use Rattle.rules.specs.Date.{nextAccount, excess, excessPaid, maturityValue, deathPayment, deathShare, discounted}
 use Rattle.rules.specs.Product.{Product}
 
@@ -33,8 +32,8 @@ freeIn c s = freeAmount (c .level) (s .guarantee)
 unfoldable pub admissibleIn : Terms → Behaviour → State → ℕ → Bool
 admissibleIn c b s t = admits b (freeIn c s) (s .account) t
 
-unfoldable pub limitIn : Terms → State → ℕ
-limitIn c s = largestAmount (freeIn c s) (s .account)
+unfoldable pub surrenderIn : Terms → State → ℕ → Bool
+surrenderIn c s t = surrenders (freeIn c s) (s .account) t
 
 -- the penalty rate on date i: (i) "Bookings, tables and values follow it."
 abbrev pub rateIn : Terms → ℕ → ℕ
@@ -62,18 +61,16 @@ paidBy c rs h k = excessPaid (c .fee) (c .top) (h .balance) (rs .factor k)
 
 -- (v) the payment where the holder dies in the period of return k
 unfoldable pub deathBy : Terms → Returns → Held → ℕ → ℕ
-deathBy c rs h k =
-    let s = reachBy c rs h k in
-    deathPayment (s .account) (s .guarantee) (excess (c .fee) (c .top) (h .balance) (rs .factor k))
+deathBy c rs h k = deathPayment (reachBy c rs h k .account) (h .guarantee) (excess (c .fee) (c .top) (h .balance) (rs .factor k))
 
 -- "discount × (sum of weight × value reached) / 10,000,000,000, rounded down once"
-unfoldable pub meanOf : Terms → Returns → (ℕ → ℕ) → ℕ
-meanOf c rs reached = discounted (c .discount) (sum (λ k. rs .weight k * reached k) (rs .count))
+unfoldable pub meanByList : Terms → Returns → (ℕ → ℕ) → ℕ
+meanByList c rs reached = discounted (c .discount) (sum (λ k. rs .weight k * reached k) (rs .count))
 
 -- .. where (v) "Each reached value becomes" its share with the death payment, by the rate of the period that begins on date i,
 -- "before weights are applied"
-unfoldable pub expectOver : Terms → Returns → Rates → ℕ → Held → (ℕ → ℕ) → ℕ
-expectOver c rs ds i h reached = meanOf c rs (λ k. deathShare (ds i) (reached k) (deathBy c rs h k))
+unfoldable pub heldByList : Terms → Returns → Rates → ℕ → Held → (ℕ → ℕ) → ℕ
+heldByList c rs ds i h reached = meanByList c rs (λ k. deathShare (ds i) (reached k) (deathBy c rs h k))
 
 -- (vii) "Weights of returns that reach the same account and the same excess shall be added first"
 unfoldable pub weightTo : Terms → Returns → ℕ → ℕ → ℕ → ℕ
@@ -102,25 +99,22 @@ valueWith ds i a value w over =
     deathShare (ds i) (10000 * over + value (record { account = w; guarantee = a })) (deathPayment w a over)
 
 -- the worth on date i of what is held, summed so
-unfoldable pub meanOver : Terms → Returns → Rates → ℕ → Held → (State → ℕ) → ℕ
-meanOver c rs ds i h value = meanByAccount c rs (h .balance) (valueWith ds i (h .guarantee) value)
+unfoldable pub heldByAccount : Terms → Returns → Rates → ℕ → Held → (State → ℕ) → ℕ
+heldByAccount c rs ds i h value = meanByAccount c rs (h .balance) (valueWith ds i (h .guarantee) value)
 
--- "Start: balance U and guarantee U, then the first return."
-unfoldable pub startOf : Terms → Held
-startOf c = record { balance = c .premium; guarantee = c .premium }
-
+-- the process of it all; "Start: balance U and guarantee U, then the first return."
 unfoldable pub processOf : Terms → Returns → Rates → Process State Held
 processOf c rs ds = record {
   dates = c .dates;
-  start = startOf c;
+  start = record { balance = c .premium; guarantee = c .premium };
   returns = rs .count;
-  limit = limitIn c;
+  limit = λ s. largestAmount (freeIn c s) (s .account);
   cash = cashIn c;
   after = afterIn c;
   reach = reachBy c rs;
   paid = paidBy c rs;
-  expect = expectOver c rs ds;
-  mean = meanOver c rs ds;
+  byList = heldByList c rs ds;
+  byState = heldByAccount c rs ds;
   final = λ s. maturityValue (s .account) (s .guarantee);
 }
 
@@ -137,12 +131,4 @@ layoutOf c = record {
 }
 
 unfoldable pub fixedTerm : Terms → Returns → Rates → Product State Held
-fixedTerm c rs ds = record { process = processOf c rs ds; admissible = admissibleIn c; layout = layoutOf c }
-
--- the contract whose means are summed return by return, as document 01 has it
-unfoldable pub listedTerm : Terms → Returns → Rates → Product State Held
-listedTerm c rs ds = record { process = listed (processOf c rs ds); admissible = admissibleIn c; layout = layoutOf c }
-
--- the contract of a holder who lives, as a walk follows it
-abbrev pub livingTerm : Terms → Returns → Product State Held
-livingTerm c rs = fixedTerm c rs living
+fixedTerm c rs ds = record { process = processOf c rs ds; admissible = admissibleIn c; surrender = surrenderIn c; layout = layoutOf c }

@@ -6,6 +6,8 @@ pub mod FixedTerm
 pub mod ByList
 pub mod Refusals
 pub mod Operations
+pub mod Policy
+pub mod Booking
 pub mod Map
 pub mod Fee
 pub mod Printed

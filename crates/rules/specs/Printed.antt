@@ -9,8 +9,9 @@ use Rattle.rules.specs.Contract.{rateBytes, termsOf}
 use Rattle.rules.specs.Date.{Behaviour, static, mixed, dynamic}
 use Rattle.rules.specs.Product.{Product, recordedAmount, contractValue}
 use Rattle.rules.specs.FixedTerm.{State, Held}
-use Rattle.rules.specs.Refusals.{Verdict, accepted, refused, onSuccess}
-use Rattle.rules.specs.Operations.{productOf, recordVerdict, behaviourNumber, valuingVerdict}
+use Rattle.rules.specs.Refusals.{Verdict, accepted, refused, verdict, onSuccess, recordChecks}
+use Rattle.rules.specs.Operations.{Policy, behaviourNumber, valuingChecks}
+use Rattle.rules.specs.Policy.{policyOf}
 
 -- "All figures here are decimal": the digits of a number, with no zeros in front, if there are no more than `places`
 unfoldable pub digits : ℕ → ℕ → List ℕ
@@ -60,28 +61,23 @@ module _ (X : Product State Held) where
   unfoldable pub lineCount : ℕ
   lineCount = cond (ltb 1 (X .process .dates)) (X .process .returns) 0
 
-  unfoldable pub valuesText : List ℕ
-  valuesText = valueLine static ++ valueLine mixed ++ valueLine dynamic ++ linesOf returnLine lineCount
-
   -- "A refusal prints only `refused`, number and place"
   unfoldable pub textOf : Verdict → List ℕ
-  textOf accepted = valuesText
+  textOf accepted = valueLine static ++ valueLine mixed ++ valueLine dynamic ++ linesOf returnLine lineCount
   textOf (refused n p) = line refusedWord (n ∷ p ∷ [])
 
--- (v) "Zero rates, as the program uses": N of them, once the record is accepted
-unfoldable pub zeroRates : List ℕ → List ℕ
-zeroRates bytes = replicate (onSuccess (recordVerdict bytes) (rateBytes * termsOf bytes .dates) 0) 0
+-- what the program values: (v) "Zero rates, as the program uses", N of them once the record is accepted
+unfoldable pub zeroRateBytes : List ℕ → List ℕ
+zeroRateBytes bytes = replicate (onSuccess (verdict (recordChecks bytes)) (rateBytes * termsOf bytes .dates) 0) 0
 
--- the contract that it values
-abbrev pub programOf : List ℕ → List ℕ → Product State Held
-programOf bytes list = productOf bytes list (zeroRates bytes)
+abbrev pub programOf : List ℕ → List ℕ → Policy State Held
+programOf bytes list = policyOf (record { bytes = bytes; list = list; rates = zeroRateBytes bytes })
 
--- "the program lends 4,096 working numbers, refusing by 11 what needs more", ".. and a table of 16,384." The three behaviours
--- have the same checks.
+-- "the program lends 4,096 working numbers, refusing by 11 what needs more", ".. and a table of 16,384." The three behaviours have
+-- the same checks.
 unfoldable pub programVerdict : List ℕ → List ℕ → Verdict
-programVerdict bytes list =
-    valuingVerdict bytes list (zeroRates bytes) (behaviourNumber static) (replicate 4096 0) (replicate 16384 0)
+programVerdict bytes list = verdict (valuingChecks (programOf bytes list) (behaviourNumber static) (replicate 4096 0) (replicate 16384 0))
 
 -- all that is printed
 unfoldable pub printed : List ℕ → List ℕ → List ℕ
-printed bytes list = textOf (programOf bytes list) (programVerdict bytes list)
+printed bytes list = textOf (programOf bytes list .product) (programVerdict bytes list)

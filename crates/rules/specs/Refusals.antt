@@ -1,22 +1,17 @@
 -- Document 01, 'What an office is told': checks, their order, and what a refusal gives. Sentences marked (i), (v) are of
 -- document 02, by its requests. Assumes nothing.
 use mathlib.Core.Bool.{Bool, true, false, cond, not, _||_}
-use mathlib.Core.List.{List, [], _∷_, _++_, map}
+use mathlib.Core.List.{List, [], _∷_, _++_}
 use Prim.Native.Nat.{ℕ, _+_, _*_, _%_}
 use lib.Dec.{ltb, eqb}
 use lib.ListN.{length}
 use Rattle.decision.specs.Index.{sum, first}
-use Rattle.rules.specs.Contract.{Terms, Returns, recordBytes, termsOf, topMost, datesMost, rateMost, discountMost}
+use Rattle.rules.specs.Contract.{Input, Terms, Returns, recordBytes, termsOf, topMost, datesMost, rateMost, discountMost}
 use Rattle.rules.specs.Contract.{returnBytes, returnsOf, returnsMost, factorMost, weightMost, weightTotal, rateBytes, ratesOf}
 
 -- a row of the table of refusals: its number, its place, and whether its condition holds
-pub record Check : Type 0 where
-  pub number : ℕ
-  pub place : ℕ
-  pub failed : Bool
-
-abbrev pub check : ℕ → ℕ → Bool → Check
-check number place failed = record { number = number; place = place; failed = failed }
+pub data Check : Type 0 where
+  check : ℕ → ℕ → Bool → Check
 
 -- the first of n things, counted from `from`, that is bad
 unfoldable pub checkEach : ℕ → ℕ → (ℕ → Bool) → ℕ → Check
@@ -29,11 +24,7 @@ pub data Verdict : Type 0 where
 -- "Checks run in the order of the table": the first that fails refuses
 unfoldable pub verdict : List Check → Verdict
 verdict [] = accepted
-verdict (k ∷ ks) = cond (k .failed) (refused (k .number) (k .place)) (verdict ks)
-
--- the numbers of the checks that an operation makes, in order
-unfoldable pub numbers : List Check → List ℕ
-numbers ks = map (λ k. k .number) ks
+verdict (check number place failed ∷ ks) = cond failed (refused number place) (verdict ks)
 
 -- "Success gives number 0, place 0. A refusal gives its number and place"
 unfoldable pub numberOf : Verdict → ℕ
@@ -101,5 +92,5 @@ ratesChecks dates bytes =
     ∷ []
 
 -- record, returns and rates: (v) "both after 9"
-unfoldable pub inputChecks : List ℕ → List ℕ → List ℕ → List Check
-inputChecks bytes list rates = recordChecks bytes ++ listChecks list ++ ratesChecks (termsOf bytes .dates) rates
+unfoldable pub inputChecks : Input → List Check
+inputChecks x = recordChecks (x .bytes) ++ listChecks (x .list) ++ ratesChecks (termsOf (x .bytes) .dates) (x .rates)

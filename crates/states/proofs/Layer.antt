@@ -13,7 +13,7 @@ use Rattle.rules.specs.Date.{Behaviour}
 use Rattle.keys.specs.declared.Date.{Date}
 use Rattle.keys.specs.Sums.{Sums, sums, sums-as, sums-less, sums-moved}
 use Rattle.worth.specs.Worth.{bestValue, bestAmount}
-use Rattle.worth.specs.Further.{furtherKey, Furthered}
+use Rattle.worth.specs.Further.{furtherKey}
 use Rattle.proportion.specs.Share.{Rising}
 use Rattle.dynamic.specs.Block.{Row}
 use Rattle.states.specs.Decided.{Ready, Prepared, Decided}

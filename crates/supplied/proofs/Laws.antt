@@ -16,16 +16,15 @@ use Rattle.decision.specs.Layers.{low-digit, lookup, layer}
 use Rattle.slices.specs.Parts.{part-at}
 use Rattle.slices.specs.Stored.{stored, length-stored, stored-out}
 use Rattle.slices.specs.Rows.{cells, flat, rows-le, rows-step, row-next, layer-stored}
-use Rattle.rules.specs.Contract.{Terms, topMost, rateMost, termsOf, Returns, returnsOf, Rates, ratesOf}
+use Rattle.rules.specs.Contract.{Terms, topMost, rateMost, termsOf, Returns, returnsOf, Rates, ratesOf, Input}
 use Rattle.rules.specs.Date.{dynamic, freeAmount, admits, maturityValue, margin}
 use Rattle.rules.specs.Product.{suppliedValue, suppliedLayer}
 use Rattle.rules.specs.Refusals.{Verdict, accepted, refused, verdict, numberOf, placeOf, onSuccess, inputChecks}
-use Rattle.rules.specs.FixedTerm.{freeIn, admissibleIn, rateIn, cashIn, afterIn, startOf, processOf, layerSize, layoutOf, fixedTerm}
-use Rattle.rules.specs.Operations.{productOf, answer, workAfter, tableSize, badAt, badEntry, tableChecks, suppliedChecks}
-use Rattle.rules.specs.Operations.{suppliedVerdict, suppliedAnswer, suppliedWork}
-use Rattle.laws.specs.Supplied.{all-admitted}
+use Rattle.rules.specs.FixedTerm.{freeIn, admissibleIn, rateIn, cashIn, afterIn, processOf, layerSize, layoutOf, fixedTerm}
+use Rattle.rules.specs.Operations.{answer, workAfter, suppliedAnswer, suppliedWork, filled}
+use Rattle.laws.specs.Supplied.{all-admitted, tableChecked, supplied-refused, supplied-then}
 use Rattle.laws.specs.Date.{dynamic-is, shared}
-use Rattle.laws.specs.Accepted.{Valid, ValidInput, then-accepted, then-refused}
+use Rattle.laws.specs.Accepted.{Valid, ValidInput}
 use Rattle.laws.specs.Bounds.{table-value-le, stateMost, entryMost}
 use Rattle.laws.specs.AnyOrder.{Reordered, any-order-table}
 use Rattle.input.specs.Accepted.{Given}
@@ -41,6 +40,8 @@ use Rattle.valuing.specs.declared.Answer as declared
 use Rattle.valuing.specs.Answered.{refusal, Settled}
 use Rattle.valuing.specs.First.{First, first-layer, first-mature}
 use Rattle.supplied.specs.Followed.{followed, followedOn, Following, Dating, Back, tableOn, Starting, Answered, Supplying}
+use Rattle.laws.specs.Terms.{tableSize, badAt, badIn}
+use Rattle.rules.specs.Policy.{policyOf}
 
 -- ---- one state
 module _ {work : List ℕ} {d : Date} (w : ℕ) {a : ℕ} (s : Sums work d (w + 1)) (l : a < d .stride) where
@@ -136,7 +137,7 @@ module _ (c : Terms) (table : List ℕ) (j : ℕ) (h : j < c .dates - 1) where
   search-fits = let l = rows-le (layerSize c) (j + 1) (c .dates - 1) (omega arith) in let s = rows-step (layerSize c) j in omega arith
 
   pub search-same : (e : ℕ) → e < layerSize c
-      → badEntry c table (j * layerSize c + e)
+      → badIn c table (j * layerSize c + e)
       ≡ badAt c e (getD (midOf (j * layerSize c) ((j + 1) * layerSize c - j * layerSize c) table) e 0)
   search-same e l =
       let s = rows-step (layerSize c) j in
@@ -157,7 +158,7 @@ last-is : (c : Terms) (rs : Returns) (ds : Rates) (table : List ℕ) (w a : ℕ)
 unfolding processOf
 last-is c rs ds table w a = table-last (processOf c rs ds) (lookup (layoutOf c) table) (at w a)
 
-admitted-at : (c : Terms) (rs : Returns) (ds : Rates) (table : List ℕ) → Valid c → tableSize c ≤ first (badEntry c table) (tableSize c)
+admitted-at : (c : Terms) (rs : Returns) (ds : Rates) (table : List ℕ) → Valid c → tableSize c ≤ first (badIn c table) (tableSize c)
     → (i w a : ℕ) → 0 < i → i < c .dates → w ≤ c .top → a ≤ c .premium
     → T (admits dynamic (freeAmount (c .level) a) w (lookup (layoutOf c) table i (at w a)))
 unfolding admissibleIn freeIn processOf
@@ -167,7 +168,7 @@ admitted-at c rs ds table valid none i w a some before h l =
 
 -- no value of a table whose entries are admitted is above what a contract's values can be
 pub table-on-most : {c : Terms} (rs : Returns) (ds : Rates) (table : List ℕ) → ValidInput c rs ds
-    → tableSize c ≤ first (badEntry c table) (tableSize c)
+    → tableSize c ≤ first (badIn c table) (tableSize c)
     → (i w a : ℕ) → 1 ≤ i → i ≤ c .dates → w ≤ c .top → a ≤ c .premium → tableOn c rs ds table i w a ≤ stateMost c i
 table-on-most {c} rs ds table v none i w a some before h l =
     let good = all-admitted c rs ds table (v .terms) none in
@@ -250,7 +251,7 @@ of-the-list {c} ds table same v = record {
 
 pub starting : {c : Terms} {list rates work' table : List ℕ} {rs : Returns} (work : List ℕ) → Given c list rates
     → Sorted (returnsOf list) rs
-    → layerSize c + layerSize c ≤ length work → tableSize c ≤ length table → tableSize c ≤ first (badEntry c table) (tableSize c)
+    → layerSize c + layerSize c ≤ length work → tableSize c ≤ length table → tableSize c ≤ first (badIn c table) (tableSize c)
     → work' ≡ stored work 0 (flat (c .premium + 1) maturityValue) (layerSize c) → Starting c work' table rs rates
 starting {c} {work' = work'} work given sorted room room-table none e = record {
   given = ordered-input given sorted;
@@ -264,7 +265,7 @@ module _ (rs : Returns) (ds : Rates) (table : List ℕ) {c : Terms} {work work' 
     (d : First (tableOn c rs ds table 1) c work work') where
   supplied-value : ds 0 ≤ rateMost
       → expected c rs (shared (ds 0) (cells work' 0 (c .premium + 1))) (c .premium) (c .premium) ≡ suppliedValue (fixedTerm c rs ds) table
-  unfolding suppliedValue startTableValue fixedTerm processOf startOf
+  unfolding suppliedValue startTableValue fixedTerm processOf
   supplied-value small =
       shared-same c rs (ds 0) _ _ (c .premium) (c .premium) (λ w l. d .values w (c .premium) l (omega arith))
       ∙ sym (shared-expects c rs ds 0 _ (c .premium) (c .premium) small)
@@ -278,7 +279,7 @@ module _ (rs : Returns) (ds : Rates) (table : List ℕ) {c : Terms} {work work' 
 -- ---- what terms that were read answer
 module _ {c : Terms} {rs : Returns} {ds : Rates} {v : Verdict} {work table : List ℕ} where
   pub answered-refused : (n p : ℕ) (r : declared.Answer) → v ≡ refused n p → r ≡ refusal n p → Answered c rs ds v work table r work
-  unfolding answer workAfter onSuccess numberOf placeOf
+  unfolding answer workAfter filled onSuccess numberOf placeOf
   answered-refused n p r e f = record { answer-is = rw e f; work-is = rw e }
 
   pub answered-by : {r : declared.Answer} {work' : List ℕ} → v ≡ accepted → Answered c rs ds accepted work table r work'
@@ -288,7 +289,7 @@ module _ {c : Terms} {rs : Returns} {ds : Rates} {v : Verdict} {work table : Lis
 pub answered-accepted : {c : Terms} {rs : Returns} {ds : Rates} {work table work' : List ℕ} (r : declared.Answer) (work'' : List ℕ)
     → layerSize c + layerSize c ≤ length work → ds 0 ≤ rateMost → First (tableOn c rs ds table 1) c work work'
     → Settled c rs (ds 0) work' r work'' → Answered c rs ds accepted work table r work''
-unfolding answer workAfter onSuccess numberOf placeOf
+unfolding answer workAfter filled onSuccess numberOf placeOf fixedTerm layoutOf
 answered-accepted {c} {rs} {ds} {work} {table} r work'' room small d s =
     let value : r .value ≡ suppliedValue (fixedTerm c rs ds) table = s .value-is ∙ supplied-value rs ds table d small in record {
       answer-is = λ i. record {
@@ -301,20 +302,21 @@ answered-accepted {c} {rs} {ds} {work} {table} r work'' room small d s =
     }
 
 -- ---- what a call answers, on any input
-module _ (bytes list rates work table : List ℕ) (r : declared.Answer) where
-  pub whole : (work' : List ℕ) → verdict (inputChecks bytes list rates) ≡ accepted → (c : Terms) → c ≡ termsOf bytes
-      → Answered c (returnsOf list) (ratesOf rates) (verdict (tableChecks c work table)) work table r work'
-      → Supplying bytes list rates work table r work'
-  unfolding suppliedVerdict suppliedChecks suppliedAnswer suppliedWork productOf
+module _ (x : Input) (work table : List ℕ) (r : declared.Answer) where
+  abbrev rs : Returns
+  rs = returnsOf (x .list)
+
+  abbrev ds : Rates
+  ds = ratesOf (x .rates)
+
+  pub whole : (work' : List ℕ) → verdict (inputChecks x) ≡ accepted → (c : Terms) → c ≡ termsOf (x .bytes)
+      → Answered c rs ds (tableChecked c rs ds work table) work table r work' → Supplying x work table r work'
+  unfolding suppliedAnswer suppliedWork workAfter filled fixedTerm layoutOf
   whole work' e c same a =
-      let all = then-accepted (inputChecks bytes list rates) (tableChecks (termsOf bytes) work table) e in
-      let b =
-      subst (λ (x : Terms). Answered x (returnsOf list) (ratesOf rates) (verdict (tableChecks x work table)) work table r work') same a in
+      let all = supplied-then (termsOf (x .bytes)) rs ds work table (inputChecks x) e in
+      let b = subst (λ (t : Terms). Answered t rs ds (tableChecked t rs ds work table) work table r work') same a in
       record { answer-is = rw all (b .answer-is); work-is = rw all (b .work-is) }
 
-  pub whole-refused : (n p : ℕ) → verdict (inputChecks bytes list rates) ≡ refused n p → r ≡ refusal n p
-      → Supplying bytes list rates work table r work
-  unfolding suppliedVerdict suppliedChecks suppliedAnswer suppliedWork answer workAfter onSuccess numberOf placeOf
-  whole-refused n p e f =
-      let all = then-refused (inputChecks bytes list rates) (tableChecks (termsOf bytes) work table) e in
-      record { answer-is = rw all f; work-is = rw all }
+  pub whole-refused : (n q : ℕ) → verdict (inputChecks x) ≡ refused n q → r ≡ refusal n q → Supplying x work table r work
+  unfolding suppliedAnswer suppliedWork answer workAfter filled onSuccess numberOf placeOf
+  whole-refused n q e f = let all = supplied-refused (policyOf x) work table e in record { answer-is = rw all f; work-is = rw all }

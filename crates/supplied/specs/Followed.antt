@@ -8,12 +8,12 @@ use Rattle.decision.specs.Index.{first}
 use Rattle.decision.specs.Process.{tableValue}
 use Rattle.decision.specs.Layers.{lookup}
 use Rattle.slices.specs.Rows.{cells}
-use Rattle.rules.specs.Contract.{Terms, Returns, Rates}
+use Rattle.rules.specs.Contract.{Terms, Returns, Rates, Input}
 use Rattle.rules.specs.Date.{dynamic, freeAmount, admits, maturityValue}
 use Rattle.rules.specs.Product.{suppliedValue, suppliedLayer}
 use Rattle.rules.specs.FixedTerm.{rateIn, layerSize, layoutOf, processOf, fixedTerm}
 use Rattle.rules.specs.Refusals.{Verdict}
-use Rattle.rules.specs.Operations.{answer, workAfter, tableSize, badEntry, suppliedAnswer, suppliedWork}
+use Rattle.rules.specs.Operations.{answer, workAfter, suppliedAnswer, suppliedWork}
 use Rattle.laws.specs.Date.{shared}
 use Rattle.input.specs.Accepted.{Given}
 use Rattle.returns.specs.Sorted.{OrderedInput}
@@ -25,6 +25,8 @@ use Rattle.dates.specs.Back.{at}
 use Rattle.dates.specs.Dated.{OneDate}
 use Rattle.valuing.specs.declared.Answer as declared
 use Rattle.valuing.specs.Answered.{answerOf}
+use Rattle.laws.specs.Terms.{tableSize, badIn, readPolicy}
+use Rattle.rules.specs.Policy.{policyOf}
 
 -- what the amounts in t are worth over the discounted sums e
 abbrev pub followed : (ℕ → ℕ → ℕ) → (ℕ → ℕ → ℕ) → ℕ → ℕ → ℕ → ℕ → ℕ
@@ -64,7 +66,7 @@ pub record Starting (c : Terms) (work table : List ℕ) (rs : Returns) (rates : 
   pub given : OrderedInput c rs rates
   pub room : layerSize c + layerSize c ≤ length work
   pub entries : tableSize c ≤ length table
-  pub none-bad : tableSize c ≤ first (badEntry c table) (tableSize c)
+  pub none-bad : tableSize c ≤ first (badIn c table) (tableSize c)
   pub mature : (w a : ℕ) → w ≤ c .top → a ≤ c .premium → cells work 0 (c .premium + 1) w a ≡ maturityValue w a
 
 -- the checks have passed: slices that are long enough, and no bad entry
@@ -72,16 +74,16 @@ pub record Checked (c : Terms) (list rates work table : List ℕ) : Type 0 where
   pub given : Given c list rates
   pub room : layerSize c + layerSize c ≤ length work
   pub entries : tableSize c ≤ length table
-  pub none-bad : tableSize c ≤ first (badEntry c table) (tableSize c)
+  pub none-bad : tableSize c ≤ first (badIn c table) (tableSize c)
 
 -- the answer of a verdict, and the working slice
 pub record Answered (c : Terms) (rs : Returns) (ds : Rates) (v : Verdict) (work table : List ℕ) (r : declared.Answer)
     (work' : List ℕ) : Type 0
   where
     pub answer-is : r ≡ answerOf (answer v (suppliedValue (fixedTerm c rs ds) table) (c .premium))
-    pub work-is : work' ≡ workAfter v (layerSize c) (suppliedLayer (fixedTerm c rs ds) table) work
+    pub work-is : work' ≡ workAfter (readPolicy c rs ds) v (suppliedLayer (fixedTerm c rs ds) table) work
 
 -- WHAT VALUING A SUPPLIED TABLE ANSWERS AND LEAVES, on any input
-pub record Supplying (bytes list rates work table : List ℕ) (r : declared.Answer) (work' : List ℕ) : Type 0 where
-  pub answer-is : r ≡ answerOf (suppliedAnswer bytes list rates work table)
-  pub work-is : work' ≡ suppliedWork bytes list rates work table
+pub record Supplying (x : Input) (work table : List ℕ) (r : declared.Answer) (work' : List ℕ) : Type 0 where
+  pub answer-is : r ≡ answerOf (suppliedAnswer (policyOf x) work table)
+  pub work-is : work' ≡ suppliedWork (policyOf x) work table

@@ -9,9 +9,9 @@ ghost use Rattle.slices.specs.Rows.{flat};
 ghost use Rattle.rules.specs.Contract.{returnsOf, ratesOf};
 ghost use Rattle.rules.specs.Date.{freeAmount};
 ghost use Rattle.rules.specs.FixedTerm.{layerSize};
-ghost use Rattle.rules.specs.Refusals.{accepted, verdict, short};
-ghost use Rattle.rules.specs.Operations.{tableSize, badAt, badEntry, tableChecks};
+ghost use Rattle.rules.specs.Refusals.{accepted, short};
 ghost use Rattle.laws.specs.Accepted.{Valid};
+ghost use Rattle.laws.specs.Supplied.{tableChecked};
 ghost use Rattle.contract.specs.Reading.{termsIn};
 ghost use Rattle.returns.specs.Sorted.{inOrder};
 ghost use Rattle.keys.specs.Sums.{sums, Sums};
@@ -19,6 +19,7 @@ ghost use Rattle.worth.specs.Worth.{worthOver};
 ghost use Rattle.input.specs.Accepted.{Given};
 ghost use Rattle.valuing.specs.First.{First};
 ghost use Rattle.supplied.specs.Followed.{followedOn, Following, Dating, Back, tableOn, Starting, Checked, Answered, Supplying};
+ghost use Rattle.laws.specs.Terms.{tableSize, badAt, badIn};
 use contract::Contract;
 use contract::Outcome;
 use input::Agreement;
@@ -57,7 +58,7 @@ fn first_in_layer(layer: &[u16], c: Contract, size: usize) -> usize
 // The first bad entry of the table, or its size: date by date, each in its own layer.
 fn first_bad(table: &[u16], c: Contract) -> usize
     requires { ⌜ Valid (termsIn c) × (tableSize (termsIn c) ≤ length (now table)) ⌝ }
-    ensures { λ r. ⌜ r ≡ first (badEntry (termsIn c) (now (table .entry))) (tableSize (termsIn c)) ⌝ }
+    ensures { λ r. ⌜ r ≡ first (badIn (termsIn c) (now (table .entry))) (tableSize (termsIn c)) ⌝ }
 {
     let size = (c.top + 1) * (c.premium + 1);
     let last = c.dates - 1;
@@ -165,7 +166,7 @@ fn follow(c: Contract, list: &[u8], rates: &[u8], work: &mut [u64], table: &[u16
         (now (table .entry)) r (now (work .exit))
         ⌝ }
 {
-    let mut order = [0u32; 64];
+    let mut order = [0u32; Contract::RETURNS_MOST];
     let count = returns::sort(&mut order, list);
     dates::fill_maturity(work, c.premium + 1, c.top + 1);
     follow_dates(work, table, &order[0..count], rates, c);
@@ -177,7 +178,7 @@ fn valued(c: Contract, list: &[u8], rates: &[u8], work: &mut [u64], table: &[u16
     requires { ⌜ Given (termsIn c) (now list) (now rates) ⌝ }
     ensures { λ r. ⌜
         Answered (termsIn c) (returnsOf (now (list .entry))) (ratesOf (now (rates .entry)))
-        (verdict (tableChecks (termsIn c) (now (work .entry)) (now (table .entry))))
+        (tableChecked (termsIn c) (returnsOf (now (list .entry))) (ratesOf (now (rates .entry))) (now (work .entry)) (now (table .entry)))
         (now (work .entry)) (now (table .entry)) r (now (work .exit))
         ⌝ }
 {
@@ -200,8 +201,8 @@ fn valued(c: Contract, list: &[u8], rates: &[u8], work: &mut [u64], table: &[u16
 // Values a supplied table: answers number, place, value and margin.
 pub fn value(bytes: &[u8], list: &[u8], rates: &[u8], work: &mut [u64], table: &[u16]) -> Answer
     ensures { λ r. ⌜
-        Supplying (now (bytes .entry)) (now (list .entry)) (now (rates .entry)) (now (work .entry)) (now (table .entry)) r
-        (now (work .exit))
+        Supplying (record { bytes = now (bytes .entry); list = now (list .entry); rates = now (rates .entry) })
+        (now (work .entry)) (now (table .entry)) r (now (work .exit))
         ⌝ }
 {
     let agreement = input::read_all(bytes, list, rates);

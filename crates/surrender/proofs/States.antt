@@ -15,11 +15,12 @@ use Rattle.decision.specs.Bits.{bit, fromBits, bits-append}
 use Rattle.decision.specs.Layers.{low-digit, high-digit, two-digits}
 use Rattle.rules.specs.Contract.{Terms}
 use Rattle.rules.specs.Date.{freeAmount, surrenders}
-use Rattle.rules.specs.FixedTerm.{InRange, freeIn, layerSize, layoutOf}
+use Rattle.rules.specs.FixedTerm.{InRange, freeIn, layerSize, layoutOf, fixedTerm, surrenderIn, processOf}
 use Rattle.rules.specs.Map.{surrendered}
 use Rattle.laws.specs.FixedTerm.{size-some, placed-in-range}
 use Rattle.surrender.specs.declared.State.{State}
 use Rattle.surrender.specs.Mapped.{stateOf, draws, Open}
+use Rattle.laws.specs.Terms.{frame}
 
 -- ---- the state of an entry
 module _ (c : Terms) where
@@ -108,27 +109,28 @@ module _ (c : Terms) (table : List ℕ) (start part r : ℕ) (at : State) (same 
 
     -- the bit of an entry by its state
     entry-bit : (i : ℕ) → i < part
-        → surrendered c table (start + i) ≡ surrenders (freeAmount (c .level) (at .guarantee + i)) (at .account) (getD table (start + i) 0)
-    unfolding surrendered freeIn layoutOf
+        → surrendered (frame c) table (start + i) ≡ surrenders (freeAmount (c .level) (at .guarantee + i)) (at .account)
+        (getD table (start + i) 0)
+    unfolding surrendered freeIn layoutOf fixedTerm surrenderIn processOf
     entry-bit i l =
         let here = next-same c start i at same account-within (omega arith) in
         sym (ap (λ (s : State). surrenders (freeAmount (c .level) (s .guarantee)) (s .account) (getD table (start + i) 0)) here)
 
-    open-entry : (i : ℕ) → i < r → surrendered c table (start + i) ≡ draws (midOf start r table) (at .account) i
+    open-entry : (i : ℕ) → i < r → surrendered (frame c) table (start + i) ≡ draws (midOf start r table) (at .account) i
     open-entry i l =
         entry-bit i (omega (arith, o .within))
         ∙ open-bit (freeAmount (c .level) (at .guarantee + i)) (at .account) (getD table (start + i) 0) (o .above i l)
         ∙ sym (ap (λ (t : ℕ). eqb t (at .account)) (getD-take r (drop start table) i 0 l ∙ getD-drop start table i 0))
 
-    shut-entry : (i : ℕ) → i < part - r → surrendered c table (start + (r + i)) ≡ false
+    shut-entry : (i : ℕ) → i < part - r → surrendered (frame c) table (start + (r + i)) ≡ false
     shut-entry i l =
         entry-bit (r + i) (omega arith)
         ∙ shut-bit (freeAmount (c .level) (at .guarantee + (r + i))) (at .account) (getD table (start + (r + i)) 0)
         (o .others (r + i) (omega arith) (omega arith))
 
-    pub part-bits : fromBits (draws (midOf start r table) (at .account)) r ≡ fromBits (λ i. surrendered c table (start + i)) part
+    pub part-bits : fromBits (draws (midOf start r table) (at .account)) r ≡ fromBits (λ i. surrendered (frame c) table (start + i)) part
     part-bits =
-        let f : ℕ → Bool = λ i. surrendered c table (start + i) in
+        let f : ℕ → Bool = λ i. surrendered (frame c) table (start + i) in
         let whole : part ≡ r + (part - r) = omega (arith, o .within) in
         let none = no-bits (λ i. f (r + i)) (part - r) shut-entry in
         bits-eq _ _ r (λ i l. sym (open-entry i l))

@@ -11,19 +11,20 @@ use Rattle.decision.specs.Index.{sum, sum-next}
 use Rattle.decision.specs.Bits.{fromBits, wordsFor, bitsIn, wordOf, wordsOf, ones, bits-lt, bits-append, words-count}
 use Rattle.slices.specs.Stored.{stored, stored-push, stored-front}
 use Rattle.rules.specs.Contract.{Terms}
-use Rattle.rules.specs.FixedTerm.{layerSize}
-use Rattle.rules.specs.Operations.{tableSize}
+use Rattle.rules.specs.FixedTerm.{layerSize, fixedTerm, processOf, layoutOf}
 use Rattle.rules.specs.Map.{surrendered, surrenderMap, surrenderCount, mapSize}
 use Rattle.laws.specs.Accepted.{Valid}
 use Rattle.surrender.specs.declared.State.{State}
 use Rattle.surrender.specs.declared.Run.{Run}
 use Rattle.surrender.specs.Mapped.{stateOf, draws, Open, Wording, Worded}
 use Rattle.surrender.proofs.States.{state-at, account-le, guarantee-le, part-bits}
+use Rattle.laws.specs.Terms.{tableSize, frame}
+use Rattle.rules.specs.Product.{entries}
 
 -- what the loop over the parts of a word holds: k of n entries are taken
 pub record Taken (c : Terms) (table : List ℕ) (from n bits : ℕ) (next : State) (k : ℕ) : Type 0 where
   pub some : k ≤ n
-  pub bits-are : bits ≡ fromBits (λ i. surrendered c table (from + i)) k
+  pub bits-are : bits ≡ fromBits (λ i. surrendered (frame c) table (from + i)) k
   pub next-is : next ≡ stateOf c (from + k)
   pub inside : next .guarantee ≤ c .premium
 
@@ -68,11 +69,12 @@ module _ {c : Terms} {table : List ℕ} {from n bits k part : ℕ} {next : State
     pub row-long : length row ≡ r
     row-long = mid-len (from + k) (from + k + r) table part-room ∙ omega arith
 
-    row-is : fromBits (draws row (next .account)) (length row) ≡ fromBits (λ i. surrendered c table (from + (k + i))) part
+    row-is : fromBits (draws row (next .account)) (length row) ≡ fromBits (λ i. surrendered (frame c) table (from + (k + i))) part
     row-is =
         let e : from + k + r - (from + k) ≡ r = omega arith in
-        let same : _≡_ {A = ℕ → Bool} (λ i. surrendered c table (from + k + i)) (λ i. surrendered c table (from + (k + i))) =
-        fun-ext (λ i. ap (surrendered c table) (add-assoc from k i)) in
+        let same : _≡_ {A = ℕ → Bool} (λ i. surrendered (frame c) table (from + k + i))
+        (λ i. surrendered (frame c) table (from + (k + i))) =
+        fun-ext (λ i. ap (surrendered (frame c) table) (add-assoc from k i)) in
         ap (fromBits (draws row (next .account))) row-long
         ∙ ap (λ (m : ℕ). fromBits (draws (midOf (from + k) m table) (next .account)) r) e
         ∙ part-bits c table (from + k) part r next (h .taken .next-is) part-inside o
@@ -80,21 +82,21 @@ module _ {c : Terms} {table : List ℕ} {from n bits k part : ℕ} {next : State
 
     -- its bits, moved up by k, join those that are there
     module _ {x : ℕ} (x-is : x ≡ fromBits (draws row (next .account)) (length row)) where
-      joined : bits + x * 2 ^ k ≡ fromBits (λ i. surrendered c table (from + i)) (k + part)
+      joined : bits + x * 2 ^ k ≡ fromBits (λ i. surrendered (frame c) table (from + i)) (k + part)
       joined =
-          let f : ℕ → Bool = λ i. surrendered c table (from + i) in
+          let f : ℕ → Bool = λ i. surrendered (frame c) table (from + i) in
           ap₂ (λ (a b : ℕ). a + b * 2 ^ k) (h .taken .bits-are) (x-is ∙ row-is)
           ∙ ap (λ (y : ℕ). fromBits f k + y) (mul-comm (fromBits (λ i. f (k + i)) part) (2 ^ k))
           ∙ sym (bits-append f k part)
 
       fits : bits + x * 2 ^ k < 2 ^ 64
       fits =
-          let l = bits-lt (λ i. surrendered c table (from + i)) (k + part) in
+          let l = bits-lt (λ i. surrendered (frame c) table (from + i)) (k + part) in
           let most : k + part ≤ 64 = omega (arith, part-within, h .few) in
           let p : 2 ^ (k + part) ≤ 2 ^ 64 = pow-le-pow-right (omega arith) most in
           rw joined (omega arith)
 
-      pub added : bits + x * 2 ^ k % 18446744073709551616 ≡ fromBits (λ i. surrendered c table (from + i)) (k + part)
+      pub added : bits + x * 2 ^ k % 18446744073709551616 ≡ fromBits (λ i. surrendered (frame c) table (from + i)) (k + part)
       added =
           let l = fits in
           let m : x * 2 ^ k % 18446744073709551616 ≡ x * 2 ^ k = mod-eq-of-lt (omega arith) in
@@ -115,9 +117,9 @@ module _ {c : Terms} {table : List ℕ} {from n bits k part : ℕ} {next : State
 
 -- what the loop over the words holds: j of them are filled
 pub record Filled (c : Terms) (table map : List ℕ) (at : State) (count : ℕ) (map' : List ℕ) (j : ℕ) : Type 0 where
-  pub some : j ≤ mapSize c
-  pub map-is : map' ≡ stored map 0 (wordOf (surrendered c table) (tableSize c)) j
-  pub count-is : count ≡ sum (λ i. ones (wordOf (surrendered c table) (tableSize c) i)) j
+  pub some : j ≤ mapSize (frame c)
+  pub map-is : map' ≡ stored map 0 (wordOf (surrendered (frame c) table) (tableSize c)) j
+  pub count-is : count ≡ sum (λ i. ones (wordOf (surrendered (frame c) table) (tableSize c) i)) j
   pub few : count ≤ 64 * j
   pub at-is : at ≡ stateOf c (min (tableSize c) (64 * j))
 
@@ -134,11 +136,11 @@ filled-none c table map = record {
 }
 
 module _ {c : Terms} {table map map' : List ℕ} {at : State} {count j : ℕ} (d : Filled c table map at count map' j)
-    (more : j < mapSize c)
+    (more : j < mapSize (frame c))
   where
     -- the word has entries
     pub word-some : 64 * j < tableSize c
-    unfolding mapSize wordsFor
+    unfolding mapSize wordsFor entries tableSize fixedTerm processOf layoutOf
     word-some = omega arith
 
     pub wording : {n : ℕ} → n ≡ bitsIn (tableSize c) j → Valid c → tableSize c ≤ length table → Wording c table (64 * j) n at
@@ -152,8 +154,8 @@ module _ {c : Terms} {table map map' : List ℕ} {at : State} {count j : ℕ} (d
         → Filled c table map (r .next) (count + set-bits) (set map' j (r .bits)) (j + 1)
     unfolding wordOf
     filled-more {n} {set-bits} {r} e w o l =
-        let f = wordOf (surrendered c table) (tableSize c) in
-        let bits : r .bits ≡ f j = w .bits-are ∙ ap (fromBits (λ k. surrendered c table (64 * j + k))) e in
+        let f = wordOf (surrendered (frame c) table) (tableSize c) in
+        let bits : r .bits ≡ f j = w .bits-are ∙ ap (fromBits (λ k. surrendered (frame c) table (64 * j + k))) e in
         let size = tableSize c in
         let has = word-some in
         let behind : 64 * j + n ≡ min size (64 * (j + 1)) = omega arith in
@@ -167,18 +169,19 @@ module _ {c : Terms} {table map map' : List ℕ} {at : State} {count j : ℕ} (d
 
 -- all the words
 module _ {c : Terms} {table map map' : List ℕ} {at : State} {count j : ℕ} (d : Filled c table map at count map' j)
-    (done : mapSize c ≤ j)
+    (done : mapSize (frame c) ≤ j)
   where
-    all : j ≡ mapSize c
+    all : j ≡ mapSize (frame c)
     all = omega (arith, d .some)
 
-    pub filled-count : count ≡ surrenderCount c table
-    unfolding surrenderCount mapSize
+    pub filled-count : count ≡ surrenderCount (frame c) table
+    unfolding surrenderCount mapSize entries tableSize fixedTerm processOf layoutOf
     filled-count =
         d .count-is
-        ∙ ap (sum (λ i. ones (wordOf (surrendered c table) (tableSize c) i))) all
-        ∙ words-count (surrendered c table) (tableSize c)
+        ∙ ap (sum (λ i. ones (wordOf (surrendered (frame c) table) (tableSize c) i))) all
+        ∙ words-count (surrendered (frame c) table) (tableSize c)
 
-    pub filled-map : mapSize c ≤ length map → map' ≡ surrenderMap c table ++ drop (mapSize c) map
-    unfolding surrenderMap mapSize wordsOf
-    filled-map room = d .map-is ∙ ap (stored map 0 (wordOf (surrendered c table) (tableSize c))) all ∙ stored-front map _ (mapSize c) room
+    pub filled-map : mapSize (frame c) ≤ length map → map' ≡ surrenderMap (frame c) table ++ drop (mapSize (frame c)) map
+    unfolding surrenderMap mapSize wordsOf entries tableSize fixedTerm processOf layoutOf
+    filled-map room =
+        d .map-is ∙ ap (stored map 0 (wordOf (surrendered (frame c) table) (tableSize c))) all ∙ stored-front map _ (mapSize (frame c)) room

@@ -9,11 +9,11 @@ use Rattle.decision.specs.Bits.{fromBits}
 use Rattle.rules.specs.Contract.{Terms}
 use Rattle.rules.specs.Date.{freeAmount}
 use Rattle.rules.specs.FixedTerm.{layerSize}
-use Rattle.rules.specs.Operations.{tableSize}
 use Rattle.rules.specs.Map.{surrendered, mapSize}
 use Rattle.laws.specs.Accepted.{Valid}
 use Rattle.surrender.specs.declared.State.{State}
 use Rattle.surrender.specs.declared.Run.{Run}
+use Rattle.laws.specs.Terms.{tableSize, frame}
 
 -- the state of entry e, over all dates
 abbrev pub stateOf : Terms → ℕ → State
@@ -38,11 +38,11 @@ pub record Wording (c : Terms) (table : List ℕ) (from n : ℕ) (at : State) : 
   pub begins : at ≡ stateOf c from
 
 pub record Worded (c : Terms) (table : List ℕ) (from n : ℕ) (r : Run) : Type 0 where
-  pub bits-are : r .bits ≡ fromBits (λ k. surrendered c table (from + k)) n
+  pub bits-are : r .bits ≡ fromBits (λ k. surrendered (frame c) table (from + k)) n
   pub ends : r .next ≡ stateOf c (from + n)
 
 -- a table and a map that are long enough
 pub record MapRoom (c : Terms) (table map : List ℕ) : Type 0 where
   pub valid : Valid c
   pub entries : tableSize c ≤ length table
-  pub words : mapSize c ≤ length map
+  pub words : mapSize (frame c) ≤ length map

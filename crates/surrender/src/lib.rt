@@ -9,6 +9,7 @@ ghost use Rattle.rules.specs.Map.{surrenderMap, surrenderCount, mapSize};
 ghost use Rattle.laws.specs.Accepted.{Valid};
 ghost use Rattle.contract.specs.Reading.{termsIn};
 ghost use Rattle.surrender.specs.Mapped.{draws, stateOf, Open, Wording, Worded, MapRoom};
+ghost use Rattle.laws.specs.Terms.{frame};
 use contract::Contract;
 
 pub struct State {
@@ -139,7 +140,7 @@ fn ones(word: u64) -> u64
 // The words that a map needs.
 pub fn map_size(c: Contract) -> usize
     requires { ⌜ Valid (termsIn c) ⌝ }
-    ensures { λ r. ⌜ r ≡ mapSize (termsIn c) ⌝ }
+    ensures { λ r. ⌜ r ≡ mapSize (frame (termsIn c)) ⌝ }
 {
     (c.table_size() + 63) / 64
 }
@@ -147,9 +148,9 @@ pub fn map_size(c: Contract) -> usize
 // Fills the map of a table, word by word, and counts its set bits.
 pub fn fill(c: Contract, table: &[u16], map: &mut [u64]) -> u64
     requires { ⌜ MapRoom (termsIn c) (now table) (now map) ⌝ }
-    ensures { λ r. ⌜ r ≡ surrenderCount (termsIn c) (now (table .entry)) ⌝ }
+    ensures { λ r. ⌜ r ≡ surrenderCount (frame (termsIn c)) (now (table .entry)) ⌝ }
     ensures { λ _. ⌜ now (map .exit)
-        ≡ surrenderMap (termsIn c) (now (table .entry)) ++ drop (mapSize (termsIn c)) (now (map .entry)) ⌝ }
+        ≡ surrenderMap (frame (termsIn c)) (now (table .entry)) ++ drop (mapSize (frame (termsIn c))) (now (map .entry)) ⌝ }
 {
     let size = c.table_size();
     let mut at = State {

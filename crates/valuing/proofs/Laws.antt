@@ -11,37 +11,38 @@ use lib.IntN.{pos, negsuc, _-ℤ_, subℕ}
 use lib.Signed.{mag}
 use borrow.Author.Tests.{le-ltb}
 use lib.ListN.{length, getD, drop, replicate}
-use Rattle.decision.specs.Process.{startValue, Attained}
-use Rattle.decision.specs.Layers.{lookup, layer, layers}
+use Rattle.decision.specs.Process.{startValue}
+use Rattle.decision.specs.Layers.{layer, layers}
 use Rattle.slices.specs.Stored.{stored, length-stored, is-stored, stored-front}
 use Rattle.slices.specs.Rows.{cells, flat}
-use Rattle.rules.specs.Contract.{Terms, Returns, Rates, termsOf, returnsOf, ratesOf, rateMost}
+use Rattle.rules.specs.Contract.{Terms, Returns, Rates, termsOf, returnsOf, ratesOf, rateMost, Input}
 use Rattle.rules.specs.Date.{Behaviour, maturityValue, margin}
-use Rattle.rules.specs.Product.{contractValue, valueLayer, amountLayers, stateValue, recordedAmount}
-use Rattle.rules.specs.FixedTerm.{fixedTerm, processOf, startOf, layoutOf, layerSize}
-use Rattle.rules.specs.Refusals.{accepted, refused, verdict, numberOf, placeOf, onSuccess, short, inputChecks}
-use Rattle.rules.specs.Operations.{productOf, answer, workAfter, behaviourOf, tableSize, valuingVerdict, valuingAnswer, valuingWork}
-use Rattle.rules.specs.Operations.{valuingTable, workChecks, aloneChecks, aloneVerdict, aloneAnswer, aloneWork}
+use Rattle.rules.specs.Product.{contractValue, valueLayer, amountLayers, stateValue, recordedAmount, entries}
+use Rattle.rules.specs.FixedTerm.{fixedTerm, processOf, layoutOf, layerSize, State, Held}
+use Rattle.rules.specs.Refusals.{accepted, refused, verdict, numberOf, placeOf, onSuccess, short, inputChecks, Verdict}
+use Rattle.rules.specs.Operations.{answer, workAfter, behaviourOf, filled, workSize, Policy, valuedAnswer, noTableChecks, valuedWork}
+use Rattle.rules.specs.Operations.{valuingChecks}
 use Rattle.laws.specs.Date.{shared}
-use Rattle.laws.specs.Accepted.{Valid, andThen, then-accepted, then-refused, input-valid}
+use Rattle.laws.specs.Accepted.{Valid, andThen, input-valid}
 use Rattle.laws.specs.FixedTerm.{size-some}
-use Rattle.laws.specs.ThirdDemand.{valuing-claim, alone-claim}
-use Rattle.laws.specs.Valuing.{behaviour-refused, work-refused, work-accepted, tableCheck, table-last}
-use Rattle.input.specs.declared.Agreement.the-variants as agreement
+use Rattle.laws.specs.Valuing.{behaviour-refused, work-refused, work-accepted, table-last, tableVerdict, no-table-refused}
 use Rattle.contract.specs.declared.Contract.{Contract}
 use Rattle.contract.specs.declared.Outcome.{Outcome}
-use Rattle.input.specs.declared.Returns as listed
-use Rattle.input.specs.Accepted.{Agreed, disagreed, input-not-read}
-use Rattle.contract.specs.Reading.{termsIn, contractOf, outcomeAt}
+use Rattle.input.specs.declared.Returns as inputs
+use Rattle.input.specs.Accepted.{Agreed, disagreed, input-not-read, agree, refuse}
+use Rattle.contract.specs.Reading.{termsIn, turned, taken}
 use Rattle.input.specs.Reading.{inputRead}
 use Rattle.laws.specs.AnyOrder.{Reordered, any-order-state, any-order-amount}
 use Rattle.returns.specs.Sorted.{Sorted, ordered-input}
 use Rattle.expect.specs.Expected.{expected, shared-same}
 use Rattle.dates.specs.Back.{at, valuesOn, shared-expects, Valued, Starting}
 use Rattle.valuing.specs.declared.Answer as declared
-use Rattle.valuing.specs.Answered.{answerOf, refusal, aloneAgreed, valuingAgreed, Alone, Settled, Worked, Answered}
-use Rattle.valuing.specs.Answered.{Reported, Valuing, ValuingAlone}
+use Rattle.valuing.specs.Answered.{answerOf, refusal, valuingAgreed, Settled, Worked, Answered, Reported, Valuing, WorkLent}
+use Rattle.valuing.specs.Answered.{noTableAgreed, ValuingNoTable}
 use Rattle.valuing.specs.First.{First, first-layer, first-from, first-mature}
+use Rattle.laws.specs.Terms.{tableSize}
+use Rattle.rules.specs.Policy.{policyOf}
+use Rattle.laws.specs.ThirdDemand.{valued-number, valuing-accepts, no-table-claim, valued-claim, valuing-valid}
 
 pub diff : (a b : ℕ) → pos a -ℤ pos b ≡ subℕ a b
 diff a zero = rw (le-ltb a 0 (omega arith)) (ap pos (omega arith))
@@ -60,7 +61,7 @@ module _ {b : Behaviour} {c : Terms} {rs : Returns} {ds : Rates} {work table wor
     -- the sum over the first return of the values of date 1 is the contract's value
     pub contract-value : ds 0 ≤ rateMost
         → expected c rs (shared (ds 0) (cells work' 0 (c .premium + 1))) (c .premium) (c .premium) ≡ contractValue (fixedTerm c rs ds) b
-    unfolding contractValue startValue stateValue fixedTerm processOf startOf
+    unfolding contractValue startValue stateValue fixedTerm processOf
     contract-value small =
         shared-same c rs (ds 0) _ _ (c .premium) (c .premium) (λ w l. v .values w (c .premium) l (omega arith))
         ∙ sym (shared-expects c rs ds 0 _ (c .premium) (c .premium) small)
@@ -133,7 +134,7 @@ of-the-list {b} {c} {ds = ds} same v = record {
 }
 
 -- the first layer at maturity
-pub starting : {c : Terms} {behaviour : ℕ} {list rates work work' : List ℕ} {rs : Returns} (lent : Alone behaviour c list rates work)
+pub starting : {c : Terms} {behaviour : ℕ} {list rates work work' : List ℕ} {rs : Returns} (lent : WorkLent behaviour c list rates work)
     → Sorted (returnsOf list) rs → work' ≡ stored work 0 (flat (c .premium + 1) maturityValue) (layerSize c)
     → Starting behaviour c work' rs rates
 unfolding layerSize
@@ -150,7 +151,7 @@ starting {c} {work = work} lent sorted e = record {
 pub answered : {b : Behaviour} {c : Terms} {rs : Returns} {ds : Rates} {work table work' table' : List ℕ} (r : declared.Answer)
     (work'' : List ℕ) → layerSize c + layerSize c ≤ length work → ds 0 ≤ rateMost
     → Valued b c rs ds work table work' table' 0 → Settled c rs (ds 0) work' r work'' → Answered b c rs ds work table r work'' table'
-unfolding answer workAfter onSuccess numberOf placeOf
+unfolding answer workAfter filled onSuccess numberOf placeOf fixedTerm layoutOf
 answered {b} {c} {rs} {ds} r work'' room small d s =
     let value : r .value ≡ contractValue (fixedTerm c rs ds) b = s .value-is ∙ contract-value d small in record {
       worked = record {
@@ -166,108 +167,106 @@ answered {b} {c} {rs} {ds} r work'' room small d s =
     }
 
 -- ---- the checks of a valuation, one after the other: those that need no table ..
-module _ (bytes list rates : List ℕ) (behaviour : ℕ) (work : List ℕ) where
-  check-refused : (n p : ℕ) → aloneVerdict bytes list rates behaviour work ≡ refused n p
-      → agreement.Refused (outcomeAt n p) ≡ aloneAgreed bytes list rates behaviour work
-  check-refused n p e = rw e
+module _ (x : Input) (behaviour : ℕ) (work : List ℕ) where
+  abbrev p : Policy State Held
+  p = policyOf x
 
-  pub check-read : (o : Outcome) → inputRead bytes list rates ≡ agreement.Refused o
-      → agreement.Refused o ≡ aloneAgreed bytes list rates behaviour work
-  unfolding aloneVerdict aloneChecks
-  check-read o e =
-      check-refused (o .number) (o .place) (then-refused (inputChecks bytes list rates) _ (input-not-read bytes list rates o e))
+  pub check-read : (o : Outcome) → inputRead x ≡ turned (o .number) (o .place)
+      → turned (o .number) (o .place) ≡ noTableAgreed x behaviour work
+  check-read o e = refuse _ _ _ _ _ (no-table-refused p behaviour work (input-not-read x o e))
 
-  module _ {c : Contract} {rs : listed.Returns} (known : Agreed (verdict (inputChecks bytes list rates)) bytes list c rs) where
-    working : aloneVerdict bytes list rates behaviour work ≡ verdict (workChecks (termsIn c) behaviour work)
-    unfolding aloneVerdict aloneChecks
-    working = rw (known .terms) (then-accepted (inputChecks bytes list rates) _ (known .accepts))
-
+  module _ {c : Contract} {rs : inputs.Returns} (known : Agreed (verdict (inputChecks x)) (x .bytes) (x .list) c rs) where
     pub check-valid : Valid (termsIn c)
-    check-valid = rw (known .terms) (input-valid bytes list rates (known .accepts) .terms)
+    check-valid = rw (known .terms) (input-valid x (known .accepts) .terms)
 
-    pub check-behaviour : ltb 2 behaviour ≡ true → agreement.Refused (outcomeAt 10 0) ≡ aloneAgreed bytes list rates behaviour work
-    check-behaviour e = check-refused 10 0 (working ∙ behaviour-refused (termsIn c) behaviour work e)
+    -- the entries that the terms need are those of the policy
+    same-room : (t : Bool) → short (2 * layerSize (termsIn c)) work ≡ t → short (workSize p) work ≡ t
+    unfolding fixedTerm layoutOf
+    same-room t e = ap (λ (z : Terms). short (2 * layerSize z) work) (sym (known .terms)) ∙ e
 
-    pub check-work : ltb 2 behaviour ≡ false → short (2 * layerSize (termsIn c)) work ≡ true
-        → agreement.Refused (outcomeAt 11 0) ≡ aloneAgreed bytes list rates behaviour work
-    check-work e f = check-refused 11 0 (working ∙ work-refused (termsIn c) behaviour work e f)
+    pub check-behaviour : ltb 2 behaviour ≡ true → turned 10 0 ≡ noTableAgreed x behaviour work
+    check-behaviour e = refuse _ _ _ 10 0 (behaviour-refused p behaviour work (known .accepts) e)
+
+    pub check-work : ltb 2 behaviour ≡ false → short (2 * layerSize (termsIn c)) work ≡ true → turned 11 0 ≡ noTableAgreed x behaviour work
+    check-work e f = refuse _ _ _ 11 0 (work-refused p behaviour work (known .accepts) e (same-room true f))
 
     pub check-passed : ltb 2 behaviour ≡ false → short (2 * layerSize (termsIn c)) work ≡ false
-        → agreement.Accepted c rs ≡ aloneAgreed bytes list rates behaviour work
+        → taken (termsIn c, rs .count) ≡ noTableAgreed x behaviour work
     check-passed e f =
-        rw (working ∙ work-accepted (termsIn c) behaviour work e f)
-        (ap₂ agreement.Accepted (ap contractOf (known .terms)) (ap (λ (n : ℕ). record { count = n }) (known .count)))
+        agree _ _ _ (record {
+          accepts = work-accepted p behaviour work (known .accepts) e (same-room false f);
+          terms = known .terms;
+          count = known .count;
+        })
 
 -- .. and that of the table
-module _ (bytes list rates : List ℕ) (behaviour : ℕ) (work table : List ℕ) where
-  pub table-refused : (o : Outcome) → aloneAgreed bytes list rates behaviour work ≡ agreement.Refused o
-      → agreement.Refused o ≡ valuingAgreed bytes list rates behaviour work table
+module _ (x : Input) (behaviour : ℕ) (work table : List ℕ) where
+  pub table-refused : (o : Outcome) → noTableAgreed x behaviour work ≡ turned (o .number) (o .place)
+      → turned (o .number) (o .place) ≡ valuingAgreed x behaviour work table
   table-refused o e =
-      rw (table-last bytes list rates behaviour work table, disagreed (aloneVerdict bytes list rates behaviour work) bytes list o e)
+      refuse _ _ _ _ _ (table-last (policyOf x) behaviour work table
+      ∙ ap (λ (v : Verdict). andThen v (tableVerdict (policyOf x) behaviour work table))
+      (disagreed (verdict (noTableChecks (policyOf x) behaviour work)) _ _ o e))
 
-  module _ {c : Contract} {rs : listed.Returns}
-      (told : Agreed (aloneVerdict bytes list rates behaviour work) bytes list c rs)
+  module _ {c : Contract} {rs : inputs.Returns}
+      (told : Agreed (verdict (noTableChecks (policyOf x) behaviour work)) (x .bytes) (x .list) c rs)
     where
-      last : valuingVerdict bytes list rates behaviour work table ≡ verdict (tableCheck (termsIn c) table)
+      last : verdict (valuingChecks (policyOf x) behaviour work table)
+          ≡ cond (short (tableSize (termsIn c)) table) (refused 11 0) accepted
+      unfolding verdict entries tableSize fixedTerm processOf layoutOf
       last =
-          table-last bytes list rates behaviour work table
-          ∙ (λ i. andThen (told .accepts i) (verdict (tableCheck (sym (told .terms) i) table)))
+          table-last (policyOf x) behaviour work table
+          ∙ ap (λ (v : Verdict). andThen v (tableVerdict (policyOf x) behaviour work table)) (told .accepts)
+          ∙ ap (λ (t : Terms). cond (short (tableSize t) table) (refused 11 0) accepted) (sym (told .terms))
 
-      pub table-short : short (tableSize (termsIn c)) table ≡ true
-          → agreement.Refused (outcomeAt 11 0) ≡ valuingAgreed bytes list rates behaviour work table
-      unfolding verdict
-      table-short e = rw (last, e)
+      pub table-short : short (tableSize (termsIn c)) table ≡ true → turned 11 0 ≡ valuingAgreed x behaviour work table
+      table-short e = refuse _ _ _ 11 0 (last ∙ rw e)
 
       pub table-passed : short (tableSize (termsIn c)) table ≡ false
-          → agreement.Accepted c rs ≡ valuingAgreed bytes list rates behaviour work table
-      unfolding verdict
-      table-passed e =
-          rw (last, e)
-          (ap₂ agreement.Accepted (ap contractOf (told .terms)) (ap (λ (n : ℕ). record { count = n }) (told .count)))
+          → taken (termsIn c, rs .count) ≡ valuingAgreed x behaviour work table
+      table-passed e = agree _ _ _ (record { accepts = last ∙ rw e; terms = told .terms; count = told .count })
 
 -- ---- what a call answers, on any input: the claim follows from the equations
-pub valuing : (bytes list rates : List ℕ) (behaviour : ℕ) (work table : List ℕ) {r : declared.Answer} {work' table' : List ℕ}
-    → Reported (valuingVerdict bytes list rates behaviour work table) bytes list rates behaviour work table r work' table'
-    → Valuing bytes list rates behaviour work table r work' table'
-unfolding valuingAnswer valuingWork valuingTable
-valuing bytes list rates behaviour work table w = record {
-  answer-is = w .answer-is;
-  work-is = w .work-is;
-  table-is = w .table-is;
+pub valuing : (x : Input) (behaviour : ℕ) (work table : List ℕ) {r : declared.Answer} {work' table' : List ℕ}
+    → Reported (policyOf x) (verdict (valuingChecks (policyOf x) behaviour work table)) behaviour work table r work' table'
+    → Valuing x behaviour work table r work' table'
+valuing x behaviour work table {r} w = record {
+  reported = w;
   claim = λ zero-number.
-      let X = productOf bytes list rates in
-      let b = behaviourOf behaviour in
-      let told =
-      valuing-claim bytes list rates behaviour work table (ap (λ (x : declared.Answer). x .number) (sym (w .answer-is)) ∙ zero-number) in
-      record {
-        value = ap (λ (x : declared.Answer). x .value) (w .answer-is) ∙ told .value;
-        attained =
-            subst (λ (t : List ℕ). Attained (X .process) (X .admissible b) (X .layout .InRange) (lookup (X .layout) t))
-            (sym (w .table-is)) (told .attained);
-      };
+      let v = verdict (valuingChecks (policyOf x) behaviour work table) in
+      let number =
+      sym (valued-number (policyOf x) v behaviour) ∙ ap (λ (a : declared.Answer). a .number) (sym (w .answer-is)) ∙ zero-number in
+      let yes-to = valuing-accepts x behaviour work table number in
+      rw (ap (λ (a : declared.Answer). a .value) (w .answer-is), w .table-is)
+      (valued-claim x v behaviour table yes-to (valuing-valid x behaviour work table yes-to .terms));
 }
 
 -- .. and with no table
-module _ (bytes list rates : List ℕ) (behaviour : ℕ) (work : List ℕ) {r : declared.Answer} where
-  alone : {work' : List ℕ} → r ≡ answerOf (aloneAnswer bytes list rates behaviour work) → work' ≡ aloneWork bytes list rates behaviour work
-      → ValuingAlone bytes list rates behaviour work r work'
-  alone is left = record {
+module _ (x : Input) (behaviour : ℕ) (work : List ℕ) where
+  abbrev said : Verdict
+  said = verdict (noTableChecks (policyOf x) behaviour work)
+
+  no-table : {r : declared.Answer} {work' : List ℕ} → r ≡ answerOf (valuedAnswer (policyOf x) said behaviour)
+      → work' ≡ valuedWork (policyOf x) said behaviour work
+      → ValuingNoTable x behaviour work r work'
+  no-table is left = record {
     answer-is = is;
     work-is = left;
     claim = λ zero-number rest.
-        let number = ap (λ (x : declared.Answer). x .number) (sym is) ∙ zero-number in
-        rw (ap (λ (x : declared.Answer). x .value) is) (alone-claim bytes list rates behaviour work number rest);
+        let number =
+        sym (valued-number (policyOf x) said behaviour) ∙ ap (λ (a : declared.Answer). a .number) (sym is) ∙ zero-number in
+        rw (ap (λ (a : declared.Answer). a .value) is) (no-table-claim x behaviour work number rest);
   }
 
-  pub alone-refused : (n p : ℕ) → aloneVerdict bytes list rates behaviour work ≡ refused n p → r ≡ refusal n p
-      → ValuingAlone bytes list rates behaviour work r work
-  unfolding aloneAnswer aloneWork answer workAfter onSuccess numberOf placeOf
-  alone-refused n p e f = alone (rw e f) (rw e)
+  pub no-table-refuses : {r : declared.Answer} (n q : ℕ) → said ≡ refused n q → r ≡ refusal n q → ValuingNoTable x behaviour work r work
+  unfolding valuedAnswer valuedWork answer workAfter filled onSuccess numberOf placeOf
+  no-table-refuses n q e f = no-table (rw e f) (rw e)
 
-  pub alone-valued : {work' : List ℕ} {c : Terms} → aloneVerdict bytes list rates behaviour work ≡ accepted → c ≡ termsOf bytes
-      → Worked (behaviourOf behaviour) c (returnsOf list) (ratesOf rates) work r work'
-      → ValuingAlone bytes list rates behaviour work r work'
-  unfolding aloneAnswer aloneWork productOf
-  alone-valued {work' = work'} e same w =
-      let v = subst (λ (x : Terms). Worked (behaviourOf behaviour) x (returnsOf list) (ratesOf rates) work r work') same w in
-      alone (rw e (v .answer-is)) (rw e (v .work-is))
+  pub no-table-values : {r : declared.Answer} {work' : List ℕ} {c : Terms} → said ≡ accepted → c ≡ termsOf (x .bytes)
+      → Worked (behaviourOf behaviour) c (returnsOf (x .list)) (ratesOf (x .rates)) work r work'
+      → ValuingNoTable x behaviour work r work'
+  unfolding valuedAnswer valuedWork workAfter filled onSuccess fixedTerm layoutOf
+  no-table-values {r} {work'} e same w =
+      let v =
+      subst (λ (t : Terms). Worked (behaviourOf behaviour) t (returnsOf (x .list)) (ratesOf (x .rates)) work r work') same w in
+      no-table (rw e (v .answer-is)) (rw e (v .work-is))

@@ -9,21 +9,23 @@ use lib.ListN.{length, getD, drop, replicate}
 use Rattle.decision.specs.Index.{tabulate}
 use Rattle.slices.specs.Stored.{stored, length-stored, stored-out, stored-zeros}
 use Rattle.slices.specs.Rows.{cells, flat, layer-stored}
-use Rattle.rules.specs.Contract.{Terms, termsOf}
+use Rattle.rules.specs.Contract.{Terms, termsOf, Input}
 use Rattle.rules.specs.Date.{maturityValue}
-use Rattle.rules.specs.FixedTerm.{layerSize}
-use Rattle.rules.specs.Refusals.{accepted, inputChecks}
-use Rattle.rules.specs.Operations.{valuingVerdict, aloneChecks, aloneVerdict}
-use Rattle.laws.specs.Accepted.{then-earlier}
+use Rattle.rules.specs.FixedTerm.{layerSize, fixedTerm, layoutOf, processOf}
+use Rattle.rules.specs.Refusals.{accepted, verdict}
 use Rattle.laws.specs.Bounds.{stateMost}
-use Rattle.laws.specs.Valuing.{alone-room, valuing-alone}
 use Rattle.contract.specs.declared.Outcome.{Outcome}
 use Rattle.contract.specs.declared.Contract.{Contract}
 use Rattle.input.specs.declared.Returns.{Returns}
 use Rattle.contract.specs.Reading.{termsIn}
 use Rattle.input.specs.Accepted.{Agreed, Given, given}
 use Rattle.valuing.specs.declared.Answer as declared
-use Rattle.valuing.specs.Answered.{refusal, Alone, Lent, Settling}
+use Rattle.valuing.specs.Answered.{refusal, Settling, WorkLent, TableLent}
+use Rattle.rules.specs.Product.{entries}
+use Rattle.laws.specs.Terms.{tableSize}
+use Rattle.rules.specs.Operations.{noTableChecks, valuingChecks}
+use Rattle.rules.specs.Policy.{policyOf}
+use Rattle.laws.specs.Valuing.{valuing-no-table, no-table-room, no-table-read}
 
 -- the first layer holds f, and what stands behind both layers is kept
 pub record First (f : ℕ → ℕ → ℕ) (c : Terms) (work work' : List ℕ) : Type 0 where
@@ -82,23 +84,25 @@ settling given room v most = record {
 abbrev pub refused-by : Outcome → declared.Answer
 refused-by o = refusal (o .number) (o .place)
 
--- what a valuation that is accepted was given: without a table ..
-pub lent-alone : (bytes list rates : List ℕ) (behaviour : ℕ) (work : List ℕ) {c : Contract}
-    → aloneVerdict bytes list rates behaviour work ≡ accepted → termsIn c ≡ termsOf bytes → Alone behaviour (termsIn c) list rates work
-unfolding aloneVerdict aloneChecks
-lent-alone bytes list rates behaviour work accepts terms =
-    let room = alone-room bytes list rates behaviour work accepts in record {
+-- what a valuation that is accepted was given: with no table ..
+pub work-lent : (x : Input) (behaviour : ℕ) (work : List ℕ) {c : Contract}
+    → verdict (noTableChecks (policyOf x) behaviour work) ≡ accepted → termsIn c ≡ termsOf (x .bytes)
+    → WorkLent behaviour (termsIn c) (x .list) (x .rates) work
+unfolding fixedTerm layoutOf
+work-lent x behaviour work accepts terms =
+    let room = no-table-room (policyOf x) behaviour work accepts in record {
       known = room .known;
-      given = given bytes list rates (then-earlier (inputChecks bytes list rates) _ accepts) terms;
-      room = rw terms (room .layers);
+      given = given x (no-table-read (policyOf x) behaviour work accepts) terms;
+      room = rw terms (let l = room .layers in omega arith);
     }
 
 -- .. and with one
-pub lent : (bytes list rates : List ℕ) (behaviour : ℕ) (work table : List ℕ) {c : Contract} {rs : Returns}
-    → Agreed (valuingVerdict bytes list rates behaviour work table) bytes list c rs
-    → Lent behaviour (termsIn c) list rates work table
-lent bytes list rates behaviour work table told =
-    let both = valuing-alone bytes list rates behaviour work table (told .accepts) in record {
-      alone = lent-alone bytes list rates behaviour work (both .0) (told .terms);
+pub table-lent : (x : Input) (behaviour : ℕ) (work table : List ℕ) {c : Contract} {rs : Returns}
+    → Agreed (verdict (valuingChecks (policyOf x) behaviour work table)) (x .bytes) (x .list) c rs
+    → TableLent behaviour (termsIn c) (x .list) (x .rates) work table
+unfolding entries tableSize fixedTerm processOf layoutOf
+table-lent x behaviour work table told =
+    let both = valuing-no-table (policyOf x) behaviour work table (told .accepts) in record {
+      first = work-lent x behaviour work (both .0) (told .terms);
       room-table = rw (told .terms) (both .1);
     }

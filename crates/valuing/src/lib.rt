@@ -6,8 +6,9 @@ ghost use Rattle.laws.specs.Bounds.{entryMost};
 ghost use Rattle.rules.specs.Date.{margin};
 ghost use Rattle.rules.specs.Operations.{behaviourOf};
 ghost use Rattle.contract.specs.Reading.{termsIn};
-ghost use Rattle.valuing.specs.Answered.{refusal, aloneAgreed, valuingAgreed, Alone, Settling, Settled, Worked};
-ghost use Rattle.valuing.specs.Answered.{Answered, Valuing, ValuingAlone};
+ghost use Rattle.input.specs.Reading.{agreementTells};
+ghost use Rattle.valuing.specs.Answered.{refusal, noTableAgreed, valuingAgreed, WorkLent, Settling, Settled, Worked, Answered};
+ghost use Rattle.valuing.specs.Answered.{Valuing, ValuingNoTable};
 use contract::Contract;
 use contract::Outcome;
 use input::Agreement;
@@ -57,14 +58,18 @@ pub fn settle(work: &mut [u64], list: &[u8], rates: &[u8], c: Contract) -> Answe
 }
 
 // What a valuation is given, checked in order: record, list, rates, behaviour, the length of the working slice.
-pub fn check_alone(
+pub fn check_no_table(
     bytes: &[u8],
     list: &[u8],
     rates: &[u8],
     behaviour: usize,
     work: &[u64],
 ) -> Agreement
-    ensures { λ r. ⌜ r ≡ aloneAgreed (now (bytes .entry)) (now (list .entry)) (now (rates .entry)) behaviour (now (work .entry)) ⌝ }
+    ensures { λ r. ⌜
+        agreementTells r
+        ≡ noTableAgreed (record { bytes = now (bytes .entry); list = now (list .entry); rates = now (rates .entry) }) behaviour
+        (now (work .entry))
+        ⌝ }
 {
     let agreement = input::read_all(bytes, list, rates);
     let Agreement::Accepted(c, _) = agreement else {
@@ -95,12 +100,12 @@ pub fn check(
     table: &[u16],
 ) -> Agreement
     ensures { λ r. ⌜
-        r
-        ≡ valuingAgreed (now (bytes .entry)) (now (list .entry)) (now (rates .entry)) behaviour (now (work .entry))
-        (now (table .entry))
+        agreementTells r
+        ≡ valuingAgreed (record { bytes = now (bytes .entry); list = now (list .entry); rates = now (rates .entry) }) behaviour
+        (now (work .entry)) (now (table .entry))
         ⌝ }
 {
-    let agreement = check_alone(bytes, list, rates, behaviour, work);
+    let agreement = check_no_table(bytes, list, rates, behaviour, work);
     let Agreement::Accepted(c, _) = agreement else {
         return agreement;
     };
@@ -122,13 +127,13 @@ pub fn valued(
     work: &mut [u64],
     table: &mut [u16],
 ) -> Answer
-    requires { ⌜ Alone behaviour (termsIn c) (now list) (now rates) (now work) ⌝ }
+    requires { ⌜ WorkLent behaviour (termsIn c) (now list) (now rates) (now work) ⌝ }
     ensures { λ r. ⌜
         Answered (behaviourOf behaviour) (termsIn c) (returnsOf (now (list .entry))) (ratesOf (now (rates .entry)))
         (now (work .entry)) (now (table .entry)) r (now (work .exit)) (now (table .exit))
         ⌝ }
 {
-    let mut order = [0u32; 64];
+    let mut order = [0u32; Contract::RETURNS_MOST];
     let count = returns::sort(&mut order, list);
     dates::fill_maturity(work, c.premium + 1, c.top + 1);
     dates::all_dates(behaviour, work, table, &order[0..count], rates, c);
@@ -136,14 +141,14 @@ pub fn valued(
 }
 
 // .. over the working slice alone.
-pub fn valued_alone(
+pub fn valued_no_table(
     c: Contract,
     list: &[u8],
     rates: &[u8],
     behaviour: usize,
     work: &mut [u64],
 ) -> Answer
-    requires { ⌜ Alone behaviour (termsIn c) (now list) (now rates) (now work) ⌝ }
+    requires { ⌜ WorkLent behaviour (termsIn c) (now list) (now rates) (now work) ⌝ }
     ensures { λ r. ⌜
         Worked (behaviourOf behaviour) (termsIn c) (returnsOf (now (list .entry))) (ratesOf (now (rates .entry)))
         (now (work .entry)) r (now (work .exit))
@@ -163,7 +168,7 @@ pub fn value(
     table: &mut [u16],
 ) -> Answer
     ensures { λ r. ⌜
-        Valuing (now (bytes .entry)) (now (list .entry)) (now (rates .entry)) behaviour
+        Valuing (record { bytes = now (bytes .entry); list = now (list .entry); rates = now (rates .entry) }) behaviour
         (now (work .entry)) (now (table .entry)) r (now (work .exit)) (now (table .exit))
         ⌝ }
 {
@@ -175,7 +180,7 @@ pub fn value(
 }
 
 // .. with no table: answers number, place, value and margin.
-pub fn value_alone(
+pub fn value_no_table(
     bytes: &[u8],
     list: &[u8],
     rates: &[u8],
@@ -183,13 +188,13 @@ pub fn value_alone(
     work: &mut [u64],
 ) -> Answer
     ensures { λ r. ⌜
-        ValuingAlone (now (bytes .entry)) (now (list .entry)) (now (rates .entry)) behaviour (now (work .entry)) r
-        (now (work .exit))
+        ValuingNoTable (record { bytes = now (bytes .entry); list = now (list .entry); rates = now (rates .entry) }) behaviour
+        (now (work .entry)) r (now (work .exit))
         ⌝ }
 {
-    let agreement = check_alone(bytes, list, rates, behaviour, &work[..]);
+    let agreement = check_no_table(bytes, list, rates, behaviour, &work[..]);
     let Agreement::Accepted(c, _) = agreement else {
         return refused(agreement.outcome());
     };
-    valued_alone(c, list, rates, behaviour, work)
+    valued_no_table(c, list, rates, behaviour, work)
 }

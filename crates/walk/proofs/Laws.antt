@@ -16,29 +16,30 @@ use Rattle.slices.specs.Stored.{stored, stored-front}
 use Rattle.decision.specs.Layers.{lookup}
 use Rattle.rules.specs.Contract.{Terms, topMost, factorMost, termsOf, Returns, returnsOf}
 use Rattle.rules.specs.Date.{dynamic, freeAmount, admits, balanceAfter, guaranteeAfter}
-use Rattle.rules.specs.Product.{walkState, walkAmount, walkHeld, walkPaid, walkCashOn, walkCashLast, walkCash}
-use Rattle.rules.specs.FixedTerm.{State, Held, startOf, reachBy, paidBy, afterIn, cashIn, freeIn, admissibleIn, processOf}
-use Rattle.rules.specs.FixedTerm.{layoutOf, fixedTerm, livingTerm}
+use Rattle.rules.specs.Product.{walkState, walkAmount, walkHeld, walkPaid, walkCashOn, walkCashLast, walkCash, badDate}
+use Rattle.rules.specs.FixedTerm.{State, Held, reachBy, paidBy, afterIn, cashIn, freeIn, admissibleIn, processOf, layoutOf, fixedTerm}
 use Rattle.rules.specs.Refusals.{Verdict, accepted, refused, verdict, numberOf, placeOf, onSuccess, recordChecks, listChecks}
-use Rattle.rules.specs.Operations.{livingOf, tableSize, badDate, pathChecks, walkChecks, walkVerdict, walkCashes}
-use Rattle.laws.specs.Accepted.{Valid, not-not, then-accepted, then-refused}
-use Rattle.returns.specs.Listed.{Listing}
+use Rattle.rules.specs.Operations.{walkChecks, walkCashes, Policy, filled}
+use Rattle.laws.specs.Accepted.{Valid, not-not, then-accepted}
+use Rattle.returns.specs.Counted.{Counted}
 use Rattle.contract.specs.declared.Outcome.{Outcome}
 use Rattle.contract.specs.Reading.{outcomeAt, outcomeOf}
 use Rattle.dates.specs.Back.{at}
 use Rattle.dates.specs.Layer.{DateLayer, entry-within, layer-long, layer-entry}
 use Rattle.laws.specs.Date.{account-le, amount-most, guarantee-le, dynamic-is, excess-paid-le}
-use Rattle.laws.specs.Walk.{walk-first, walk-next, walk-after}
+use Rattle.laws.specs.Walk.{walk-first, walk-next, walk-after, walk-refused, pathVerdict}
 use Rattle.walk.specs.declared.Place.{Place}
 use Rattle.walk.specs.Walked.{Walking, arrivalOf, Met, Walked}
+use Rattle.laws.specs.Terms.{livingTerm, tableSize}
+use Rattle.rules.specs.Policy.{livingPolicy}
 
 module _ {c : Terms} {count : ℕ} {list table path : List ℕ} (h : Walking c count list table path) where
   -- the factors on the path are those of returns
   pub factor-small : (j : ℕ) → j < c .dates → returnsOf list .factor (getD path j 0) ≤ factorMost
-  factor-small j l = h .listing .valid .factor _ (le-trans (h .numbers j l) (le-of-eq (h .listing .all)))
+  factor-small j l = h .counted .valid .factor _ (le-trans (h .numbers j l) (le-of-eq (h .counted .all)))
 
   pub first-met : Met c (returnsOf list) table path 1 (arrivalOf c (c .premium) (returnsOf list .factor (getD path 0 0)) (c .premium))
-  unfolding walkPaid walkHeld fixedTerm processOf reachBy paidBy startOf
+  unfolding walkPaid walkHeld fixedTerm processOf reachBy paidBy
   first-met = record {
     state = walk-first (livingTerm c (returnsOf list)) table path (omega (arith, h .long, h .valid .dates-least));
     paid = refl;
@@ -92,9 +93,9 @@ module _ {c : Terms} {rs : Returns} {table path : List ℕ} {i : ℕ} {p : Place
   up : suc (i - 1) ≡ i
   up = omega arith
 
-  pub bad-is : badDate c rs table path (i - 1)
+  pub bad-is : badDate (livingTerm c rs) table path (i - 1)
       ≡ not (admits dynamic (freeAmount (c .level) (p .guarantee)) (p .account) (walkAmount (livingTerm c rs) table path i))
-  unfolding badDate admissibleIn freeIn
+  unfolding badDate fixedTerm admissibleIn freeIn
   bad-is =
       ap (λ (n : ℕ). not (admissibleIn c dynamic (walkState (livingTerm c rs) table path n) (walkAmount (livingTerm c rs) table path n))) up
       ∙ ap (λ (s : State). not (admissibleIn c dynamic s (walkAmount (livingTerm c rs) table path i))) (m .state)
@@ -108,16 +109,16 @@ module _ {c : Terms} {rs : Returns} {table path : List ℕ} {i : ℕ} {p : Place
       ∙ ap (λ (s : State). cashIn c i s (walkAmount (livingTerm c rs) table path i)) (m .state)))
 
   -- where no date is bad
-  pub amount-within : c .dates - 1 ≤ first (badDate c rs table path) (c .dates - 1) → i < c .dates
+  pub amount-within : c .dates - 1 ≤ first (badDate (livingTerm c rs) table path) (c .dates - 1) → i < c .dates
       → walkAmount (livingTerm c rs) table path i ≤ max (p .account) (freeAmount (c .level) (p .guarantee))
   amount-within none before =
       let m = freeAmount (c .level) (p .guarantee) in
       let t = walkAmount (livingTerm c rs) table path i in
-      let good = sym bad-is ∙ all-fail (badDate c rs table path) (c .dates - 1) none (i - 1) (omega arith) in
+      let good = sym bad-is ∙ all-fail (badDate (livingTerm c rs) table path) (c .dates - 1) none (i - 1) (omega arith) in
       dynamic-is m (p .account) _ (not-not (admits dynamic m (p .account) t) (rw good tt))
 
   -- .. and at most 4,000
-  pub amount-small : Valid c → c .dates - 1 ≤ first (badDate c rs table path) (c .dates - 1) → i < c .dates
+  pub amount-small : Valid c → c .dates - 1 ≤ first (badDate (livingTerm c rs) table path) (c .dates - 1) → i < c .dates
       → walkAmount (livingTerm c rs) table path i ≤ topMost
   amount-small v none before =
       let guarantee = le-trans (m .guarantee) (le-trans (v .premium) (v .top)) in
@@ -167,32 +168,34 @@ module _ {c : Terms} {rs : Returns} {v : Verdict} {table path cashes : List ℕ}
 
 -- ---- what a call answers, on any input
 module _ (bytes list table path cashes : List ℕ) (r : Outcome) where
+  abbrev p : Policy State Held
+  p = livingPolicy bytes list
+
   pub record Whole (cashes' : List ℕ) : Type 0 where
-    pub outcome-is : r ≡ outcomeOf (walkVerdict bytes list table path cashes)
-    pub cash-is : cashes' ≡ walkCashes bytes list table path cashes
+    pub outcome-is : r ≡ outcomeOf (verdict (walkChecks (livingPolicy bytes list) table path cashes))
+    pub cash-is : cashes' ≡ walkCashes (livingPolicy bytes list) table path cashes
 
   pub whole : (cashes' : List ℕ) → verdict (recordChecks bytes ++ listChecks list) ≡ accepted → (c : Terms) → c ≡ termsOf bytes
-      → Walked c (returnsOf list) (verdict (pathChecks c (returnsOf list) table path cashes)) table path cashes r cashes' → Whole cashes'
-  unfolding walkVerdict walkChecks walkCashes livingOf
+      → Walked c (returnsOf list) (pathVerdict c (returnsOf list) table path cashes) table path cashes r cashes' → Whole cashes'
+  unfolding walkChecks walkCashes filled fixedTerm processOf
   whole cashes' e c same a =
-      let all = then-accepted (recordChecks bytes ++ listChecks list) (pathChecks (termsOf bytes) (returnsOf list) table path cashes) e in
+      let all : verdict (walkChecks p table path cashes) ≡ pathVerdict (termsOf bytes) (returnsOf list) table path cashes =
+      then-accepted (recordChecks bytes ++ listChecks list) _ e in
       let b = subst (λ (x : Terms). Walked x (returnsOf list)
-      (verdict (pathChecks x (returnsOf list) table path cashes)) table path cashes r cashes') same a in
+      (pathVerdict x (returnsOf list) table path cashes) table path cashes r cashes') same a in
       record { outcome-is = rw all (b .outcome-is); cash-is = rw all (b .cash-is) }
 
-  pub whole-refused : (n p : ℕ) → verdict (recordChecks bytes ++ listChecks list) ≡ refused n p → r ≡ outcomeAt n p → Whole cashes
-  unfolding walkVerdict walkChecks walkCashes onSuccess numberOf placeOf
-  whole-refused n p e f =
-      let all = then-refused (recordChecks bytes ++ listChecks list) (pathChecks (termsOf bytes) (returnsOf list) table path cashes) e in
-      record { outcome-is = rw all f; cash-is = rw all }
+  pub whole-refused : (n q : ℕ) → verdict (recordChecks bytes ++ listChecks list) ≡ refused n q → r ≡ outcomeAt n q → Whole cashes
+  unfolding walkCashes filled onSuccess numberOf placeOf
+  whole-refused n q e f = let all = walk-refused p table path cashes e in record { outcome-is = rw all f; cash-is = rw all }
 
 -- every number on the path is that of a return
-pub walking : {c : Terms} {count : ℕ} {list table : List ℕ} (path : List ℕ) → Valid c → Listing list count
+pub walking : {c : Terms} {count : ℕ} {list table : List ℕ} (path : List ℕ) → Valid c → Counted list count
     → tableSize c ≤ length table → length path ≡ c .dates
     → c .dates ≤ first (λ (j : ℕ). leb count (getD path j 0)) (c .dates) → Walking c count list table path
-walking {c} {count} path valid listing room long none = record {
+walking {c} {count} path valid counted room long none = record {
   valid = valid;
-  listing = listing;
+  counted = counted;
   entries = room;
   long = long;
   numbers = λ j l. leb-false count (getD path j 0) (all-fail (λ (j : ℕ). leb count (getD path j 0)) (c .dates) none j l);

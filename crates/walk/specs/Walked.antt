@@ -6,31 +6,30 @@ use lib.ListN.{getD, length, drop}
 use Rattle.rules.specs.Contract.{Terms, Returns}
 use Rattle.rules.specs.Date.{nextAccount, excessPaid}
 use Rattle.rules.specs.Product.{walkState, walkPaid, walkCash}
-use Rattle.rules.specs.FixedTerm.{livingTerm}
 use Rattle.rules.specs.Refusals.{Verdict, onSuccess}
-use Rattle.rules.specs.Operations.{tableSize}
 use Rattle.laws.specs.Accepted.{Valid}
 use Rattle.contract.specs.declared.Contract.{Contract}
 use Rattle.input.specs.declared.Returns as declared
 use Rattle.contract.specs.declared.Outcome.{Outcome}
 use Rattle.input.specs.Accepted.{Both}
 use Rattle.contract.specs.Reading.{termsIn, outcomeOf}
-use Rattle.returns.specs.Listed.{Listing, listing}
+use Rattle.returns.specs.Counted.{Counted, counted}
 use Rattle.dates.specs.Back.{at}
 use Rattle.walk.specs.declared.Place.{Place}
+use Rattle.laws.specs.Terms.{livingTerm, tableSize}
 
 -- terms and returns that were read
 pub record Ready (c : Terms) (count : ℕ) (list : List ℕ) : Type 0 where
   pub valid : Valid c
-  pub listing : Listing list count
+  pub counted : Counted list count
 
 pub ready : {bytes list : List ℕ} {c : Contract} {rs : declared.Returns} → Both bytes list c rs → Ready (termsIn c) (rs .count) list
-ready known = record { valid = known .valid; listing = listing (known .count) (known .returns) }
+ready known = record { valid = known .valid; counted = counted (known .count) (known .returns) }
 
 -- a path that can be walked
 pub record Walking (c : Terms) (count : ℕ) (list table path : List ℕ) : Type 0 where
   pub valid : Valid c
-  pub listing : Listing list count
+  pub counted : Counted list count
   pub entries : tableSize c ≤ length table
   pub long : length path ≡ c .dates
   pub numbers : (j : ℕ) → j < c .dates → getD path j 0 < count

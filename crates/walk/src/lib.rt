@@ -8,10 +8,13 @@ ghost use Rattle.decision.specs.Index.{first};
 ghost use Rattle.slices.specs.Stored.{stored};
 ghost use Rattle.rules.specs.Contract.{topMost, factorMost, returnsOf};
 ghost use Rattle.rules.specs.Date.{dynamic, freeAmount, admits, nextAccount, excessPaid, maturityValue};
-ghost use Rattle.rules.specs.Product.{walkAmount, walkCashOn, walkCashLast};
-ghost use Rattle.rules.specs.FixedTerm.{cashIn, livingTerm};
+ghost use Rattle.rules.specs.Product.{badDate, walkAmount, walkCashOn, walkCashLast};
+ghost use Rattle.rules.specs.FixedTerm.{cashIn};
 ghost use Rattle.rules.specs.Refusals.{short, verdict};
-ghost use Rattle.rules.specs.Operations.{tableSize, badDate, pathChecks, walkVerdict, walkCashes};
+ghost use Rattle.rules.specs.Operations.{walkChecks, walkCashes};
+ghost use Rattle.rules.specs.Policy.{livingPolicy};
+ghost use Rattle.laws.specs.Terms.{tableSize, livingTerm};
+ghost use Rattle.laws.specs.Walk.{pathVerdict};
 ghost use Rattle.laws.specs.Accepted.{Valid};
 ghost use Rattle.contract.specs.Reading.{termsIn, outcomeAt, outcomeOf};
 ghost use Rattle.dates.specs.Back.{at};
@@ -168,7 +171,8 @@ fn admitted(c: Contract, place: Place, t: usize) -> bool
 fn first_refused(c: Contract, list: &[u8], count: usize, table: &[u16], path: &[u16]) -> usize
     requires { ⌜ Walking (termsIn c) count (now list) (now table) (now path) ⌝ }
     ensures { λ r. ⌜
-        r ≡ 1 + first (badDate (termsIn c) (returnsOf (now (list .entry))) (now (table .entry)) (now (path .entry))) (c .dates - 1)
+        r ≡ 1 + first (badDate (livingTerm (termsIn c) (returnsOf (now (list .entry)))) (now (table .entry)) (now (path .entry)))
+        (c .dates - 1)
         ⌝ }
 {
     let mut place = first_place(c, list, count, table, path);
@@ -207,7 +211,7 @@ fn pay(c: Contract, list: &[u8], count: usize, table: &[u16], path: &[u16], cash
     requires { ⌜
         Walking (termsIn c) count (now list) (now table) (now path)
         × (c .dates ≤ length (now cash))
-        × (c .dates - 1 ≤ first (badDate (termsIn c) (returnsOf (now list)) (now table) (now path)) (c .dates - 1))
+        × (c .dates - 1 ≤ first (badDate (livingTerm (termsIn c) (returnsOf (now list))) (now table) (now path)) (c .dates - 1))
         ⌝ }
     ensures { λ _. ⌜
         now (cash .exit)
@@ -252,8 +256,7 @@ fn walked(
     requires { ⌜ Ready (termsIn c) count (now list) ⌝ }
     ensures { λ r. ⌜
         Walked (termsIn c) (returnsOf (now (list .entry)))
-        (verdict
-        (pathChecks (termsIn c) (returnsOf (now (list .entry))) (now (table .entry)) (now (path .entry)) (now (cash .entry))))
+        (pathVerdict (termsIn c) (returnsOf (now (list .entry))) (now (table .entry)) (now (path .entry)) (now (cash .entry)))
         (now (table .entry)) (now (path .entry)) (now (cash .entry)) r (now (cash .exit))
         ⌝ }
 {
@@ -278,10 +281,13 @@ fn walked(
 // Walks a contract along a path, and fills N cash amounts.
 pub fn walk(bytes: &[u8], list: &[u8], table: &[u16], path: &[u16], cash: &mut [u64]) -> Outcome
     ensures { λ r. ⌜
-        r ≡ outcomeOf (walkVerdict (now (bytes .entry)) (now (list .entry)) (now (table .entry)) (now (path .entry)) (now (cash .entry)))
+        r
+        ≡ outcomeOf (verdict (walkChecks (livingPolicy (now (bytes .entry)) (now (list .entry))) (now (table .entry)) (now (path .entry))
+        (now (cash .entry))))
         ⌝ }
     ensures { λ _. ⌜
-        now (cash .exit) ≡ walkCashes (now (bytes .entry)) (now (list .entry)) (now (table .entry)) (now (path .entry)) (now (cash .entry))
+        now (cash .exit)
+        ≡ walkCashes (livingPolicy (now (bytes .entry)) (now (list .entry))) (now (table .entry)) (now (path .entry)) (now (cash .entry))
         ⌝ }
 {
     let agreement = input::read(bytes, list);

@@ -4,14 +4,14 @@ use borrow.Author.Needs.{needs}
 use mathlib.Core.List.{List}
 use mathlib.Core.Path.{ap, ap₂, sym, _∙_}
 use Rattle.contract.specs.Accepted.{read-accepted, read-refused}
-use Rattle.contract.specs.Reading.{readingVerdict, outcomeOf}
+use Rattle.contract.specs.Reading.{readingTells, outcomeIn, outcomeOf}
 use Rattle.contract.specs.declared.Reading.{Reading}
 use Rattle.laws.specs.Accepted.{andThen}
 use Rattle.laws.specs.Booking.{booking-verdict}
 use Rattle.rules.specs.Contract.{Terms, termsOf}
-use Rattle.rules.specs.Operations.{amountChecks, bookingBytes, bookingBuffer}
 use Rattle.rules.specs.Refusals.{Verdict, verdict, onSuccess, numberOf, placeOf}
 use Rattle.booking.proofs.book.Statement.{statement}
+use Rattle.rules.specs.Booking.{amountChecks, bookingBytes, bookingBuffer}
 use Rattle.booking.proofs.book.Tie as tie
 
 read-requires : tie.Need-read-requires
@@ -38,17 +38,17 @@ returns c =
     let t₀ = args .t in
     let read = c .before .before .before .read in
     let told = c .before .enum-told .given .1 in
-    let refusal = read-refused bytes₀ _ (sym (read .ensures) ∙ told) in
+    let refusal = read-refused bytes₀ _ (sym (read .ensures) ∙ ap readingTells told) in
     let whole =
     booking-verdict bytes₀ date₀ w₀ a₀ t₀ buffer₀
     ∙ ap (λ (v : Verdict). andThen v (verdict (amountChecks (termsOf bytes₀) date₀ w₀ a₀ t₀ buffer₀))) refusal in (
-      c .outcome .ensures ∙ ap (λ (r : Reading). outcomeOf (readingVerdict r)) told ∙ ap outcomeOf (sym whole),
+      c .outcome .ensures ∙ ap (λ (r : Reading). outcomeIn (readingTells r)) told ∙ ap outcomeOf (sym whole),
       sym (ap (λ (v : Verdict). onSuccess v (bookingBytes (termsOf bytes₀) date₀ w₀ a₀ t₀) buffer₀) whole),
     )
 
 booked-requires : tie.Need-booked-requires
 booked-requires c κs = read-accepted (c .before .before .before .before .before .before .before .args .bytes .now) _
-    (sym (c .before .before .before .before .read .ensures) ∙ c .before .before .reading .given .1) .valid
+    (sym (c .before .before .before .before .read .ensures) ∙ ap readingTells (c .before .before .reading .given .1)) .valid
 
 same-length : tie.Need-same-length
 same-length c = search needs
@@ -67,7 +67,7 @@ returns-2 c =
     let reading = c .before .before .before .before .before .reading in
     let booked = c .before .before .booked in
     let x = args in
-    let known = read-accepted (x .bytes .now) _ (sym (read .ensures) ∙ reading .given .1) in
+    let known = read-accepted (x .bytes .now) _ (sym (read .ensures) ∙ ap readingTells (reading .given .1)) in
     let whole =
     booking-verdict bytes₀ date₀ w₀ a₀ t₀ buffer₀
     ∙ ap (λ (v : Verdict). andThen v (verdict (amountChecks (termsOf bytes₀) date₀ w₀ a₀ t₀ buffer₀))) (known .accepts) in

@@ -9,9 +9,9 @@ use Rattle.laws.specs.Accepted.{success-reports, refusal-keeps, no-place}
 use Rattle.laws.specs.Booking.{Bookable, bookable, bookable-small, amount-accepts, amount-places}
 use Rattle.rules.specs.Contract.{bytesOf, topMost}
 use Rattle.rules.specs.Date.{cash, penalty, guaranteeAfter}
-use Rattle.rules.specs.Operations.{amountChecks, bookingBytes}
 use Rattle.rules.specs.Refusals.{accepted, verdict, numberOf, placeOf}
 use Rattle.booking.proofs.booked.Statement.{statement}
+use Rattle.rules.specs.Booking.{amountChecks, bookingBytes}
 use Rattle.booking.proofs.booked.Tie as tie
 
 -- past the checks the booking is accepted

@@ -4,9 +4,9 @@ use borrow.Author.Needs.{needs}
 use borrow.Author.Tests.{eq-eqb, ne-eqb}
 use mathlib.Core.Path.{sym, _∙_, ap}
 use Rattle.rules.specs.Date.{dynamic, admits}
-use Rattle.rules.specs.Operations.{amountChecks}
 use Rattle.rules.specs.Refusals.{verdict, numberOf}
 use Rattle.booking.proofs.refused_by.Statement.{statement}
+use Rattle.rules.specs.Booking.{amountChecks}
 use Rattle.booking.proofs.refused_by.Tie as tie
 
 returns : tie.Need-returns

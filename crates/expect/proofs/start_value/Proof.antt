@@ -9,7 +9,7 @@ use Rattle.laws.specs.Bounds.{entryMost}
 use Rattle.laws.specs.Date.{shared}
 use Rattle.rules.specs.Contract.{Terms, returnsOf, weightMost}
 use Rattle.rules.specs.Date.{discounted}
-use Rattle.rules.specs.FixedTerm.{meanOf}
+use Rattle.rules.specs.FixedTerm.{meanByList}
 use Rattle.contract.specs.Reading.{termsIn}
 use Rattle.slices.specs.Rows.{cells}
 use Rattle.expect.specs.Expected.{reachedFrom, expected-listed}
@@ -98,7 +98,7 @@ discounted-requires c κs =
     (pre .first .layers .valid .discount, omega (arith, c .before .loop .inv .2))
 
 returns : tie.Need-returns Inv-loop μ-loop
-unfolding meanOf
+unfolding meanByList
 returns c =
     let start = c .before .before .before .before .before .before in
     let is =

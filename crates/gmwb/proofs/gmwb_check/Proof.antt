@@ -1,12 +1,11 @@
 -- `gmwb::gmwb_check` meets its contract. Assumes nothing.
 use borrow.Author.Needs.{needs}
-use mathlib.Core.Path.{ap, _∙_}
-use Rattle.contract.specs.Accepted.{reading-verdict}
-use Rattle.contract.specs.Reading.{readingVerdict}
+use mathlib.Core.Path.{_≡_, refl, ap, _∙_}
+use Rattle.contract.specs.Reading.{Taken, takenBy, outcomeIn, recordRead}
 use Rattle.contract.specs.declared.Outcome.{Outcome}
-use Rattle.contract.specs.declared.Reading.{Reading}
-use Rattle.rules.specs.Operations.{recordVerdict}
-use Rattle.rules.specs.Refusals.{numberOf}
+use Rattle.laws.specs.Booking.{record-places}
+use Rattle.rules.specs.Contract.{Terms, termsOf}
+use Rattle.rules.specs.Refusals.{Verdict, accepted, refused, verdict, numberOf, recordChecks}
 use Rattle.gmwb.proofs.gmwb_check.Statement.{statement}
 use Rattle.gmwb.proofs.gmwb_check.Tie as tie
 
@@ -17,12 +16,18 @@ outcome-requires : tie.Need-outcome-requires
 outcome-requires c κs = search needs
 
 returns : tie.Need-returns
-unfolding recordVerdict
+unfolding recordRead takenBy numberOf
 returns c =
-    let args = c .before .before .before .args in
-    ap (λ (o : Outcome). o .number) (c .outcome .ensures)
-    ∙ ap (λ (r : Reading). numberOf (readingVerdict r)) (c .before .read .ensures)
-    ∙ ap numberOf (reading-verdict (args .bytes .now))
+    let bytes = c .before .before .before .args .bytes .now in (
+      ap (λ (o : Outcome). o .number) (c .outcome .ensures)
+          ∙ ap (λ (t : Taken Terms). outcomeIn t .number) (c .before .read .ensures)
+          ∙ go (verdict (recordChecks bytes)) (termsOf bytes),
+      record-places bytes,
+    )
+  where
+    go : (v : Verdict) (t : Terms) → outcomeIn (takenBy v t) .number ≡ numberOf v
+    go accepted t = refl
+    go (refused n p) t = refl
 
 pub gmwb-check-spec : {M : Type 1} → statement M
 gmwb-check-spec = tie.close (tie.spec read-requires outcome-requires returns)

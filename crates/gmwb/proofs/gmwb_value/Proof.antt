@@ -1,8 +1,8 @@
 -- `gmwb::gmwb_value` meets its contract. Assumes nothing.
 use borrow.Author.Needs.{needs, sfits-of}
-use mathlib.Core.Path.{ap, _∙_}
 use mir.Facts.{toZ-ofZ}
-use Rattle.valuing.specs.declared.Answer.{Answer}
+use mir.Syntax.{w64}
+use Rattle.gmwb.proofs.Laws.{told}
 use Rattle.gmwb.proofs.gmwb_value.Statement.{statement}
 use Rattle.gmwb.proofs.gmwb_value.Tie as tie
 
@@ -18,14 +18,9 @@ same-length-2 c = search needs
 returns : tie.Need-returns
 returns c =
     let done = c .before .before .before .before .before .value .ensures in record {
-      told = record {
-        number-is = ap (λ (x : Answer). x .number) (done .answer-is);
-        place-is = ap (λ (x : Answer). x .place) (done .answer-is);
-        value-is = ap (λ (x : Answer). x .value) (done .answer-is);
-        margin-is = toZ-ofZ (sfits-of (c .struct-told .given .1 .1 .1 .0 .1)) ∙ ap (λ (x : Answer). x .margin) (done .answer-is);
-      };
-      work-is = done .work-is;
-      table-is = done .table-is;
+      answer-is = told _ _ (done .reported .answer-is) (toZ-ofZ {w = w64} (sfits-of (c .struct-told .given .1 .1 .1 .0 .1)));
+      work-is = done .reported .work-is;
+      table-is = done .reported .table-is;
       claim = done .claim;
     }
 

@@ -5,7 +5,6 @@ use mathlib.Core.Path.{ap, sym, _∙_}
 use mathlib.Core.Path.{sym, _∙_}
 use Rattle.rules.specs.Contract.{returnsOf}
 use Rattle.rules.specs.Refusals.{badReturn, outside}
-use Rattle.rules.specs.Refusals.{badReturn}
 use Rattle.input.proofs.bad_return.Statement.{statement}
 use Rattle.input.proofs.bad_return.Tie as tie
 

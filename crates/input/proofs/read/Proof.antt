@@ -2,14 +2,14 @@
 use borrow.Author.Needs.{needs}
 use mathlib.Core.Path.{sym, ap, ap₂, _∙_}
 use Rattle.laws.specs.Accepted.{andThen}
-use Rattle.rules.specs.Refusals.{Verdict, verdict, numberOf, placeOf, listChecks}
+use Rattle.rules.specs.Refusals.{Verdict, verdict, listChecks}
 use Rattle.input.specs.declared.Listing.{Listing}
 use Rattle.contract.specs.declared.Reading.{Reading}
-use Rattle.input.specs.declared.Agreement.the-variants as agreement
 use Rattle.contract.specs.Accepted.{read-accepted, read-refused}
 use Rattle.input.specs.Accepted.{list-accepted, list-refused, both-accepted, both-refused}
-use Rattle.contract.specs.Reading.{readingVerdict, outcomeOf}
-use Rattle.input.specs.Reading.{listingVerdict}
+use Rattle.contract.specs.declared.Outcome.{Outcome}
+use Rattle.contract.specs.Reading.{turned, readingTells, outcomeIn}
+use Rattle.input.specs.Reading.{listingTells}
 use Rattle.input.proofs.read.Statement.{statement}
 use Rattle.input.proofs.read.Tie as tie
 
@@ -26,16 +26,16 @@ outcome-requires : tie.Need-outcome-requires
 outcome-requires c κs = search needs
 
 returns : tie.Need-returns
-unfolding numberOf placeOf
 returns c =
     let args = c .before .before .before .before .before .before .args in
     let bytes₀ = args .bytes .now in
     let list₀ = args .list .now in
     let read = c .before .before .before .read in
     let told = c .before .enum-told .given .1 in
-    let refusal = read-refused bytes₀ _ (sym (read .ensures) ∙ told) in
-    let outcome = c .outcome .ensures ∙ ap (λ (r : Reading). outcomeOf (readingVerdict r)) told in
-    ap agreement.Refused outcome ∙ both-refused bytes₀ list₀ _ _ (ap (λ (v : Verdict). andThen v (verdict (listChecks list₀))) refusal)
+    let refusal = read-refused bytes₀ _ (sym (read .ensures) ∙ ap readingTells told) in
+    let outcome = c .outcome .ensures ∙ ap (λ (r : Reading). outcomeIn (readingTells r)) told in
+    ap (λ (o : Outcome). turned (o .number) (o .place)) outcome ∙ both-refused bytes₀ list₀ _ _
+    (ap (λ (v : Verdict). andThen v (verdict (listChecks list₀))) refusal)
 
 read-requires-2 : tie.Need-read-requires-2
 read-requires-2 c κs = search needs
@@ -50,7 +50,6 @@ outcome-requires-2 : tie.Need-outcome-requires-2
 outcome-requires-2 c κs = search needs
 
 returns-2 : tie.Need-returns-2
-unfolding numberOf placeOf
 returns-2 c =
     let args = c .before .before .before .before .before .before .before .before .before .before .args in
     let bytes₀ = args .bytes .now in
@@ -58,11 +57,11 @@ returns-2 c =
     let read = c .before .before .before .before .before .before .before .read in
     let reading = c .before .before .before .before .before .reading in
     let read2 = c .before .before .before .read2 in
-    let known = read-accepted bytes₀ _ (sym (read .ensures) ∙ reading .given .1) in
+    let known = read-accepted bytes₀ _ (sym (read .ensures) ∙ ap readingTells (reading .given .1)) in
     let told = c .before .enum-told2 .given .1 in
-    let refusal = list-refused list₀ _ (sym (read2 .ensures) ∙ told) in
-    let outcome = c .outcome2 .ensures ∙ ap (λ (r : Listing). outcomeOf (listingVerdict r)) told in
-    ap agreement.Refused outcome ∙ both-refused bytes₀ list₀ _ _ (ap₂ andThen (known .accepts) refusal)
+    let refusal = list-refused list₀ _ (sym (read2 .ensures) ∙ ap listingTells told) in
+    let outcome = c .outcome2 .ensures ∙ ap (λ (r : Listing). outcomeIn (listingTells r)) told in
+    ap (λ (o : Outcome). turned (o .number) (o .place)) outcome ∙ both-refused bytes₀ list₀ _ _ (ap₂ andThen (known .accepts) refusal)
 
 returns-3 : tie.Need-returns-3
 returns-3 c =
@@ -71,8 +70,8 @@ returns-3 c =
     let reading = c .before .before .before .before .before .reading in
     let read2 = c .before .before .before .read2 in
     let listing = c .before .listing in
-    let known = read-accepted (args .bytes .now) _ (sym (read .ensures) ∙ reading .given .1) in
-    let listed = list-accepted (args .list .now) _ (sym (read2 .ensures) ∙ listing .given .1) in
+    let known = read-accepted (args .bytes .now) _ (sym (read .ensures) ∙ ap readingTells (reading .given .1)) in
+    let listed = list-accepted (args .list .now) _ (sym (read2 .ensures) ∙ ap listingTells (listing .given .1)) in
     both-accepted known listed
 
 pub read-spec : {M : Type 1} → statement M

@@ -2,7 +2,6 @@
 use borrow.Author.Needs.{needs}
 use mathlib.Core.Path.{ap}
 use Rattle.valuing.specs.declared.Answer.{Answer}
-use Rattle.mapping.specs.declared.Mapped.{Mapped}
 use Rattle.mapping.proofs.refused.Statement.{statement}
 use Rattle.mapping.proofs.refused.Tie as tie
 

@@ -9,7 +9,7 @@ use Rattle.rules.specs.Contract.{returnsOf, ratesOf}
 use Rattle.rules.specs.Operations.{behaviourOf}
 use Rattle.pricing.specs.declared.Priced.{Priced}
 use Rattle.pricing.specs.Priced.{Searching}
-use Rattle.pricing.proofs.Laws.{alone-fee, searching-none, searching-more, searching-done, narrowed-less}
+use Rattle.pricing.proofs.Laws.{lent-under-fee, searching-none, searching-more, searching-done, narrowed-less}
 use Rattle.pricing.proofs.search.Statement.{statement}
 use Rattle.pricing.proofs.search.Tie as tie
 
@@ -51,12 +51,12 @@ sub-fee c =
 with-fee-requires : tie.Need-with-fee-requires Inv-loop μ-loop
 with-fee-requires c κs = search needs
 
-valued-alone-requires : tie.Need-valued-alone-requires Inv-loop μ-loop
-valued-alone-requires c κs =
+valued-no-table-requires : tie.Need-valued-no-table-requires Inv-loop μ-loop
+valued-no-table-requires c κs =
     let c6 = c .before .before .before .before .before .before in
     let s = c6 .loop .s in
     let cut = halved (s .high - s .low) (omega arith) in
-    alone-fee _ (c .before .with-fee .ensures)
+    lent-under-fee _ (c .before .with-fee .ensures)
     (omega (arith, c6 .loop .inv .ends .within, cut .below, c .before .before .power-within .ensures))
     (c6 .before .before .before .before .before .pre) (c6 .loop .inv .kept)
 
@@ -76,7 +76,7 @@ loop-less c =
     let s = c10 .loop .s in
     let args = c10 .before .before .before .before .before .args in
     rw (c .narrow .ensures)
-    (narrowed-less s (s .high - c6 .power-within .result) (c3 .valued-alone .result) (args .wanted) (omega arith)
+    (narrowed-less s (s .high - c6 .power-within .result) (c3 .valued-no-table .result) (args .wanted) (omega arith)
     (ap (λ (p : ℕ). s .high - p) (c6 .power-within .ensures)))
 
 loop-again : tie.Need-loop-again Inv-loop μ-loop
@@ -90,7 +90,7 @@ loop-again c =
     let power = c6 .power-within .ensures in
     rw (c .narrow .ensures)
     (searching-more (c10 .loop .inv) _ (c3 .before .before .with-fee .ensures) (pre .given .valid .terms .penalty)
-    (omega (arith, cut .within)) (omega (arith, cut .below)) (pre .room) (c3 .valued-alone .ensures))
+    (omega (arith, cut .within)) (omega (arith, cut .below)) (pre .room) (c3 .valued-no-table .ensures))
 
 same-length : tie.Need-same-length Inv-loop μ-loop
 same-length c = c .before .before .before .loop .inv .kept .long
@@ -112,7 +112,7 @@ search-spec =
     power-within-requires
     sub-fee
     with-fee-requires
-    valued-alone-requires
+    valued-no-table-requires
     narrow-requires
     loop-less
     loop-again

@@ -3,7 +3,8 @@ use Prim.Native.Nat.{ℕ, _*_}
 use borrow.Author.Needs.{needs}
 use mathlib.Core.Path.{ap, ap₂, sym, _∙_}
 use native.Mathlib.Omega.{arith}
-use Rattle.input.specs.Accepted.{both-read, both-not-read}
+use Rattle.input.specs.Accepted.{both-read, disagreed}
+use Rattle.input.specs.Reading.{agreementTells}
 use Rattle.report.specs.Tables.{tableLine}
 use Rattle.report.specs.Text.{put-none, put-eq, put-most}
 use Rattle.rules.specs.Contract.{Terms, termsOf, returnsOf}
@@ -25,7 +26,8 @@ returns : tie.Need-returns
 returns c =
     let args = c .before .before .before .before .before .before .before .before .before .args in
     absurd (not-both (c .before .before .before .before .before .before .before .before .before .pre .0 .accepts)
-    (both-not-read (args .bytes .now) (args .list .now) _ (sym (c .before .before .read .ensures) ∙ c .enum-told .given .1)))
+    (disagreed _ (args .bytes .now) (args .list .now) _ (sym (c .before .before .read .ensures) ∙ ap agreementTells
+    (c .enum-told .given .1))))
 
 returns-2 : tie.Need-returns-2
 unfolding linesOf
@@ -34,7 +36,7 @@ returns-2 c =
     let bytes₀ = args .bytes .now in
     let list₀ = args .list .now in
     let known = both-read bytes₀ list₀ _ _ (sym (c .before .before .before .before .before .read .ensures)
-    ∙ c .before .before .before .agreement .given .1) in
+    ∙ ap agreementTells (c .before .before .before .agreement .given .1)) in
     put-eq (ap (linesOf (tableLine (termsOf bytes₀) (returnsOf list₀) (args .statics .now) (args .mixeds .now)
     (args .dynamics .now))) (sym (no-lines known (c .if1 .taken)))) (put-none _ _ _)
 
@@ -44,7 +46,7 @@ return-lines-requires c κs =
     let pre = c .before .before .before .before .before .before .before .before .before .before .before .before .before .pre in
     let known = both-read (args .bytes .now) (args .list .now) _ _
     (sym (c .before .before .before .before .before .before .read .ensures)
-    ∙ c .before .before .before .before .agreement .given .1) in
+    ∙ ap agreementTells (c .before .before .before .before .agreement .given .1)) in
     (tabled known (c .before .if1 .left) (pre .0), omega (arith, pre .1, known .count, known .returns .count))
 
 same-length : tie.Need-same-length
@@ -59,7 +61,8 @@ returns-3 c =
     let agreement = c .before .before .before .before .before .before .before .agreement in
     let known =
     both-read (args .bytes .now) list₀ _ _
-    (sym (c .before .before .before .before .before .before .before .before .before .read .ensures) ∙ agreement .given .1) in
+    (sym (c .before .before .before .before .before .before .before .before .before .read .ensures) ∙ ap agreementTells
+    (agreement .given .1)) in
     put-eq (ap₂ (λ (t : Terms) (n : ℕ). linesOf (tableLine t (returnsOf list₀) (args .statics .now) (args .mixeds .now)
     (args .dynamics .now)) n) (known .terms) (known .count
     ∙ sym (some-lines known (c .before .before .before .before .if1 .left))))

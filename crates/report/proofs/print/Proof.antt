@@ -7,7 +7,7 @@ use Rattle.rules.specs.Date.{static, mixed, dynamic}
 use Rattle.rules.specs.Operations.{behaviourOf}
 use Rattle.report.specs.Tables.{workLeft}
 use Rattle.report.specs.Text.{put-then, put-counts}
-use Rattle.report.proofs.Laws.{refused-printed, accepted-printed, program-accepts, filled, valued, refuses, zeros-lent}
+use Rattle.report.proofs.Laws.{refused-printed, accepted-printed, program-accepts, all-filled, valued, refuses, zeros-lent}
 use Rattle.report.proofs.Laws.{table-left, work-left, table-kept, work-kept, work-again}
 use Rattle.report.proofs.print.Statement.{statement}
 use Rattle.report.proofs.print.Tie as tie
@@ -45,16 +45,18 @@ returns c =
     let told = rw (zeros-lent bytes₀ (c9 .rates-length .ensures)) at (c4 .value .ensures) in
     let taken = c .before .before .if1 .taken in
     let w = c .refusal .ensures in
-    let no-to = refuses bytes₀ list₀ _ _ _ long long-table (told .answer-is) taken in (
-      w .holds ∙ refused-printed bytes₀ list₀ _ _ _ long long-table (told .answer-is) taken,
+    let no-to = refuses bytes₀ list₀ _ _ _ long long-table (told .reported .answer-is) taken in (
+      w .holds ∙ refused-printed bytes₀ list₀ _ _ _ long long-table (told .reported .answer-is) taken,
       (
         put-counts w (omega (arith, c .refusal .kept .0, c .before .refusal-arg .given .0 .1)),
         (
           w .kept _ (le-refl _),
           (
-            told .work-is ∙ work-left bytes₀ list₀ 0 _ _ (omega arith) long long-table ∙ work-kept bytes₀ list₀ no-to static dynamic _,
+            told .reported .work-is
+                ∙ work-left bytes₀ list₀ 0 _ _ (omega arith) long long-table
+                ∙ work-kept bytes₀ list₀ no-to static dynamic _,
             (
-              told .table-is ∙ table-left bytes₀ list₀ 0 _ _ (omega arith) long long-table,
+              told .reported .table-is ∙ table-left bytes₀ list₀ 0 _ _ (omega arith) long long-table,
               (table-kept bytes₀ list₀ no-to mixed _, table-kept bytes₀ list₀ no-to dynamic _),
             ),
           ),
@@ -104,8 +106,9 @@ all-lines-requires c κs =
     let list₀ = c29 .args .list .now in
     let told = rw (zeros-lent bytes₀ (c26 .rates-length .ensures)) at (c21 .value .ensures) in
     let yes-to =
-    program-accepts bytes₀ list₀ _ _ _ (c23 .value-arg2 .given .0 .1) (c22 .value-arg3 .given .0 .1) (told .answer-is) (c19 .if1 .left) in (
-      filled bytes₀ list₀ yes-to (c5 .all-lines-arg2 .given .0) (c3 .all-lines-arg4 .given .0) (c .before .all-lines-arg6 .given .0),
+    program-accepts bytes₀ list₀ _ _ _ (c23 .value-arg2 .given .0 .1) (c22 .value-arg3 .given .0 .1) (told .reported .answer-is)
+    (c19 .if1 .left) in (
+      all-filled bytes₀ list₀ yes-to (c5 .all-lines-arg2 .given .0) (c3 .all-lines-arg4 .given .0) (c .before .all-lines-arg6 .given .0),
       omega (arith, c7 .value-lines .ensures .within, c .all-lines-arg7 .given .0 .1),
     )
 
@@ -137,14 +140,15 @@ returns-2 c =
     let long₂ = c12 .value-arg8 .given .0 .1 in
     let room₂ = c11 .value-arg9 .given .0 .1 in
     let told₂ = rw zeros at (c10 .value3 .ensures) in
-    let yes-to = program-accepts bytes₀ list₀ _ _ _ long₀ room₀ (told₀ .answer-is) (c20 .if1 .left) in
-    let statics = valued bytes₀ list₀ 0 _ _ _ _ (omega arith) long₀ room₀ yes-to (told₀ .answer-is) (told₀ .table-is) in
-    let mixeds = valued bytes₀ list₀ 1 _ _ _ _ (omega arith) long₁ room₁ yes-to (told₁ .answer-is) (told₁ .table-is) in
-    let dynamics = valued bytes₀ list₀ 2 _ _ _ _ (omega arith) long₂ room₂ yes-to (told₂ .answer-is) (told₂ .table-is) in
+    let yes-to = program-accepts bytes₀ list₀ _ _ _ long₀ room₀ (told₀ .reported .answer-is) (c20 .if1 .left) in
+    let statics = valued bytes₀ list₀ 0 _ _ _ _ (omega arith) long₀ room₀ yes-to (told₀ .reported .answer-is) (told₀ .reported .table-is) in
+    let mixeds = valued bytes₀ list₀ 1 _ _ _ _ (omega arith) long₁ room₁ yes-to (told₁ .reported .answer-is) (told₁ .reported .table-is) in
+    let dynamics = valued bytes₀ list₀ 2 _ _ _ _ (omega arith) long₂ room₂ yes-to (told₂ .reported .answer-is)
+    (told₂ .reported .table-is) in
     let w = put-then (c8 .value-lines .ensures) (c .all-lines .ensures) in
-    let one = told₀ .work-is ∙ work-left bytes₀ list₀ 0 _ _ (omega arith) long₀ room₀ in
+    let one = told₀ .reported .work-is ∙ work-left bytes₀ list₀ 0 _ _ (omega arith) long₀ room₀ in
     let two =
-    told₁ .work-is
+    told₁ .reported .work-is
     ∙ work-left bytes₀ list₀ 1 _ _ (omega arith) long₁ room₁
     ∙ ap (workLeft bytes₀ list₀ mixed) one
     ∙ work-again bytes₀ list₀ static mixed _ in (
@@ -154,15 +158,15 @@ returns-2 c =
         (
           w .kept _ (le-refl _),
           (
-            told₂ .work-is
+            told₂ .reported .work-is
                 ∙ work-left bytes₀ list₀ 2 _ _ (omega arith) long₂ room₂
                 ∙ ap (workLeft bytes₀ list₀ dynamic) two
                 ∙ work-again bytes₀ list₀ mixed dynamic _,
             (
-              told₀ .table-is ∙ table-left bytes₀ list₀ 0 _ _ (omega arith) long₀ room₀,
+              told₀ .reported .table-is ∙ table-left bytes₀ list₀ 0 _ _ (omega arith) long₀ room₀,
               (
-                told₁ .table-is ∙ table-left bytes₀ list₀ 1 _ _ (omega arith) long₁ room₁,
-                told₂ .table-is ∙ table-left bytes₀ list₀ 2 _ _ (omega arith) long₂ room₂,
+                told₁ .reported .table-is ∙ table-left bytes₀ list₀ 1 _ _ (omega arith) long₁ room₁,
+                told₂ .reported .table-is ∙ table-left bytes₀ list₀ 2 _ _ (omega arith) long₂ room₂,
               ),
             ),
           ),

@@ -5,7 +5,7 @@ use mathlib.Core.Path.{refl, ap, sym, _∙_}
 use native.Mathlib.Omega.{arith}
 use Rattle.contract.specs.Accepted.{read-accepted, read-refused}
 use Rattle.rules.specs.Contract.{Terms}
-use Rattle.rules.specs.Operations.{recordVerdict}
+use Rattle.contract.specs.Reading.{readingTells}
 use Rattle.rules.specs.Refusals.{onSuccess}
 use Rattle.report.proofs.rates_length.Statement.{statement}
 use Rattle.report.proofs.rates_length.Tie as tie
@@ -20,18 +20,20 @@ enum-told : tie.Need-enum-told
 enum-told c = search needs
 
 returns : tie.Need-returns
-unfolding recordVerdict onSuccess
-returns c = (rw (read-refused _ _ (sym (c .before .before .read .ensures) ∙ c .enum-told .given .1)) refl, omega arith)
+unfolding onSuccess
+returns c = (rw (read-refused _ _ (sym (c .before .before .read .ensures) ∙ ap readingTells (c .enum-told .given .1))) refl, omega arith)
 
 mul-result : tie.Need-mul-result
 mul-result c =
-    let known = read-accepted _ _ (sym (c .before .before .before .before .read .ensures) ∙ c .before .before .reading .given .1) in
+    let known = read-accepted _ _ (sym (c .before .before .before .before .read .ensures) ∙ ap readingTells
+    (c .before .before .reading .given .1)) in
     omega (arith, known .valid .dates)
 
 returns-2 : tie.Need-returns-2
-unfolding recordVerdict onSuccess
+unfolding onSuccess
 returns-2 c =
-    let known = read-accepted _ _ (sym (c .before .before .before .before .read .ensures) ∙ c .before .before .reading .given .1) in
+    let known = read-accepted _ _ (sym (c .before .before .before .before .read .ensures) ∙ ap readingTells
+    (c .before .before .reading .given .1)) in
     (rw (known .accepts) (ap (λ (x : Terms). 2 * x .dates) (known .terms)), omega (arith, known .valid .dates))
 
 pub rates-length-spec : {M : Type 1} → statement M

@@ -18,7 +18,7 @@ word-requires c κs = search needs
 next-account-requires : tie.Need-next-account-requires
 next-account-requires c κs =
     let pre = c .before .before .before .before .before .before .pre in
-    let f = factor-le (pre .0 .listing) (pre .1 .0) in
+    let f = factor-le (pre .0 .counted) (pre .1 .0) in
     (pre .0 .valid .fee, omega (arith, pre .0 .valid .top, pre .0 .valid .premium), omega (arith, f, c .word .ensures .0))
 
 add-entry : tie.Need-add-entry

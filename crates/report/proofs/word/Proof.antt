@@ -6,8 +6,7 @@ use lib.Seq.{take-length}
 use mathlib.Core.Path.{_≡_, ap, _∙_}
 use mathlib.Core.Path.{refl}
 use native.Mathlib.Omega.{arith}
-use Rattle.report.specs.Text.{Put, put-none, put-next, put-eq}
-use Rattle.report.specs.Text.{put-most}
+use Rattle.report.specs.Text.{Put, put-none, put-next, put-eq, put-most}
 use Rattle.report.proofs.word.Statement.{statement}
 use Rattle.report.proofs.word.Tie as tie
 

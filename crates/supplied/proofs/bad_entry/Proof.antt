@@ -2,10 +2,10 @@
 use Prim.Native.Nat.{ℕ, _+_, _/_}
 use borrow.Author.Needs.{needs}
 use mathlib.Core.Path.{sym, ap₂, _∙_}
-use Rattle.rules.specs.Operations.{badAt}
 use Rattle.rules.specs.Date.{dynamic, admits}
 use Rattle.rules.specs.FixedTerm.{admissibleIn, layoutOf, freeIn}
 use Rattle.supplied.proofs.bad_entry.Statement.{statement}
+use Rattle.laws.specs.Terms.{badAt}
 use Rattle.supplied.proofs.bad_entry.Tie as tie
 
 add-stride : tie.Need-add-stride

@@ -7,15 +7,15 @@ use native.Mathlib.Omega.{arith}
 use Rattle.contract.specs.Reading.{termsIn}
 use Rattle.decision.specs.Index.{Searched, search-none, search-end, run-hit, run-end}
 use Rattle.rules.specs.FixedTerm.{layerSize}
-use Rattle.rules.specs.Operations.{tableSize, badEntry}
 use Rattle.slices.specs.Rows.{rows-step, rows-le}
 use Rattle.laws.specs.FixedTerm.{size-most, table-most}
 use Rattle.supplied.proofs.Laws.{search-fits, search-same}
 use Rattle.supplied.proofs.first_bad.Statement.{statement}
+use Rattle.laws.specs.Terms.{tableSize, badIn}
 use Rattle.supplied.proofs.first_bad.Tie as tie
 
 abbrev Inv-loop : tie.InvT-loop
-Inv-loop table c size last j₀ j = Searched (badEntry (termsIn c) table) (tableSize (termsIn c)) (j * size)
+Inv-loop table c size last j₀ j = Searched (badIn (termsIn c) table) (tableSize (termsIn c)) (j * size)
 
 abbrev μ-loop : tie.MeasureT-loop
 μ-loop table c size last j₀ j = last - j

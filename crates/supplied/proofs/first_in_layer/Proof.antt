@@ -5,8 +5,8 @@ use mathlib.Core.Path.{sym, _∙_}
 use native.Mathlib.Omega.{arith}
 use Rattle.contract.specs.Reading.{termsIn}
 use Rattle.decision.specs.Index.{Searched, search-none, search-more, search-hit, search-end}
-use Rattle.rules.specs.Operations.{badAt}
 use Rattle.supplied.proofs.first_in_layer.Statement.{statement}
+use Rattle.laws.specs.Terms.{badAt}
 use Rattle.supplied.proofs.first_in_layer.Tie as tie
 
 abbrev Inv-loop : tie.InvT-loop

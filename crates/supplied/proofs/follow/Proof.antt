@@ -43,21 +43,26 @@ follow-dates-requires c κs =
     let start = c .before .before .before .before .before .before .before .before .before .before .before .before .before .before .before in
     let pre = start .pre in
     let sorted = part-sorted (c .before .before .before .before .before .before .before .before .before .sort .ensures) in
-    starting (start .args .work .now) (pre .given) sorted (pre .room) (pre .entries) (pre .none-bad) (c .before .before .before .before .before .fill-maturity .ensures)
+    starting (start .args .work .now) (pre .given) sorted (pre .room) (pre .entries) (pre .none-bad)
+    (c .before .before .before .before .before .fill-maturity .ensures)
 
 -- the first layer then holds the table's values of date 1
 valued-first : (c : tie.After-follow-dates)
-    → let args = c .before .before .before .before .before .before .before .before .before .before .before .before .before .before .before .before .args in
+    → let args = c .before .before .before .before .before .before .before .before .before .before .before .before .before .before .before
+    .before .args in
     First (tableOn (termsIn (args .c)) (returnsOf (args .list .now)) (ratesOf (args .rates .now)) (args .table .now) 1) (termsIn (args .c))
     (args .work .now) (c .follow-dates .last .0)
 unfolding layerSize
 valued-first c =
     let sorted = part-sorted (c .before .before .before .before .before .before .before .before .before .before .sort .ensures) in
-    first-from _ (c .before .before .before .before .before .before .fill-maturity .ensures) (of-the-list _ (c .before .before .before .before .before .before .before .before .before .before .before .before .before .before .before .before .args .table .now) (sorted .same) (c .follow-dates .ensures))
+    first-from _ (c .before .before .before .before .before .before .fill-maturity .ensures)
+    (of-the-list _ (c .before .before .before .before .before .before .before .before .before .before .before .before .before .before
+    .before .before .args .table .now) (sorted .same) (c .follow-dates .ensures))
 
 settle-requires : tie.Need-settle-requires
 settle-requires c κs =
-    let start = c .before .before .before .before .before .before .before .before .before .before .before .before .before .before .before .before .before .before .before in
+    let start = c .before .before .before .before .before .before .before .before .before .before .before .before .before .before .before
+    .before .before .before .before in
     let pre = start .pre in
     settling (pre .given) (pre .room) (valued-first (c .before .before .before))
     (λ w a.
@@ -69,8 +74,10 @@ same-length c = search needs
 
 returns : tie.Need-returns
 returns c =
-    let pre = c .before .before .before .before .before .before .before .before .before .before .before .before .before .before .before .before .before .before .before .before .before .before .pre in
-    answered-accepted _ _ (pre .room) (pre .given .valid .rates .rate 0) (valued-first (c .before .before .before .before .before .before)) (c .before .before .settle .ensures)
+    let pre = c .before .before .before .before .before .before .before .before .before .before .before .before .before .before .before
+    .before .before .before .before .before .before .before .pre in
+    answered-accepted _ _ (pre .room) (pre .given .valid .rates .rate 0)
+    (valued-first (c .before .before .before .before .before .before)) (c .before .before .settle .ensures)
 
 pub follow-spec : {M : Type 1} → statement M
 follow-spec =

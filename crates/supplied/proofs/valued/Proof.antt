@@ -9,15 +9,15 @@ use mathlib.Core.Path.{_≡_, ap, sym, _∙_}
 use native.Mathlib.Omega.{arith}
 use Rattle.contract.specs.Reading.{termsIn}
 use Rattle.decision.specs.Index.{first}
-use Rattle.laws.specs.Supplied.{slices-refused, entry-refused, table-accepted}
-use Rattle.laws.specs.Valuing.{lent-room}
+use Rattle.laws.specs.Supplied.{lent-room, slices-refused, entry-refused, table-accepted}
+use Rattle.rules.specs.Contract.{returnsOf, ratesOf}
 use Rattle.rules.specs.FixedTerm.{layerSize}
 use Rattle.rules.specs.Refusals.{short}
-use Rattle.rules.specs.Operations.{tableSize, badEntry}
 use Rattle.valuing.specs.Answered.{refusal}
 use Rattle.laws.specs.FixedTerm.{size-most, table-most}
 use Rattle.supplied.proofs.Laws.{answered-refused, answered-by}
 use Rattle.supplied.proofs.valued.Statement.{statement}
+use Rattle.laws.specs.Terms.{tableSize, badIn}
 use Rattle.supplied.proofs.valued.Tie as tie
 
 too-short-requires : tie.Need-too-short-requires
@@ -35,7 +35,8 @@ returns c =
     let args = c8 .args in
     let too-short = c .before .before .too-short in
     answered-refused 11 0 _
-    (slices-refused (termsIn (args .c)) (args .work .now) (args .table .now) (sym (too-short .ensures) ∙ c .before .if1 .taken))
+    (slices-refused (termsIn (args .c)) (returnsOf (args .list .now)) (ratesOf (args .rates .now)) (args .work .now) (args .table .now)
+    (sym (too-short .ensures) ∙ c .before .if1 .taken))
     (c .refused .ensures)
 
 first-bad-requires : tie.Need-first-bad-requires
@@ -44,7 +45,7 @@ first-bad-requires c κs =
     let args = c7 .args in
     let pre = c7 .pre in (
       pre .valid .terms,
-      lent-room (termsIn (args .c)) (args .work .now) (args .table .now)
+      lent-room (termsIn (args .c)) (returnsOf (args .list .now)) (ratesOf (args .rates .now)) (args .work .now) (args .table .now)
           (sym (c .before .too-short .ensures) ∙ c .if1 .left) .1,
     )
 
@@ -88,7 +89,8 @@ returns-2 c =
     let first-bad = c5 .first-bad in
     let size = (args .c .dates - 1) * ((args .c .top + 1) * (args .c .premium + 1)) in
     answered-refused 14 _ _
-    (entry-refused (termsIn (args .c)) (args .work .now) (args .table .now) (sym (too-short .ensures) ∙ if1 .left)
+    (entry-refused (termsIn (args .c)) (returnsOf (args .list .now)) (ratesOf (args .rates .now)) (args .work .now) (args .table .now)
+    (sym (too-short .ensures) ∙ if1 .left)
     (sym (ap (λ (x : ℕ). ltb x size) (first-bad .ensures)) ∙ lt-ltb _ _ (c .before .if2 .taken)))
     (c .refused2 .ensures ∙ ap (λ (x : ℕ). refusal 14 x) (first-bad .ensures))
 
@@ -104,10 +106,11 @@ module _ (c : tie.Else2) where
 
   room : (layerSize (termsIn (start .args .c)) + layerSize (termsIn (start .args .c)) ≤ length (start .args .work .now))
       × (tableSize (termsIn (start .args .c)) ≤ length (start .args .table .now))
-  room = lent-room (termsIn (start .args .c)) (start .args .work .now) (start .args .table .now) long
+  room = lent-room (termsIn (start .args .c)) (returnsOf (start .args .list .now)) (ratesOf (start .args .rates .now))
+      (start .args .work .now) (start .args .table .now) long
 
   none : tableSize (termsIn (start .args .c))
-      ≤ first (badEntry (termsIn (start .args .c)) (start .args .table .now)) (tableSize (termsIn (start .args .c)))
+      ≤ first (badIn (termsIn (start .args .c)) (start .args .table .now)) (tableSize (termsIn (start .args .c)))
   unfolding layerSize tableSize
   none = rw (sym (c .before .before .before .before .first-bad .ensures)) (c .if2 .left)
 
@@ -123,7 +126,8 @@ returns-3 : tie.Need-returns-3
 returns-3 c =
     let held = c .before .before .before .before in
     let args = start held .args in
-    answered-by (table-accepted (termsIn (args .c)) (args .work .now) (args .table .now) (long held) (le-ltb _ _ (none held)))
+    answered-by (table-accepted (termsIn (args .c)) (returnsOf (args .list .now)) (ratesOf (args .rates .now)) (args .work .now)
+    (args .table .now) (long held) (le-ltb _ _ (none held)))
     (c .before .before .follow .ensures)
 
 pub valued-spec : {M : Type 1} → statement M

@@ -9,6 +9,7 @@ use Rattle.rules.specs.Map.{mapSize}
 use Rattle.slices.specs.Stored.{length-stored}
 use Rattle.surrender.proofs.Words.{Filled, filled-none, word-some, wording, filled-more, filled-count, filled-map}
 use Rattle.surrender.proofs.fill.Statement.{statement}
+use Rattle.laws.specs.Terms.{frame}
 use Rattle.surrender.proofs.fill.Tie as tie
 
 abbrev Inv-loop : tie.InvT-loop
@@ -30,7 +31,7 @@ loop-holds c =
 
 -- the loop runs where the map needs a word, and a word has entries
 more : (c : tie.In-loop Inv-loop μ-loop)
-    → c .before .loop .j < mapSize (termsIn (c .before .before .before .before .before .before .args .c))
+    → c .before .loop .j < mapSize (frame (termsIn (c .before .before .before .before .before .before .args .c)))
 more c = omega (arith, c .before .before .map-size .ensures)
 
 mul-from : tie.Need-mul-from Inv-loop μ-loop
@@ -111,7 +112,7 @@ returns c =
     let loop = c .before .loop in
     let map-size = c .before .before .map-size in
     let pre = c .before .before .before .before .before .before .pre in
-    let done : mapSize (termsIn (args .c)) ≤ loop .j = omega (arith, map-size .ensures) in
+    let done : mapSize (frame (termsIn (args .c))) ≤ loop .j = omega (arith, map-size .ensures) in
     (filled-count (loop .inv) done, filled-map (loop .inv) done (pre .words))
 
 pub fill-spec : {M : Type 1} → statement M

@@ -8,9 +8,10 @@ use Rattle.decision.specs.Bits.{fromBits}
 use Rattle.laws.specs.FixedTerm.{table-most}
 use Rattle.rules.specs.Map.{surrendered}
 use Rattle.surrender.specs.Mapped.{stateOf}
-use Rattle.surrender.proofs.Words.{Taken, taken-none, Part, next-within, part-some}
-use Rattle.surrender.proofs.Words.{part-within, part-inside, part-room, row-long, added-fits, taken-more}
+use Rattle.surrender.proofs.Words.{Taken, taken-none, Part, next-within, part-some, part-within, part-inside, part-room, row-long}
+use Rattle.surrender.proofs.Words.{added-fits, taken-more}
 use Rattle.surrender.proofs.word.Statement.{statement}
+use Rattle.laws.specs.Terms.{frame}
 use Rattle.surrender.proofs.word.Tie as tie
 
 abbrev Inv-loop : tie.InvT-loop
@@ -141,7 +142,7 @@ returns c =
     let inv = loop .inv in
     let all : loop .k ≡ args .n = omega (arith, inv .some) in
     record {
-      bits-are = inv .bits-are ∙ ap (fromBits (λ (i : ℕ). surrendered (termsIn (args .c)) (args .table .now) (args .from + i))) all;
+      bits-are = inv .bits-are ∙ ap (fromBits (λ (i : ℕ). surrendered (frame (termsIn (args .c))) (args .table .now) (args .from + i))) all;
       ends = inv .next-is ∙ ap (λ (i : ℕ). stateOf (termsIn (args .c)) (args .from + i)) all;
     }
 

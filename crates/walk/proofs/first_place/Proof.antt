@@ -33,7 +33,7 @@ mul-word c = search needs
 word-requires : tie.Need-word-requires
 word-requires c κs =
     let pre = c .before .before .before .before .before .pre in
-    let k = pre .numbers 0 (pre .valid .dates-least) in omega (arith, c .wide16 .ensures .0, pre .listing .long)
+    let k = pre .numbers 0 (pre .valid .dates-least) in omega (arith, c .wide16 .ensures .0, pre .counted .long)
 
 arrive-requires : tie.Need-arrive-requires
 arrive-requires c κs =

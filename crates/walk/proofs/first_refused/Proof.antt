@@ -10,10 +10,11 @@ use Rattle.decision.specs.Index.{Searched, search-none, search-more, search-hit
 use Rattle.laws.specs.Date.{dynamic-is}
 use Rattle.rules.specs.Contract.{returnsOf}
 use Rattle.rules.specs.Date.{dynamic, freeAmount, admits}
-use Rattle.rules.specs.Operations.{badDate}
 use Rattle.walk.specs.Walked.{Met}
 use Rattle.walk.proofs.Laws.{bad-is, met-up}
 use Rattle.walk.proofs.first_refused.Statement.{statement}
+use Rattle.rules.specs.Product.{badDate}
+use Rattle.laws.specs.Terms.{livingTerm}
 use Rattle.walk.proofs.first_refused.Tie as tie
 
 abbrev Inv-loop : tie.InvT-loop
@@ -21,7 +22,7 @@ Inv-loop c list count table path place₀ i₀ place i =
     (0 < i)
     × (i ≤ c .dates)
     × Met (termsIn c) (returnsOf list) table path i place
-    × Searched (badDate (termsIn c) (returnsOf list) table path) (c .dates - 1) (i - 1)
+    × Searched (badDate (livingTerm (termsIn c) (returnsOf list)) table path) (c .dates - 1) (i - 1)
 
 abbrev μ-loop : tie.MeasureT-loop
 μ-loop c list count table path place₀ i₀ place i = c .dates - i

@@ -48,7 +48,7 @@ word-requires : tie.Need-word-requires
 word-requires c κs =
     let pre = c .before .before .before .before .before .before .before .pre in
     let k = pre .0 .numbers (c .before .before .before .before .before .before .before .args .i) (pre .3) in
-    omega (arith, c .wide16 .ensures .0, pre .0 .listing .long)
+    omega (arith, c .wide16 .ensures .0, pre .0 .counted .long)
 
 arrive-requires : tie.Need-arrive-requires
 unfolding balanceAfter

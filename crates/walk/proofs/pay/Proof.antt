@@ -8,12 +8,13 @@ use Rattle.contract.specs.Reading.{termsIn}
 use Rattle.rules.specs.Contract.{returnsOf}
 use Rattle.rules.specs.Date.{maturityValue}
 use Rattle.rules.specs.Product.{walkCashOn, walkCashLast}
-use Rattle.rules.specs.FixedTerm.{State, cashIn, processOf, fixedTerm, livingTerm}
+use Rattle.rules.specs.FixedTerm.{State, cashIn, processOf, fixedTerm}
 use Rattle.dates.specs.Back.{at}
 use Rattle.slices.specs.Stored.{stored, stored-push, length-stored}
 use Rattle.walk.specs.Walked.{Met}
 use Rattle.walk.proofs.Laws.{amount-within, amount-small, cash-is, met-up}
 use Rattle.walk.proofs.pay.Statement.{statement}
+use Rattle.laws.specs.Terms.{livingTerm}
 use Rattle.walk.proofs.pay.Tie as tie
 
 abbrev Inv-loop : tie.InvT-loop

@@ -1,11 +1,10 @@
 -- `walk::walk` meets its contract. Assumes nothing.
 use borrow.Author.Needs.{needs}
 use mathlib.Core.Path.{sym, ap, _∙_}
-use Rattle.input.specs.Accepted.{both-read, both-not-read}
-use Rattle.contract.specs.Reading.{outcomeOf}
-use Rattle.input.specs.Reading.{agreementVerdict}
+use Rattle.input.specs.Accepted.{both-read, disagreed}
+use Rattle.contract.specs.Reading.{outcomeIn}
+use Rattle.input.specs.Reading.{agreementTells}
 use Rattle.input.specs.declared.Agreement.{Agreement}
-use Rattle.rules.specs.Refusals.{numberOf, placeOf}
 use Rattle.walk.specs.Walked.{ready}
 use Rattle.walk.proofs.Laws.{whole, whole-refused}
 use Rattle.walk.proofs.walk.Statement.{statement}
@@ -24,12 +23,12 @@ outcome-requires : tie.Need-outcome-requires
 outcome-requires c κs = search needs
 
 returns : tie.Need-returns
-unfolding numberOf placeOf
 returns c =
     let args = c .before .before .before .before .before .before .before .before .before .args in
     let told = c .before .enum-told .given .1 in
-    let outcome = c .outcome .ensures ∙ ap (λ (r : Agreement). outcomeOf (agreementVerdict r)) told in
-    let refusal = both-not-read (args .bytes .now) (args .list .now) _ (sym (c .before .before .before .read .ensures) ∙ told) in
+    let outcome = c .outcome .ensures ∙ ap (λ (r : Agreement). outcomeIn (agreementTells r)) told in
+    let refusal = disagreed _ (args .bytes .now) (args .list .now) _
+    (sym (c .before .before .before .read .ensures) ∙ ap agreementTells told) in
     let w = whole-refused (args .bytes .now) (args .list .now) (args .table .now) (args .path .now)
     (args .cash .now) _ _ _ refusal outcome in
     (w .outcome-is, w .cash-is)
@@ -38,7 +37,7 @@ walked-requires : tie.Need-walked-requires
 walked-requires c κs =
     let args = c .before .before .before .before .before .before .before .before .before .before .args in
     ready (both-read (args .bytes .now) (args .list .now) _ _ (sym (c .before .before .before .before .read .ensures)
-    ∙ c .before .before .agreement .given .1))
+    ∙ ap agreementTells (c .before .before .agreement .given .1)))
 
 same-length : tie.Need-same-length
 same-length c = search needs
@@ -48,7 +47,7 @@ returns-2 c =
     let args = c .before .before .before .before .before .before .before .before .before .before .before .before .before .args in
     let known = both-read (args .bytes .now) (args .list .now) _ _
     (sym (c .before .before .before .before .before .before .before .read .ensures)
-    ∙ c .before .before .before .before .before .agreement .given .1) in
+    ∙ ap agreementTells (c .before .before .before .before .before .agreement .given .1)) in
     let w = whole (args .bytes .now) (args .list .now) (args .table .now) (args .path .now) (args .cash .now) _ _
     (known .accepts) _ (known .terms) (c .before .before .walked .ensures) in
     (w .outcome-is, w .cash-is)

@@ -10,10 +10,11 @@ use native.Mathlib.Omega.{arith}
 use Rattle.contract.specs.Reading.{termsIn, outcomeAt}
 use Rattle.decision.specs.Index.{first}
 use Rattle.rules.specs.Contract.{returnsOf}
-use Rattle.rules.specs.Operations.{badDate}
 use Rattle.laws.specs.Walk.{slices-refused, count-refused, number-refused, date-refused, path-accepted, path-room}
 use Rattle.walk.proofs.Laws.{walked-refused, walked-accepted, walking}
 use Rattle.walk.proofs.walked.Statement.{statement}
+use Rattle.rules.specs.Product.{badDate}
+use Rattle.laws.specs.Terms.{livingTerm}
 use Rattle.walk.proofs.walked.Tie as tie
 
 too-short-requires : tie.Need-too-short-requires
@@ -67,10 +68,10 @@ returns-3 c =
     walked-refused 13 _ _ (number-refused (termsIn (args .c)) (returnsOf (args .list .now)) (args .table .now) path₀
     (args .cash .now) (sym (too-short .ensures) ∙ if1 .left) (eq-eqb _ _ (if2 .left))
     (sym (ap (λ (x : ℕ). ltb x (args .c .dates)) (first-missing .ensures
-    ∙ ap (λ (k : ℕ). first (λ (j : ℕ). leb k (getD path₀ j 0)) (args .c .dates)) (pre .listing .all)))
+    ∙ ap (λ (k : ℕ). first (λ (j : ℕ). leb k (getD path₀ j 0)) (args .c .dates)) (pre .counted .all)))
     ∙ lt-ltb _ _ (c .before .if3 .taken))) (c .outcome3 .ensures
     ∙ ap (outcomeAt 13) (first-missing .ensures ∙ ap (λ (k : ℕ). first (λ (j : ℕ). leb k (getD path₀ j 0)) (args .c .dates))
-    (pre .listing .all)))
+    (pre .counted .all)))
 
 first-refused-requires : tie.Need-first-refused-requires
 first-refused-requires c κs =
@@ -81,7 +82,7 @@ first-refused-requires c κs =
     let if1 = c .before .before .before .before .before .if1 in
     let if2 = c .before .before .before .if2 in
     let first-missing = c .before .before .first-missing in
-    walking path₀ (pre .valid) (pre .listing) (path-room (termsIn (args .c)) (returnsOf (args .list .now))
+    walking path₀ (pre .valid) (pre .counted) (path-room (termsIn (args .c)) (returnsOf (args .list .now))
     (args .table .now) path₀ (args .cash .now) (sym (too-short .ensures) ∙ if1 .left) .0) (if2 .left)
     (le-trans (c .if3 .left) (le-of-eq (first-missing .ensures)))
 
@@ -112,9 +113,9 @@ returns-4 c =
     walked-refused 14 _ _ (date-refused (termsIn c₀) (returnsOf list₀) table₀ path₀ (args .cash .now)
     (sym (too-short .ensures) ∙ if1 .left) (eq-eqb _ _ (if2 .left))
     (sym (ap (λ (x : ℕ). ltb x (args .c .dates)) (first-missing .ensures
-    ∙ ap (λ (k : ℕ). first (λ (j : ℕ). leb k (getD path₀ j 0)) (args .c .dates)) (pre .listing .all))) ∙ le-ltb _ _ (if3 .left))
+    ∙ ap (λ (k : ℕ). first (λ (j : ℕ). leb k (getD path₀ j 0)) (args .c .dates)) (pre .counted .all))) ∙ le-ltb _ _ (if3 .left))
     (lt-ltb _ _ (let f = first-refused .ensures in let t = c .before .if4 .taken in
-    let z : first (badDate (termsIn c₀) (returnsOf list₀) table₀ path₀) (args .c .dates - 1) < args .c .dates - 1 =
+    let z : first (badDate (livingTerm (termsIn c₀) (returnsOf list₀)) table₀ path₀) (args .c .dates - 1) < args .c .dates - 1 =
     omega arith in z))) (c .outcome4 .ensures ∙ ap (outcomeAt 14) (first-refused .ensures))
 
 pay-requires : tie.Need-pay-requires
@@ -136,11 +137,11 @@ pay-requires c κs =
     let first-missing = c .before .before .before .before .before .before .first-missing in
     let if3 = c .before .before .before .before .if3 in
     let first-refused = c .before .before .before .first-refused in (
-      walking path₀ (pre .valid) (pre .listing) (path-room (termsIn c₀) (returnsOf list₀) table₀ path₀ cash₀
+      walking path₀ (pre .valid) (pre .counted) (path-room (termsIn c₀) (returnsOf list₀) table₀ path₀ cash₀
           (sym (too-short .ensures) ∙ if1 .left) .0) (if2 .left) (le-trans (if3 .left) (le-of-eq (first-missing .ensures))),
       path-room (termsIn c₀) (returnsOf list₀) table₀ path₀ cash₀ (sym (too-short .ensures) ∙ if1 .left) .1,
       (let f = first-refused .ensures in let t = c .before .if4 .left in
-          let z : args .c .dates - 1 ≤ first (badDate (termsIn c₀) (returnsOf list₀) table₀ path₀) (args .c .dates - 1) =
+          let z : args .c .dates - 1 ≤ first (badDate (livingTerm (termsIn c₀) (returnsOf list₀)) table₀ path₀) (args .c .dates - 1) =
           omega arith in z),
     )
 
@@ -175,9 +176,9 @@ returns-5 c =
     let pay = c .before .before .before .pay in
     walked-accepted _ _ (path-accepted (termsIn c₀) (returnsOf list₀) table₀ path₀ cash₀ (sym (too-short .ensures) ∙ if1 .left)
     (eq-eqb _ _ (if2 .left)) (sym (ap (λ (x : ℕ). ltb x (args .c .dates))
-    (first-missing .ensures ∙ ap (λ (k : ℕ). first (λ (j : ℕ). leb k (getD path₀ j 0)) (args .c .dates)) (pre .listing .all)))
+    (first-missing .ensures ∙ ap (λ (k : ℕ). first (λ (j : ℕ). leb k (getD path₀ j 0)) (args .c .dates)) (pre .counted .all)))
     ∙ le-ltb _ _ (if3 .left)) (le-ltb _ _ (let f = first-refused .ensures in let t = if4 .left in
-    let z : args .c .dates - 1 ≤ first (badDate (termsIn c₀) (returnsOf list₀) table₀ path₀) (args .c .dates - 1) =
+    let z : args .c .dates - 1 ≤ first (badDate (livingTerm (termsIn c₀) (returnsOf list₀)) table₀ path₀) (args .c .dates - 1) =
     omega arith in z))) (pre .valid .dates-least) (path-room (termsIn c₀) (returnsOf list₀) table₀ path₀ cash₀
     (sym (too-short .ensures) ∙ if1 .left) .1) (c .outcome5 .ensures) (pay .ensures)
 

@@ -3,11 +3,11 @@ use Prim.Native.Nat.{ℕ}
 use borrow.Author.Needs.{needs}
 use lib.ListN.{drop}
 use mathlib.Core.Path.{_≡_, sym, _∙_}
-use Rattle.contract.specs.Reading.{readingOf, refusedReading, termsIn}
+use Rattle.contract.specs.Reading.{turned, takenBy, termsIn, Taken}
 use Rattle.contract.specs.declared.Contract.{Contract}
-use Rattle.contract.specs.declared.Reading.{Reading}
 use Rattle.rules.specs.Refusals.{refused, verdict, termsChecks}
 use Rattle.contract.proofs.Contract.checked.Statement.{statement}
+use Rattle.rules.specs.Contract.{Terms}
 use Rattle.contract.proofs.Contract.checked.Tie as tie
 
 -- the first n checks pass
@@ -15,8 +15,9 @@ abbrev Passed : ℕ → Contract → Type 0
 Passed n x = verdict (termsChecks (termsIn x)) ≡ verdict (drop n (termsChecks (termsIn x)))
 
 -- a check refuses
-refusing : (x : Contract) (number : ℕ) {r : Reading} → verdict (termsChecks (termsIn x)) ≡ refused number 0
-    → r ≡ refusedReading number 0 → r ≡ readingOf (verdict (termsChecks (termsIn x))) x
+refusing : (x : Contract) (number : ℕ) {t : Taken Terms} → verdict (termsChecks (termsIn x)) ≡ refused number 0
+    → t ≡ turned number 0 → t ≡ takenBy (verdict (termsChecks (termsIn x))) (termsIn x)
+unfolding takenBy
 refusing x number e f = rw e f
 
 bad-premium-requires : tie.Need-bad-premium-requires
@@ -123,7 +124,7 @@ unfolding verdict termsChecks
 passed6 c = passed5 (c .before) ∙ rw (sym (c .before .before .before .before .before .before .bad-step .ensures) ∙ c .if6 .left)
 
 returns-7 : tie.Need-returns-7
-unfolding verdict termsChecks
+unfolding takenBy verdict termsChecks
 returns-7 c = rw (passed6 c)
 
 pub checked-spec : {M : Type 1} → statement M

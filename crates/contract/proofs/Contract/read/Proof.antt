@@ -2,9 +2,8 @@
 use borrow.Author.Needs.{needs}
 use borrow.Author.Tests.{eq-eqb, ne-eqb}
 use mathlib.Core.Path.{_≡_, ap, _∙_}
-use Rattle.contract.specs.Reading.{recordRead, readingOf, contractOf, termsIn}
-use Rattle.contract.specs.declared.Contract.{Contract}
-use Rattle.rules.specs.Contract.{termsOf}
+use Rattle.contract.specs.Reading.{recordRead, takenBy}
+use Rattle.rules.specs.Contract.{Terms, termsUnder, termsOf}
 use Rattle.rules.specs.Refusals.{verdict, termsChecks, recordChecks}
 use Rattle.contract.proofs.Contract.read.Statement.{statement}
 use Rattle.contract.proofs.Contract.read.Tie as tie
@@ -13,7 +12,7 @@ refused-requires : tie.Need-refused-requires
 refused-requires c κs = search needs
 
 returns : tie.Need-returns
-unfolding recordRead verdict recordChecks
+unfolding recordRead takenBy verdict recordChecks
 returns c = rw (ne-eqb _ _ (c .before .if1 .taken)) (c .refused .ensures)
 
 word-requires : tie.Need-word-requires
@@ -47,7 +46,7 @@ checked-requires : tie.Need-checked-requires
 checked-requires c κs = search needs
 
 returns-2 : tie.Need-returns-2
-unfolding recordRead verdict recordChecks termsOf
+unfolding recordRead verdict recordChecks termsOf termsUnder
 returns-2 c =
     let args = c .before .before .before .before .before .before .before .before .before .before .before .before .args in
     let if1 = c .before .before .before .before .before .before .before .before .before .before .if1 in
@@ -61,7 +60,7 @@ returns-2 c =
     let word7 = c .before .before .word7 in
     let word8 = c .before .word8 in
     let bytes = args .bytes .now in
-    let given : Contract = record {
+    let given : Terms = record {
       premium = word .result;
       level = word2 .result;
       top = word3 .result;
@@ -72,7 +71,7 @@ returns-2 c =
       step = word7 .result;
       spare = word8 .result;
     } in
-    let same : given ≡ contractOf (termsOf bytes) = λ i. record {
+    let same : given ≡ termsOf bytes = λ i. record {
       premium = word .ensures .0 i;
       level = word2 .ensures .0 i;
       top = word3 .ensures .0 i;
@@ -83,7 +82,7 @@ returns-2 c =
       step = word7 .ensures .0 i;
       spare = word8 .ensures .0 i;
     } in
-    rw (eq-eqb _ _ (if1 .left)) (c .checked .ensures ∙ ap (λ (x : Contract). readingOf (verdict (termsChecks (termsIn x))) x) same)
+    rw (eq-eqb _ _ (if1 .left)) (c .checked .ensures ∙ ap (λ (x : Terms). takenBy (verdict (termsChecks x)) x) same)
 
 pub read-spec : {M : Type 1} → statement M
 read-spec =

@@ -3,9 +3,9 @@ use Prim.Native.Nat.{ℕ, _-_, _*_, _≤_}
 use borrow.Author.Needs.{needs}
 use mathlib.Core.Path.{ap, sym, subst}
 use native.Mathlib.Omega.{arith}
-use Rattle.rules.specs.Operations.{tableSize}
 use Rattle.laws.specs.FixedTerm.{table-most}
 use Rattle.contract.proofs.Contract.table_size.Statement.{statement}
+use Rattle.laws.specs.Terms.{tableSize}
 use Rattle.contract.proofs.Contract.table_size.Tie as tie
 
 sub-result : tie.Need-sub-result

@@ -1,6 +1,5 @@
 -- `input::Agreement::outcome` meets its contract. Assumes nothing.
 use borrow.Author.Needs.{needs}
-use Rattle.rules.specs.Refusals.{numberOf, placeOf}
 use Rattle.input.proofs.Agreement.outcome.Statement.{statement}
 use Rattle.input.proofs.Agreement.outcome.Tie as tie
 
@@ -11,11 +10,9 @@ enum-known-agreement : tie.Need-enum-known-agreement
 enum-known-agreement c = search needs
 
 returns : tie.Need-returns
-unfolding numberOf placeOf
 returns c = rw (c .enum-told .given .1)
 
 returns-2 : tie.Need-returns-2
-unfolding numberOf placeOf
 returns-2 c = rw (c .before .agreement .given .1)
 
 pub outcome-spec : {M : Type 1} → statement M

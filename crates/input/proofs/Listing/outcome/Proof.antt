@@ -1,6 +1,5 @@
 -- `input::Listing::outcome` meets its contract. Assumes nothing.
 use borrow.Author.Needs.{needs}
-use Rattle.rules.specs.Refusals.{numberOf, placeOf}
 use Rattle.input.proofs.Listing.outcome.Statement.{statement}
 use Rattle.input.proofs.Listing.outcome.Tie as tie
 
@@ -11,11 +10,9 @@ enum-known-listing : tie.Need-enum-known-listing
 enum-known-listing c = search needs
 
 returns : tie.Need-returns
-unfolding numberOf placeOf
 returns c = rw (c .enum-told .given .1)
 
 returns-2 : tie.Need-returns-2
-unfolding numberOf placeOf
 returns-2 c = rw (c .before .listing .given .1)
 
 pub outcome-spec : {M : Type 1} → statement M

@@ -3,6 +3,7 @@ use borrow.Author.Needs.{needs}
 use borrow.Author.Tests.{lt-ltb, le-ltb, eq-eqb, ne-eqb}
 use mathlib.Core.Path.{sym, _∙_}
 use native.Mathlib.Nat.{zero-add}
+use Rattle.contract.specs.Reading.{takenBy}
 use Rattle.input.specs.Reading.{listRead}
 use Rattle.rules.specs.Contract.{returnsOf}
 use Rattle.rules.specs.Refusals.{verdict, checkEach, listChecks}
@@ -17,7 +18,7 @@ refused-list-requires : tie.Need-refused-list-requires
 refused-list-requires c κs = search needs
 
 returns : tie.Need-returns
-unfolding listRead verdict listChecks checkEach returnsOf
+unfolding listRead takenBy verdict listChecks checkEach returnsOf
 returns c = rw (sym (c .before .before .bad-length .ensures) ∙ c .before .if1 .taken) (c .refused-list .ensures)
 
 first-bad-requires : tie.Need-first-bad-requires
@@ -27,7 +28,7 @@ refused-list-requires-2 : tie.Need-refused-list-requires-2
 refused-list-requires-2 c κs = search needs
 
 returns-2 : tie.Need-returns-2
-unfolding listRead verdict listChecks checkEach returnsOf
+unfolding listRead takenBy verdict listChecks checkEach returnsOf
 returns-2 c =
     let bad-length = c .before .before .before .before .bad-length in
     let if1 = c .before .before .before .if1 in
@@ -42,7 +43,7 @@ refused-list-requires-3 : tie.Need-refused-list-requires-3
 refused-list-requires-3 c κs = search needs
 
 returns-3 : tie.Need-returns-3
-unfolding listRead verdict listChecks checkEach returnsOf
+unfolding listRead takenBy verdict listChecks checkEach returnsOf
 returns-3 c =
     let bad-length = c .before .before .before .before .before .before .bad-length in
     let if1 = c .before .before .before .before .before .if1 in
@@ -58,7 +59,7 @@ returns-3 c =
     ) (c .refused-list3 .ensures)
 
 returns-4 : tie.Need-returns-4
-unfolding listRead verdict listChecks checkEach returnsOf
+unfolding listRead takenBy verdict listChecks checkEach returnsOf
 returns-4 c =
     let bad-length = c .before .before .before .before .before .bad-length in
     let if1 = c .before .before .before .before .if1 in

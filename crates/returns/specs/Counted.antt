@@ -8,14 +8,14 @@ use lib.ListN.{length}
 use Rattle.rules.specs.Contract.{returnsOf}
 use Rattle.laws.specs.Accepted.{ValidReturns}
 
-pub record Listing (list : List ℕ) (count : ℕ) : Type 0 where
+pub record Counted (list : List ℕ) (count : ℕ) : Type 0 where
   pub long : 4 * count ≤ length list
   pub valid : ValidReturns (returnsOf list)
   pub all : count ≡ returnsOf list .count
 
-pub listing : {list : List ℕ} {n : ℕ} → n ≡ returnsOf list .count → ValidReturns (returnsOf list) → Listing list n
+pub counted : {list : List ℕ} {n : ℕ} → n ≡ returnsOf list .count → ValidReturns (returnsOf list) → Counted list n
 unfolding returnsOf
-listing {list} e valid = record {
+counted {list} e valid = record {
   long = rw e (let d = div-add-mod' (length list) 4 in omega arith);
   valid = valid;
   all = e;
