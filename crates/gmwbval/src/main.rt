@@ -2,7 +2,8 @@
 ghost use Rattle.io.specs.Counts.{Counts};
 use libc::STDOUT_FILENO;
 
-// The start of a file, longer than any record or list that is accepted. A file that is missing or can't be read is empty.
+// The start of a file, longer than any record or list that is accepted. A file that is missing, can't be opened or can't be read to
+// its end is empty: what is valued is a whole file. Behind the last byte one more read answers 0, and anything else where one failed.
 fn read(name: &[u8], bytes: &mut [u8; 512]) -> usize
     ensures { λ r. ⌜ Counts r (now (bytes .exit)) ⌝ }
 {
@@ -11,7 +12,12 @@ fn read(name: &[u8], bytes: &mut [u8; 512]) -> usize
         return 0;
     }
     let n = io::read_full(fd, bytes);
+    let mut behind = [0u8; 1];
+    let more = libc::read(fd, &mut behind);
     libc::close(fd);
+    if n < bytes.len() && more != 0 {
+        return 0;
+    }
     n
 }
 
