@@ -216,6 +216,10 @@ abbrev pub andThen : Verdict → Verdict → Verdict
 andThen accepted v = v
 andThen (refused n p) v = refused n p
 
+pub then-none : (v : Verdict) → andThen v accepted ≡ v
+then-none accepted = refl
+then-none (refused n p) = refl
+
 pub verdict-append : (ks ls : List Check) → verdict (ks ++ ls) ≡ andThen (verdict ks) (verdict ls)
 unfolding verdict
 verdict-append [] ls = refl

@@ -20,7 +20,7 @@ use Rattle.rules.specs.Refusals.{Verdict, accepted, refused, verdict, onSuccess
 use Rattle.rules.specs.Operations.{behaviourNumber, behaviourOf, valuingChecks, Policy, valuedAnswer, valuedTable, valuedWork, filled}
 use Rattle.rules.specs.Map.{surrendered, surrenderMap, surrenderCount, mapSize, mappingChecks, mapAfter, countAfter}
 use Rattle.rules.specs.Facts.{mapping-order}
-use Rattle.laws.specs.Accepted.{Positive, zero-accepts, andThen, verdict-append, then-refused, then-accepted, then-earlier, Valid}
+use Rattle.laws.specs.Accepted.{Positive, zero-accepts, verdict-append, then-refused, then-accepted, then-earlier, Valid, then-none}
 use Rattle.laws.specs.FixedTerm.{opened, size-some}
 use Rattle.rules.specs.Policy.{policyOf}
 use Rattle.laws.specs.ThirdDemand.{valuing-valid}
@@ -117,11 +117,7 @@ module _ {S H : Type 0} (p : Policy S H) (behaviour : ℕ) (work table map : Lis
   unfolding mappingChecks verdict
   mapping-same f =
       let ks = valuingChecks p behaviour work table in
-      verdict-append ks _ ∙ rw f (go (verdict ks))
-    where
-      go : (v : Verdict) → andThen v accepted ≡ v
-      go accepted = refl
-      go (refused n q) = refl
+      verdict-append ks _ ∙ rw f (then-none (verdict ks))
 
   -- what is accepted with a map is accepted without
   pub mapping-valued : verdict (mappingChecks p behaviour work table map) ≡ accepted
@@ -152,16 +148,22 @@ module _ (x : Input) (behaviour : ℕ) (work table map : List ℕ) where
   pub mapping-valid : verdict (mappingChecks (policyOf x) behaviour work table map) ≡ accepted → Valid (termsOf (x .bytes))
   mapping-valid a = valuing-valid x behaviour work table (mapping-valued (policyOf x) behaviour work table map a) .terms
 
--- what a static call leaves in the map, and counts
-pub static-map-empty : (x : Input) (table map : List ℕ)
-    → (mapAfter (policyOf x) accepted (behaviourNumber static) table map
+-- what a static call that accepts leaves in the map; and it counts nothing, whatever its verdict
+pub static-map-empty : (x : Input) (v : Verdict) (table map : List ℕ)
+    → (v ≡ accepted
+    → mapAfter (policyOf x) v (behaviourNumber static) table map
     ≡ replicate (mapSize (policyOf x .product)) 0 ++ drop (mapSize (policyOf x .product)) map)
-    × (countAfter (policyOf x) accepted (behaviourNumber static) table ≡ 0)
+    × (countAfter (policyOf x) v (behaviourNumber static) table ≡ 0)
 unfolding mapAfter countAfter valuedTable filled onSuccess behaviourNumber behaviourOf
-static-map-empty x table map =
+static-map-empty x v table map =
     let X = policyOf x .product in
     let rest = drop (entries X) table in (
-      ap (λ (xs : List ℕ). xs ++ drop (mapSize X) map)
-          (static-map (termsOf (x .bytes)) (returnsOf (x .list)) (ratesOf (x .rates)) rest),
-      static-count (termsOf (x .bytes)) (returnsOf (x .list)) (ratesOf (x .rates)) rest,
+      λ e. rw e (ap (λ (xs : List ℕ). xs ++ drop (mapSize X) map)
+          (static-map (termsOf (x .bytes)) (returnsOf (x .list)) (ratesOf (x .rates)) rest)),
+      go v,
     )
+  where
+    go : (u : Verdict) → countAfter (policyOf x) u (behaviourNumber static) table ≡ 0
+    go accepted =
+        static-count (termsOf (x .bytes)) (returnsOf (x .list)) (ratesOf (x .rates)) (drop (entries (policyOf x .product)) table)
+    go (refused n p) = refl

@@ -6,9 +6,9 @@ use Prim.Native.Nat.{ℕ, _-_, _*_, _%_}
 use lib.ListN.{getD}
 use Rattle.rules.specs.Contract.{Terms, Returns, Rates, zeroRates, termsUnder, termsOf}
 use Rattle.rules.specs.Date.{dynamic}
-use Rattle.rules.specs.Product.{Product, entries}
+use Rattle.rules.specs.Product.{Product}
 use Rattle.rules.specs.Operations.{Policy}
-use Rattle.rules.specs.FixedTerm.{State, Held, admissibleIn, processOf, layerSize, layoutOf, fixedTerm}
+use Rattle.rules.specs.FixedTerm.{State, Held, admissibleIn, layerSize, layoutOf, fixedTerm}
 
 -- "Start: balance U and guarantee U"
 abbrev pub startHeld : Terms → Held
@@ -17,10 +17,6 @@ startHeld c = record { balance = c .premium; guarantee = c .premium }
 -- the entries of a table
 unfoldable pub tableSize : Terms → ℕ
 tableSize c = (c .dates - 1) * layerSize c
-
-pub entries-are : (c : Terms) (rs : Returns) (ds : Rates) → entries (fixedTerm c rs ds) ≡ tableSize c
-unfolding entries tableSize fixedTerm processOf layoutOf
-entries-are c rs ds = refl
 
 -- the contract of a holder who lives, as a walk follows it
 abbrev pub livingTerm : Terms → Returns → Product State Held

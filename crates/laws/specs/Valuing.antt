@@ -18,7 +18,7 @@ use Rattle.rules.specs.Operations.{Policy, workSize, slicesShort, valuingChecks
 use Rattle.rules.specs.Policy.{policyOf}
 use Rattle.rules.specs.Facts.{checkNumbers}
 use Rattle.laws.specs.Accepted.{AllPass, all-pass, andThen, verdict-append, then-accepted, then-refused, then-earlier, then-later}
-use Rattle.laws.specs.Accepted.{apart, absent, refused-iff}
+use Rattle.laws.specs.Accepted.{apart, absent, refused-iff, then-none}
 
 module _ {S H : Type 0} (p : Policy S H) (behaviour : ℕ) (work : List ℕ) where
   -- ---- with no table: the checks of what is read come first ..
@@ -82,11 +82,7 @@ module _ {S H : Type 0} (p : Policy S H) (behaviour : ℕ) (work : List ℕ) whe
         → verdict (noTableChecks p behaviour work) ≡ verdict (valuingChecks p behaviour work table)
     unfolding verdict short
     no-table-is-valuing room =
-        sym (table-last ∙ rw (le-ltb (length table) (entries (p .product)) room) (all (verdict (noTableChecks p behaviour work))))
-      where
-        all : (v : Verdict) → andThen v accepted ≡ v
-        all accepted = refl
-        all (refused n q) = refl
+        sym (table-last ∙ rw (le-ltb (length table) (entries (p .product)) room) (then-none (verdict (noTableChecks p behaviour work))))
 
     pub no-table-keeps-answer : entries (p .product) ≤ length table
         → valuedAnswer p (verdict (noTableChecks p behaviour work)) behaviour

@@ -29,9 +29,11 @@ pub record InRange (c : Terms) (s : State) : Type 0 where
 unfoldable pub freeIn : Terms → State → ℕ
 freeIn c s = freeAmount (c .level) (s .guarantee)
 
+-- "Admissible amounts t"
 unfoldable pub admissibleIn : Terms → Behaviour → State → ℕ → Bool
 admissibleIn c b s t = admits b (freeIn c s) (s .account) t
 
+-- "when W is above m, also W (surrender)"
 unfoldable pub surrenderIn : Terms → State → ℕ → Bool
 surrenderIn c s t = surrenders (freeIn c s) (s .account) t
 

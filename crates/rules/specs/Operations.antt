@@ -74,7 +74,8 @@ module _ {S H : Type 0} (p : Policy S H) where
   unfoldable pub valuedTable : Verdict → ℕ → List ℕ → List ℕ
   valuedTable v behaviour table = filled v (entries (p .product)) (amountLayers (p .product) (behaviourOf behaviour)) table
 
-  -- ---- valuing a contract with no table: (vi) "No table is lent."
+  -- ---- valuing a contract with no table: (vi) "No table is lent." 10, and 11 of the working slice; what it reports and leaves is
+  -- valuing's
   unfoldable pub noTableChecks : ℕ → List ℕ → List Check
   noTableChecks behaviour work = p .checks ++ (check 10 0 (ltb 2 behaviour) ∷ check 11 0 (short workSize work) ∷ [])
 
