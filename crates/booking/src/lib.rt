@@ -1,4 +1,6 @@
 // Booking one withdrawal.
+#![tactic(auto)]
+
 ghost use Rattle.std.specs.Prelude.{◌≡◌, ◌||◌, ℕ, ◌-◌, ◌^◌, ◌≤◌, ◌<◌, max, ltb, length, ◌++◌};
 ghost use Rattle.std.proofs.lemmas.List.Edits.{sets};
 ghost use Rattle.rules.specs.Contract.{bytes_of};

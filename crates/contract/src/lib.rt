@@ -1,4 +1,6 @@
 // The contract record, read from bytes: all in range, or a refusal.
+#![tactic(auto)]
+
 ghost use Rattle.std.specs.Prelude.{◌≡◌, ◌||◌, not, ℕ, ◌+◌, ◌≤◌, ◌<◌, ltb, eqb, length};
 ghost use Rattle.rules.specs.Contract.{word, long, top_most, rate_most};
 ghost use Rattle.rules.specs.Refusals.{outside, verdict, terms_checks};
@@ -9,13 +11,13 @@ ghost use Rattle.contract.specs.Reading.{turned, taken_by, reading_tells, outcom
 ghost use Rattle.laws.specs.Terms.{table_size};
 
 // A number and its place: 0 and 0 for success.
-#[derive(Drop)]
+#[derive(Clone, Copy)]
 pub struct Outcome {
     pub number: u32,
     pub place: u64,
 }
 
-#[derive(Drop)]
+#[derive(Clone, Copy)]
 pub struct Contract {
     pub premium: usize,
     pub level: usize,
@@ -29,7 +31,7 @@ pub struct Contract {
     pub spare: usize,
 }
 
-#[derive(Drop)]
+#[derive(Clone, Copy)]
 pub enum Reading {
     Accepted(Contract),
     Refused(Outcome),

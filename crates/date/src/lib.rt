@@ -1,4 +1,6 @@
 // One date on plain numbers: the leaves that every operation is made of.
+#![tactic(auto)]
+
 ghost use Rattle.std.specs.Prelude.{◌≡◌, ◌-◌, ◌*◌, ◌≤◌, ◌<◌, max, min};
 ghost use Rattle.rules.specs.Contract.{top_most, dates_most, rate_most, discount_most, factor_most};
 ghost use Rattle.rules.specs.Date.{dynamic, free_amount, largest_amount, admits, rate_on, penalty, cash, guarantee_after};

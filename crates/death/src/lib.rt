@@ -1,4 +1,6 @@
 // Payment at death, over a layer: each value of the next date's states becomes its share, by the death rate of the period.
+#![tactic(auto)]
+
 ghost use Rattle.std.specs.Prelude.{◌≡◌, ℕ, ◌+◌, ◌-◌, ◌*◌, ◌/◌, ◌≤◌, length, get_or};
 ghost use Rattle.slices.specs.Stored.{stored};
 ghost use Rattle.slices.specs.Rows.{cells, flat};
@@ -8,7 +10,7 @@ ghost use Rattle.laws.specs.Narrow.{low_most};
 ghost use Rattle.death.specs.Shared.{Halves, Run, Row, Rows};
 
 // A death rate above 0, and what it leaves of a value, (10,000 - rate) / 10,000, in two halves of 32 bits, the low one rounded up.
-#[derive(Drop)]
+#[derive(Clone, Copy)]
 struct Death {
     rate: usize,
     high: u32,

@@ -1,1 +1,2 @@
 // Theory only: the definitions and theorems are in specs/.
+#![tactic(auto)]

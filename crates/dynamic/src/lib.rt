@@ -1,5 +1,7 @@
 // The states of an account under the dynamic behaviour, a block of up to 512 guarantees at a time: the key of each one's value and
 // recorded amount, in an array, so that the loops along the guarantee can be widened.
+#![tactic(auto)]
+
 ghost use Rattle.std.specs.Prelude.{◌≡◌, ℕ, ◌+◌, ◌-◌, ◌*◌, ◌^◌, ◌≤◌, ◌<◌, min, max, length, get_or, set};
 ghost use Rattle.rules.specs.Date.{dynamic};
 ghost use Rattle.keys.specs.Sums.{Span, sums};

@@ -1,4 +1,6 @@
 // The discounted sum of every balance and guarantee: a layer filled from the layer of the next date's values.
+#![tactic(auto)]
+
 ghost use Rattle.std.specs.Prelude.{true, ◌≡◌, ℕ, ◌+◌, ◌-◌, ◌*◌, ◌≤◌, ◌<◌, length, get_or};
 ghost use Rattle.decision.specs.Index.{sum};
 ghost use Rattle.slices.specs.Stored.{stored};
@@ -18,7 +20,7 @@ use contract::Contract;
 
 // How many groups of returns are averaged, by what they are discounted, what no value of the layer passes, and what the returns
 // pay on arrival, by weight.
-#[derive(Drop)]
+#[derive(Clone, Copy)]
 struct Average {
     count: usize,
     discount: usize,
@@ -182,7 +184,7 @@ fn store_sums(work: &mut [u64], sums: &[usize; 512], average: Average, to: usize
 }
 
 // n guarantees of the row at `to`, from `from` on.
-#[derive(Drop)]
+#[derive(Clone, Copy)]
 struct Part {
     to: usize,
     from: usize,

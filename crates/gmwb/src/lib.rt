@@ -1,4 +1,6 @@
 // The calls for a C host: numbers and slices in, numbers out. include/gmwb.h declares them.
+#![tactic(auto)]
+
 ghost use Rattle.std.specs.Prelude.{◌≡◌};
 ghost use Rattle.rules.specs.Refusals.{verdict, number_of, place_of, record_checks};
 ghost use Rattle.rules.specs.Operations.{walk_checks, walk_cashes};

@@ -1,5 +1,7 @@
 // The test program: reads script.txt in the folder it runs in, a line an operation, and prints an answer for each. The script
 // and the answers expected of it are the second program's. It is no part of the product, so its contracts are modest.
+#![tactic(auto)]
+
 ghost use Rattle.std.specs.Prelude.{◌≡◌, ◌≤◌, length};
 
 use libc::STDOUT_FILENO;
@@ -9,7 +11,7 @@ const NEW_LINE: u8 = b'\n';
 const PIECES: usize = 4096;
 
 // How far the lines are answered, and the last table.
-#[derive(Drop)]
+#[derive(Clone, Copy)]
 struct Left {
     at: usize,
     table: usize,

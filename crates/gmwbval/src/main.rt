@@ -1,4 +1,6 @@
 // Reads terms.bin and returns.bin in the folder it runs in, and prints the contract's three values and its amounts at date 1.
+#![tactic(auto)]
+
 ghost use Rattle.io.specs.Counts.{IsPrefixLen};
 
 use libc::STDOUT_FILENO;

@@ -1,4 +1,6 @@
 // Return list and death rates, read from bytes, and record, list and rates together: all in range, or a refusal with its place.
+#![tactic(auto)]
+
 ghost use Rattle.std.specs.Prelude.{◌≡◌, ◌||◌, not, ℕ, ◌+◌, ◌*◌, ◌/◌, ◌%◌, ◌≤◌, ◌<◌, ltb, eqb, length};
 ghost use Rattle.decision.specs.Index.{sum, first};
 ghost use Rattle.rules.specs.Contract.{dates_most, rate_most, return_bytes, returns_most, returns_of, rate_bytes, rates_of};
@@ -9,19 +11,19 @@ ghost use Rattle.input.specs.Reading.{listing_tells, agreement_tells, list_read,
 use contract::{Contract, Outcome, Reading};
 
 // The returns stay in the bytes of their list.
-#[derive(Drop)]
+#[derive(Clone, Copy)]
 pub struct Returns {
     pub count: usize,
 }
 
-#[derive(Drop)]
+#[derive(Clone, Copy)]
 pub enum Listing {
     Accepted(Returns),
     Refused(Outcome),
 }
 
 // What a call is given, once its checks have passed.
-#[derive(Drop)]
+#[derive(Clone, Copy)]
 pub enum Agreement {
     Accepted(Contract, Returns),
     Refused(Outcome),

@@ -1,11 +1,13 @@
 // A value and an amount as one number, and the layers of rows that the states of a date are decided in.
+#![tactic(auto)]
+
 ghost use Rattle.std.specs.Prelude.{◌≡◌, ℕ, ◌+◌, ◌*◌, ◌^◌, ◌<◌, ◌≤◌, max, length, slice_index, slice_set};
 ghost use Rattle.slices.specs.Stored.{stored};
 ghost use Rattle.keys.specs.Key.{key, amount_most};
 ghost use Rattle.keys.specs.Sums.{Copying};
 
 // A date whose states are decided: its discounted sums stand from `base` on, in rows of `stride`.
-#[derive(Drop)]
+#[derive(Clone, Copy)]
 pub struct Date {
     pub base: usize,
     pub stride: usize,
@@ -14,7 +16,7 @@ pub struct Date {
 }
 
 // n states of account w, from guarantee `from` on.
-#[derive(Drop)]
+#[derive(Clone, Copy)]
 pub struct Block {
     pub w: usize,
     pub from: usize,

@@ -1,4 +1,6 @@
 // Valuing a contract under one of the three behaviours, with a map of surrender.
+#![tactic(auto)]
+
 ghost use Rattle.std.specs.Prelude.{◌≡◌};
 ghost use Rattle.mapping.specs.Mapped.{map_refusal, Mapping};
 
@@ -7,7 +9,7 @@ use input::Agreement;
 use valuing::Answer;
 
 // The answer of valuing, and the number of set bits.
-#[derive(Drop)]
+#[derive(Clone, Copy)]
 pub struct Mapped {
     pub answer: Answer,
     pub count: u64,

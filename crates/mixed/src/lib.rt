@@ -1,5 +1,7 @@
 // The states of an account under the static and the mixed behaviour, a block of up to 512 guarantees at a time: the key of each
 // one's value and recorded amount.
+#![tactic(auto)]
+
 ghost use Rattle.std.specs.Prelude.{◌≡◌, ℕ, ◌+◌, ◌-◌, ◌^◌, ◌≤◌, ◌<◌, max, min, length, get_or, set};
 ghost use Rattle.slices.specs.Stored.{stored};
 ghost use Rattle.rules.specs.Date.{cash};

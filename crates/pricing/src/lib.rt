@@ -1,4 +1,6 @@
 // The smallest fee whose value does not exceed a wanted one.
+#![tactic(auto)]
+
 ghost use Rattle.std.specs.Prelude.{◌≡◌, ◌+◌, ◌≤◌};
 ghost use Rattle.decision.specs.Bisection.{half};
 ghost use Rattle.rules.specs.Contract.{rate_most, returns_of, rates_of};
@@ -13,14 +15,14 @@ use input::Agreement;
 use valuing::Answer;
 
 // The answer of valuing under a fee, and the fee.
-#[derive(Drop)]
+#[derive(Clone, Copy)]
 pub struct Priced {
     pub answer: Answer,
     pub fee: u64,
 }
 
 // What a search has come to: below `low` every fee gives more than wanted, and `found` is what `high` gives.
-#[derive(Drop)]
+#[derive(Clone, Copy)]
 struct Bracket {
     low: usize,
     high: usize,

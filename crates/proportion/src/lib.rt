@@ -1,5 +1,7 @@
 // The amounts above m where the account is below the guarantee, which then falls in proportion: tried for a block of up to 512
 // guarantees, and passed over for many at a time where the rows rise.
+#![tactic(auto)]
+
 ghost use Rattle.std.specs.Prelude.{◌≡◌, ℕ, ◌+◌, ◌-◌, ◌*◌, ◌^◌, ◌<◌, ◌≤◌, min, max, true, length, slice_index, slice_set};
 ghost use Rattle.slices.specs.Stored.{stored};
 ghost use Rattle.slices.specs.Rows.{cells};
@@ -30,7 +32,7 @@ fn least(best: &[u64; 512], low: usize, n: usize) -> u64
 }
 
 // Where amount t leads: the row of its balance, the step by which what is left of a guarantee grows, the key of its cash.
-#[derive(Drop)]
+#[derive(Clone, Copy)]
 struct Way {
     t: usize,
     at: usize,
@@ -101,7 +103,7 @@ fn offer_share(best: &mut [u64; 512], low: usize, n: usize, work: &[u64], first:
 }
 
 // The states from `low` to `end`. Where `bound` is not 0, the rows rise with the guarantee and none of the states holds less.
-#[derive(Drop)]
+#[derive(Clone, Copy)]
 struct Run {
     low: usize,
     end: usize,

@@ -1,5 +1,7 @@
 // What the program prints for a record and a list, as bytes in a lent buffer. The contracts name the most bytes that a text
 // may take: 20 for a number, 126 for the line of a return.
+#![tactic(auto)]
+
 ghost use Rattle.std.specs.Prelude.{◌≡◌, [], ◌∷◌, ◌++◌, ◌+◌, ◌*◌, ◌≤◌, ◌<◌, length, take, drop, get_or};
 ghost use Rattle.rules.specs.Contract.{terms_of, returns_of, rate_bytes, dates_most};
 ghost use Rattle.rules.specs.Date.{static, mixed, dynamic};

@@ -1,6 +1,8 @@
 // A line of a script of operations in, its answer out; second/script.rs describes both. It serves the test program and is no
 // part of the product, so the contracts are modest: bounds and lengths, and no word of what a line means. What it answers is
 // compared with the second program's answers. Entries one by one are read for 16-bit slices only.
+#![tactic(auto)]
+
 ghost use Rattle.std.specs.Prelude.{◌≡◌, ◌+◌, ◌≤◌, ◌<◌, length};
 
 use contract::Contract;
@@ -42,21 +44,21 @@ const NONE: usize = 9;
 
 // ---- words and numbers
 // What a word says, if it is understood.
-#[derive(Drop)]
+#[derive(Clone, Copy)]
 struct Number {
     known: bool,
     n: u64,
 }
 
 // How many entries a word gives, if it is understood.
-#[derive(Drop)]
+#[derive(Clone, Copy)]
 struct Count {
     known: bool,
     n: usize,
 }
 
 // A slice told by its pattern.
-#[derive(Drop)]
+#[derive(Clone, Copy)]
 struct Shape {
     known: bool,
     length: usize,
@@ -65,7 +67,7 @@ struct Shape {
 }
 
 // How many entries a line gives of the working slice and of the table, if both are understood.
-#[derive(Drop)]
+#[derive(Clone, Copy)]
 struct Lengths {
     known: bool,
     work: usize,
@@ -73,7 +75,7 @@ struct Lengths {
 }
 
 // .. and under which behaviour it values.
-#[derive(Drop)]
+#[derive(Clone, Copy)]
 struct Question {
     known: bool,
     behaviour: u64,
@@ -82,7 +84,7 @@ struct Question {
 }
 
 // What a line leaves: the length of its answer, and how many entries of the table count as the last table.
-#[derive(Drop)]
+#[derive(Clone, Copy)]
 pub struct Done {
     pub text: usize,
     pub table: usize,

@@ -1,4 +1,6 @@
 // How long the slices of a contract have to be, by its record.
+#![tactic(auto)]
+
 ghost use Rattle.std.specs.Prelude.{◌≡◌};
 ghost use Rattle.rules.specs.Sizes.{sizes_of, record_policy};
 ghost use Rattle.sizes.specs.Sizes.{sizes_in};
@@ -6,7 +8,7 @@ ghost use Rattle.sizes.specs.Sizes.{sizes_in};
 use contract::{Contract, Reading};
 
 // The number of a refusal, or 0 with the entries of a working slice and of a table and the words of a map.
-#[derive(Drop)]
+#[derive(Clone, Copy)]
 pub struct Sizes {
     pub number: u32,
     pub work: u64,

@@ -1,5 +1,7 @@
 // The states of a date: each one's value over the first layer, its recorded amount over the date's layer of the table, as far as
 // one is lent.
+#![tactic(auto)]
+
 ghost use Rattle.std.specs.Prelude.{◌≡◌, ℕ, ◌+◌, ◌-◌, ◌*◌, ◌/◌, ◌%◌, ◌^◌, ◌≤◌, ◌<◌, length, get_or};
 ghost use Rattle.slices.specs.Stored.{stored};
 ghost use Rattle.rules.specs.Date.{static};

@@ -1,4 +1,6 @@
 // The map of surrender of any table: a bit for each entry, the lowest first.
+#![tactic(auto)]
+
 ghost use Rattle.std.specs.Prelude.{◌≡◌, ◌++◌, ℕ, ◌+◌, ◌≤◌, length, drop, eqb};
 ghost use Rattle.decision.specs.Bits.{bit, from_bits, set_bits, ones};
 ghost use Rattle.rules.specs.Map.{surrender_map, surrender_count, map_size};
@@ -9,14 +11,14 @@ ghost use Rattle.laws.specs.Terms.{frame};
 
 use contract::Contract;
 
-#[derive(Drop)]
+#[derive(Clone, Copy)]
 pub struct State {
     pub account: usize,
     pub guarantee: usize,
 }
 
 // The bits of a run of entries, and the state of the entry behind them.
-#[derive(Drop)]
+#[derive(Clone, Copy)]
 pub struct Run {
     pub bits: u64,
     pub next: State,

@@ -1,4 +1,6 @@
 // Valuing a contract under one of the three behaviours.
+#![tactic(auto)]
+
 ghost use Rattle.std.specs.Prelude.{◌≡◌, ◌≤◌};
 ghost use Rattle.rules.specs.Contract.{top_most, returns_of, rates_of};
 ghost use Rattle.laws.specs.Bounds.{entry_most};
@@ -12,7 +14,7 @@ ghost use Rattle.valuing.specs.Answered.{Valuing, ValuingNoTable};
 use contract::{Contract, Outcome};
 use input::Agreement;
 
-#[derive(Drop)]
+#[derive(Clone, Copy)]
 pub struct Answer {
     pub number: u32,
     pub place: u64,

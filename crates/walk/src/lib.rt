@@ -1,4 +1,6 @@
 // Walking a contract along a path of return numbers, by the amounts of a table.
+#![tactic(auto)]
+
 ghost use Rattle.std.specs.Prelude.{◌≡◌, ◌||◌, ℕ, suc, ◌+◌, ◌-◌, ◌*◌, ◌≤◌, ◌<◌, max, leb, length, get_or, set};
 ghost use Rattle.decision.specs.Index.{first};
 ghost use Rattle.slices.specs.Stored.{stored};
@@ -20,7 +22,7 @@ use contract::{Contract, Outcome};
 use input::Agreement;
 
 // The account and guarantee that are met, and what is paid on arrival there.
-#[derive(Drop)]
+#[derive(Clone, Copy)]
 pub struct Place {
     pub account: usize,
     pub guarantee: usize,
@@ -54,7 +56,7 @@ fn first_missing(path: &[u16], count: usize, n: usize) -> usize
 }
 
 // The account that a return leads to, and what it pays on arrival.
-#[derive(Drop)]
+#[derive(Clone, Copy)]
 struct Arrival {
     account: usize,
     paid: usize,

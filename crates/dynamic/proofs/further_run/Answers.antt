@@ -1,0 +1,30 @@
+-- `dynamic::further_run` meets its contract. Assumes nothing.
+use borrow.Author.Rules.{rules}
+use mathlib.Core.Path.{ap}
+use native.Mathlib.Omega.{arith}
+use Prim.Native.Nat.{ℕ, ◌+◌, ◌-◌, ◌*◌}
+use Rattle.dynamic.proofs.Further.{further_room, further_offering, further_offered}
+use Rattle.dynamic.proofs.further_run.Goals as goal
+
+pub overflow_mul-at : goal.overflow_mul-at
+overflow_mul-at c =
+    omega (arith, further_room c.requires.0 c.requires.2, c.requires.0.layers.room)
+
+pub overflow_add-at : goal.overflow_add-at
+overflow_add-at c =
+    omega (arith, further_room c.requires.0 c.requires.2, c.requires.0.layers.room, c.less.ensures)
+
+pub offer-requires : goal.offer-requires
+offer-requires c =
+    let args = c.args in
+    let pre = c.requires in
+    let at_is = ap (λ (x : ℕ). (args.s.w - args.m - 1) * args.d.stride + x) c.less.ensures in
+    further_offering pre.0 pre.2 pre.1 at_is c.key.ensures.0 (omega (arith, c.key.ensures.1)) pre.3
+
+pub returns : goal.returns
+returns c =
+    let args = c.args in
+    let pre = c.requires in
+    let at_is = ap (λ (x : ℕ). (args.s.w - args.m - 1) * args.d.stride + x) c.less.ensures in
+    further_offered pre.0 pre.2 pre.1 at_is c.key.ensures.0 (omega (arith, c.key.ensures.1)) pre.3
+    c.offer.ensures

@@ -1,0 +1,26 @@
+-- `dynamic::offer` meets its contract. Assumes nothing.
+use lib.ListN.{get_or}
+use mathlib.Core.Path.{◌≡◌, refl, sym, ◌∙◌}
+use native.Mathlib.Omega.{arith}
+use Prim.Native.Nat.{◌+◌, ◌-◌, ◌≤◌, max}
+use Rattle.proportion.specs.Offers.{held_yet, raised}
+use Rattle.slices.specs.Stored.{stored}
+use Rattle.dynamic.proofs.offer.Goals as goal
+
+pub loop-i-init : goal.loop-i-init
+unfolding stored
+loop-i-init c = (omega arith, refl)
+
+pub raise-requires : goal.raise-requires
+raise-requires c =
+    let pre = c.requires in
+    let i' = c.loop-i.i in
+    let few = pre.small i' c.loop-i-test.true in
+    let held = pre.held i' c.loop-i-test.true in
+    (omega arith, omega arith, omega (arith, held_yet _ _ i' _ c.loop-i.invariant.1), omega arith)
+
+pub loop-i-preserved : goal.loop-i-preserved
+loop-i-preserved c = (omega arith, c.raise.ensures ∙ raised _ _ _ _ c.loop-i.invariant.1 _ refl)
+
+pub returns : goal.returns
+returns c = let e : c.loop-i.i ≡ c.args.n = omega arith in rw (sym e) c.loop-i.invariant.1

@@ -1,0 +1,29 @@
+-- `dynamic::offer_amount` meets its contract. Assumes nothing.
+use borrow.Author.Rules.{rules}
+use mathlib.Core.Path.{ap, ap₂, ◌∙◌}
+use native.Mathlib.Omega.{arith}
+use Prim.Native.Nat.{ℕ, ◌+◌, ◌*◌, min}
+use Rattle.dynamic.proofs.Free.{free_room, free_offering, free_offered}
+use Rattle.dynamic.proofs.offer_amount.Goals as goal
+
+pub place-at-requires : goal.place-at-requires
+place-at-requires c =
+    let d = c.args.d in
+    let low_is = c.smaller-low.ensures ∙ ap (min c.args.s.n) c.less.ensures in
+    let at_is = ap₂ (λ (x y : ℕ). d.base + (x * d.stride + y)) c.less-2.ensures c.less-3.ensures in
+    omega (arith, free_room c.requires.0 c.requires.1 low_is)
+
+pub offer-requires : goal.offer-requires
+offer-requires c =
+    let d = c.args.d in
+    let low_is = c.smaller-low.ensures ∙ ap (min c.args.s.n) c.less.ensures in
+    let at_is = c.place-at.ensures ∙ ap₂ (λ (x y : ℕ). d.base + (x * d.stride + y)) c.less-2.ensures c.less-3.ensures in
+    free_offering c.requires.0 c.requires.1 low_is at_is c.key.ensures.0 (omega (arith, c.key.ensures.1)) c.requires.2
+
+pub returns : goal.returns
+returns c =
+    let d = c.args.d in
+    let low_is = c.smaller-low.ensures ∙ ap (min c.args.s.n) c.less.ensures in
+    let at_is = c.place-at.ensures ∙ ap₂ (λ (x y : ℕ). d.base + (x * d.stride + y)) c.less-2.ensures c.less-3.ensures in
+    free_offered c.requires.0 c.requires.1 low_is at_is c.key.ensures.0 (omega (arith, c.key.ensures.1))
+    c.requires.2 c.offer.ensures

@@ -1,0 +1,25 @@
+-- `expect::expect_row` meets its contract. Assumes nothing.
+use Prim.Native.Nat.{ℕ, ◌+◌, ◌*◌, ◌-◌, ◌≤◌}
+use borrow.Author.Rules.{rules}
+use lib.ListN.{length}
+use mathlib.Core.List.{List}
+use mathlib.Core.Path.{◌≡◌, refl, sym, ap, ◌∙◌}
+use native.Mathlib.Omega.{arith}
+use Rattle.decision.specs.Index.{sum}
+use Rattle.expect.specs.Expected.{term}
+use Rattle.rules.specs.Date.{discounted}
+use Rattle.slices.specs.Stored.{stored, length_stored, stored_join}
+use Rattle.expect.proofs.Laws.{row_part, row_sum}
+use Rattle.expect.proofs.expect_row.Given as goal
+
+abbrev pub invariant-loop-from : goal.invariant-loop-from
+invariant-loop-from l =
+    (l.from ≤ l.stride)
+    × (l.work
+    ≡ stored l.initial.work l.to
+    (λ x. 8192 * discounted l.average.discount (l.average.paid + sum (term l.initial.work l.starts l.weights x) l.average.count))
+    l.from)
+    × (512 ≤ length l.sums)
+
+abbrev pub decreases-loop-from : goal.decreases-loop-from
+decreases-loop-from l = l.stride - l.from

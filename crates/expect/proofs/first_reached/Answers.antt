@@ -1,0 +1,57 @@
+-- `expect::first_reached` meets its contract. Assumes nothing.
+use Prim.Native.Nat.{◌≤◌}
+use borrow.Author.Rules.{rules}
+use native.Mathlib.Nat.{le_trans}
+use native.Mathlib.Omega.{arith}
+use Rattle.laws.specs.Date.{account_le}
+use Rattle.expect.proofs.Laws.{return_in, factor_in, account_in, value_low, start_is}
+use Rattle.expect.proofs.first_reached.Goals as goal
+
+-- the account that the return leads to
+account : (c : tie.After-next-account) → c.next_account-account.result ≤ c.args.c.top
+account c = rw c.next_account-account.ensures (account_le _ _ _ _)
+
+pub word-factor-requires : goal.word-factor-requires
+word-factor-requires c = let pre = c.requires in omega (arith, return_in pre.0 _ pre.1)
+
+pub next_account-account-requires : goal.next_account-account-requires
+next_account-account-requires c = let pre = c.requires in factor_in pre.0 _ pre.1 c.word-factor.ensures.0
+
+pub excess_paid-paid-requires : goal.excess_paid-paid-requires
+excess_paid-paid-requires c =
+    let pre = c.requires in factor_in pre.0 _ pre.1 c.word-factor.ensures.0
+
+pub overflow_mul-account : goal.overflow_mul-account
+overflow_mul-account c =
+    let pre = c.requires in omega (arith, account_in pre.0 _ pre.1 _ (account c))
+
+pub overflow_add-account : goal.overflow_add-account
+overflow_add-account c =
+    let pre = c.requires in omega (arith, account_in pre.0 _ pre.1 _ (account (c)))
+
+pub offset_bounds-work-account : goal.offset_bounds-work-account
+offset_bounds-work-account c =
+    let pre = c.requires in omega (arith, account_in pre.0 _ pre.1 _ (account (c)))
+
+pub bounds-work-account : goal.bounds-work-account
+bounds-work-account c =
+    let pre = c.requires in account_in pre.0 _ pre.1 _ (account (c))
+
+pub death_payment-payment-requires : goal.death_payment-payment-requires
+death_payment-payment-requires c =
+    let valid = c.requires.0.first.layers.valid in (le_trans (account (c)) valid.top, le_trans valid.premium valid.top)
+
+pub death_share-requires : goal.death_share-requires
+death_share-requires c =
+    let pre = c.requires in
+    let low = value_low pre.0 _ pre.1 _ (account (c)) in
+    (pre.0.rate-is, rw c.wide-value.ensures low, omega (arith, c.death_payment-payment.ensures.1))
+
+pub returns : goal.returns
+returns c =
+    let pre = c.requires in
+    let valid = pre.0.first.layers.valid in (
+      start_is pre.0 _ pre.1 c.word-factor.ensures.0 c.next_account-account.ensures c.excess_paid-paid.ensures.0
+          c.wide-value.ensures c.death_payment-payment.ensures.0 c.death_share.ensures.0,
+      omega (arith, c.excess_paid-paid.ensures.1, c.death_share.ensures.1, valid.premium, valid.top),
+    )

@@ -1,0 +1,18 @@
+-- `expect::set_eight` meets its contract. Assumes nothing.
+use Prim.Native.Nat.{ℕ, ◌+◌, ◌-◌, ◌≤◌}
+use lib.ListN.{set}
+use mathlib.Core.Path.{◌≡◌, refl, ap, sym, ◌∙◌}
+use native.Mathlib.Nat.{zero-add}
+use native.Mathlib.Omega.{arith}
+use Rattle.decision.specs.Index.{sum}
+use Rattle.expect.specs.Expected.{term}
+use Rattle.slices.specs.Stored.{stored, stored_push}
+use Rattle.expect.proofs.Laws.{summed}
+use Rattle.expect.proofs.set_eight.Given as goal
+
+abbrev pub invariant-loop-j : goal.invariant-loop-j
+invariant-loop-j l =
+    (l.j ≤ l.n) × (l.sums ≡ stored l.initial.sums 0 (λ i. l.paid + sum (term l.work l.starts l.weights (l.from + i)) 8) l.j)
+
+abbrev pub decreases-loop-j : goal.decreases-loop-j
+decreases-loop-j l = l.n - l.j

@@ -1,0 +1,29 @@
+-- `further::first_row` meets its contract. Assumes nothing.
+use Prim.Native.Nat.{ℕ, ◌+◌, ◌-◌, ◌*◌, ◌≤◌}
+use lib.ListN.{get_or}
+use mathlib.Core.Path.{◌≡◌, ap, ◌∙◌}
+use native.Mathlib.Omega.{arith}
+use Rattle.slices.specs.Stored.{stored}
+use Rattle.slices.specs.Rows.{cells}
+use Rattle.further.proofs.Run.{Run, run_none, run_push, run_out}
+use Rattle.further.proofs.first_row.Goals as goal
+
+pub loop-a-init : goal.loop-a-init
+loop-a-init c = (omega arith, run_none)
+
+pub loop-a-preserved : goal.loop-a-preserved
+loop-a-preserved c =
+    let args = c.args in
+    let loop = c.loop-a in
+    let a = loop.a in
+    let z : args.d.base + a ≡ args.d.base + (0 * args.d.stride + a) = omega arith in
+    let read = run_out loop.invariant.1 (args.d.base + a) (omega arith) ∙ ap (λ (j : ℕ). get_or args.work.now j 0) z in
+    (omega arith, run_push loop.invariant.1 _ read)
+
+pub shape_of-work : goal.shape_of-work
+shape_of-work c = c.loop-a.invariant.1.long
+
+pub returns : goal.returns
+returns c =
+    let e : c.loop-a.a ≡ c.args.d.stride = omega arith in
+    c.loop-a.invariant.1.is ∙ ap (stored _ _ _) e

@@ -1,0 +1,32 @@
+-- `further::further_layer` meets its contract. Assumes nothing.
+use Prim.Native.Nat.{ℕ, ◌-◌, ◌*◌, ◌≤◌}
+use lib.ListN.{length}
+use mathlib.Core.Path.{◌≡◌, refl, ap, ◌∙◌}
+use native.Mathlib.Omega.{arith}
+use Rattle.slices.specs.Stored.{stored, stored_none, length_stored}
+use Rattle.further.proofs.Laws.{rows, layer_sums, layer_below, layer_next}
+use Rattle.further.proofs.further_layer.Goals as goal
+
+pub loop-b-init : goal.loop-b-init
+loop-b-init c = (omega arith, stored_none _ _ _ _)
+
+pub fill_row-requires : goal.fill_row-requires
+fill_row-requires c =
+    let pre = c.requires in
+    let inv = c.loop-b.invariant in
+    let more = c.loop-b-test.true in
+    (layer_sums _ pre more inv.1, layer_below _ pre more inv.1, refl)
+
+pub loop-b-preserved : goal.loop-b-preserved
+loop-b-preserved c =
+    let turn = c in
+    let start = turn.before.before.before.before in
+    (omega arith, layer_next _ start.requires turn.loop-test.true turn.before.loop.invariant.1 c.fill_row.ensures)
+
+pub shape_of-work : goal.shape_of-work
+shape_of-work c = ap length c.loop-b.invariant.1 ∙ length_stored _ _ _ _
+
+pub returns : goal.returns
+returns c =
+    let e : c.loop-b.b ≡ c.args.n = omega arith in
+    c.loop-b.invariant.1 ∙ ap (stored _ _ _) (ap (λ (b : ℕ). b * c.args.d.stride) e)

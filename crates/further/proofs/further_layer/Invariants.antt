@@ -1,0 +1,14 @@
+-- `further::further_layer` meets its contract. Assumes nothing.
+use Prim.Native.Nat.{ℕ, ◌-◌, ◌*◌, ◌≤◌}
+use lib.ListN.{length}
+use mathlib.Core.Path.{◌≡◌, refl, ap, ◌∙◌}
+use native.Mathlib.Omega.{arith}
+use Rattle.slices.specs.Stored.{stored, stored_none, length_stored}
+use Rattle.further.proofs.Laws.{rows, layer_sums, layer_below, layer_next}
+use Rattle.further.proofs.further_layer.Given as goal
+
+abbrev pub invariant-loop-b : goal.invariant-loop-b
+invariant-loop-b l = (l.b ≤ l.n) × (l.work ≡ stored l.initial.work 0 (rows l.initial.work l.d) (l.b * l.d.stride))
+
+abbrev pub decreases-loop-b : goal.decreases-loop-b
+decreases-loop-b l = l.n - l.b

@@ -1,0 +1,14 @@
+-- `gmwb::gmwb_value_no_table` meets its contract. Assumes nothing.
+use borrow.Author.Rules.{rules, sfits_of}
+use mir.Facts.{to_z-of_z}
+use mir.Syntax.{w64}
+use Rattle.gmwb.proofs.Laws.{told}
+use Rattle.gmwb.proofs.gmwb_value_no_table.Goals as goal
+
+pub returns : goal.returns
+returns c =
+    let done = c.value_no_table-alone.ensures in record {
+      answer_is = told _ _ done.answer-is (to_z-of_z {w = w64} (sfits_of c.struct_told-1.given.1.1.1.0.1));
+      work_is = done.work-is;
+      claim = done.claim;
+    }

@@ -1,0 +1,14 @@
+-- `input::first_bad` meets its contract. Assumes nothing.
+use Prim.Native.Nat.{◌-◌}
+use mathlib.Core.Path.{sym, ◌∙◌}
+use native.Mathlib.Omega.{arith}
+use Rattle.decision.specs.Index.{Searched, search_none, search_more, search_hit, search_end}
+use Rattle.rules.specs.Contract.{returns_of}
+use Rattle.rules.specs.Refusals.{bad_return}
+use Rattle.input.proofs.first_bad.Given as goal
+
+abbrev pub invariant-loop-k : goal.invariant-loop-k
+invariant-loop-k l = Searched (bad_return (returns_of l.bytes)) l.count l.k
+
+abbrev pub decreases-loop-k : goal.decreases-loop-k
+decreases-loop-k l = l.count - l.k

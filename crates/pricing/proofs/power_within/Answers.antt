@@ -1,0 +1,17 @@
+-- `pricing::power_within` meets its contract. Assumes nothing.
+use native.Mathlib.Omega.{arith}
+use Prim.Native.Nat.{◌-◌}
+use Rattle.pricing.proofs.Laws.{Doubled, doubled_one, doubled_more, doubled_done}
+use Rattle.pricing.proofs.power_within.Goals as goal
+
+pub loop-power-init : goal.loop-power-init
+loop-power-init c = doubled_one (omega arith)
+
+pub loop-power-smaller : goal.loop-power-smaller
+loop-power-smaller c = omega (arith, c.loop-power.invariant.some)
+
+pub loop-power-preserved : goal.loop-power-preserved
+loop-power-preserved c = doubled_more c.loop-power.invariant (omega arith)
+
+pub returns : goal.returns
+returns c = doubled_done c.loop-power.invariant (omega arith)

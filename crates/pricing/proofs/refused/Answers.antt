@@ -1,0 +1,8 @@
+-- `pricing::refused` meets its contract. Assumes nothing.
+use borrow.Author.Rules.{rules}
+use mathlib.Core.Path.{ap}
+use Rattle.valuing.specs.declared.Answer.{Answer}
+use Rattle.pricing.proofs.refused.Goals as goal
+
+pub returns : goal.returns
+returns c = ap (λ (a : Answer). record { answer = a; fee = 0 }) c.refused-answer.ensures

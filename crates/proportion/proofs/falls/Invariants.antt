@@ -1,0 +1,11 @@
+-- `proportion::falls` meets its contract. Assumes nothing.
+use Rattle.std.proofs.Common.{◌≡◌, ℕ, ◌+◌, ◌-◌, ◌^◌, ◌<◌, ◌≤◌, get_or, refl, subst, arith}
+use Rattle.proportion.proofs.Rising.{falls_next}
+use Rattle.proportion.specs.Share.{Ascending}
+use Rattle.proportion.proofs.falls.Given as goal
+
+abbrev pub invariant-loop-i : goal.invariant-loop-i
+invariant-loop-i l = (l.i ≤ l.n) × (l.r ≤ l.i) × (l.r ≡ 0 → Ascending l.work l.at l.i) × (Ascending l.work l.at l.i → l.r ≡ 0)
+
+abbrev pub decreases-loop-i : goal.decreases-loop-i
+decreases-loop-i l = l.n - l.i

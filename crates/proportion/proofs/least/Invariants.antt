@@ -1,0 +1,11 @@
+-- `proportion::least` meets its contract. Assumes nothing.
+use Rattle.std.proofs.Common.{◌≡◌, ℕ, ◌+◌, ◌-◌, ◌≤◌, min, get_or, ap, ◌∙◌, arith, rules}
+use Rattle.proportion.proofs.Bounds.{least_none, least_next}
+use Rattle.proportion.specs.Share.{least_of}
+use Rattle.proportion.proofs.least.Given as goal
+
+abbrev pub invariant-loop-i : goal.invariant-loop-i
+invariant-loop-i l = (l.i ≤ l.n) × (l.r ≡ least_of (λ k. get_or l.best (l.low + k) 0) l.i)
+
+abbrev pub decreases-loop-i : goal.decreases-loop-i
+decreases-loop-i l = l.n - l.i

@@ -1,0 +1,15 @@
+-- `proportion::share_block` meets its contract. Assumes nothing.
+use Rattle.std.proofs.Common.{◌≡◌, ℕ, ◌+◌, ◌-◌, ◌≤◌, min, sym, refl, ap, ◌∙◌, arith, rules}
+use native.Mathlib.Nat.{max-eq_right}
+use Rattle.proportion.specs.Offers.{held_as}
+use Rattle.proportion.proofs.Amount.{above_from, none_above}
+use Rattle.proportion.specs.Tried.{below_all, below_same}
+use Rattle.proportion.specs.Held.{Held, key_at, tried_below}
+use Rattle.proportion.proofs.share_block.Given as goal
+
+abbrev pub invariant-loop-low : goal.invariant-loop-low
+invariant-loop-low l = (min l.s.n (l.s.w + 1 - l.s.from) ≤ l.low) × (l.low ≤ l.s.n)
+    × Held (key_at l.work l.d l.s) l.best l.s.n (tried_below l.d l.s l.low)
+
+abbrev pub decreases-loop-low : goal.decreases-loop-low
+decreases-loop-low l = l.s.n - l.low

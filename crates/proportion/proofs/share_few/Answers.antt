@@ -1,0 +1,31 @@
+-- `proportion::share_few` meets its contract. Assumes nothing.
+use Rattle.std.proofs.Common.{◌≡◌, ◌-◌, sym, arith, rules}
+use Rattle.proportion.proofs.Parts.{raised_none}
+use Rattle.proportion.proofs.Share.{way_last, way_sharing, way_raised, way_passed}
+use Rattle.proportion.proofs.share_few.Goals as goal
+
+pub offered-requires : goal.offered-requires
+offered-requires c =
+    let pre = c.requires in
+    way_last pre.0 pre.3 pre.1 c.if-r.true
+
+pub offer_share-requires : goal.offer_share-requires
+offer_share-requires c =
+    let pre = c.requires in
+    way_sharing pre.0 pre.3 pre.1 c.if-r.true
+
+pub returns-then-r-offered : goal.returns-then-r-offered
+returns-then-r-offered c =
+    let pre = c.requires in
+    way_raised pre.0 pre.3 pre.1 c.if-r.true _ c.offer_share.ensures
+
+pub returns-else-r-offered : goal.returns-else-r-offered
+returns-else-r-offered c =
+    let pre = c.requires in
+    way_passed pre.0 pre.3 pre.1 c.if-r.true pre.4 pre.2 (omega (arith, c.offered.ensures))
+
+pub returns-else-r : goal.returns-else-r
+returns-else-r c =
+    let args = c.args in
+    let none : args.r.end - args.r.low ≡ 0 = omega arith in
+    sym (raised_none _ args.r.low _ none)

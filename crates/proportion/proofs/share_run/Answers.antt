@@ -1,0 +1,110 @@
+-- `proportion::share_run` meets its contract. Assumes nothing.
+use Rattle.std.proofs.Common.{◌≡◌, ℕ, ◌+◌, ◌-◌, ◌<◌, ◌≤◌, get_or, sym, refl, ap, ◌∙◌, arith, rules}
+use Rattle.proportion.proofs.Bounds.{bounds_are, bounds_le}
+use Rattle.proportion.specs.Offers.{held_as}
+use Rattle.proportion.proofs.Amount.{amount_tried, held_more, level_free}
+use Rattle.proportion.proofs.Share.{way_room, way_step}
+use Rattle.proportion.proofs.Step.{shared_on, shared_some}
+use Rattle.proportion.proofs.Runs.{run_start, run_end}
+use Rattle.proportion.specs.declared.Run.{Run}
+use Rattle.proportion.specs.Held.{Held, key_at, tried_below}
+use Rattle.proportion.specs.Share.{Running, Shared, tried_run}
+use Rattle.proportion.proofs.share_run.Goals as goal
+
+pub overflow_add-low : goal.overflow_add-low
+overflow_add-low c = omega (arith, c.requires.0.short)
+
+pub fill_bounds-requires : goal.fill_bounds-requires
+fill_bounds-requires c =
+    let pre = c.requires in
+    (omega (arith, pre.0.short), omega (arith, c.smaller-end.ensures, pre.0.short))
+
+pub overflow_add-inverse : goal.overflow_add-inverse
+overflow_add-inverse c = omega (arith, c.requires.0.layers.few)
+
+pub nonzero_div-inverse : goal.nonzero_div-inverse
+nonzero_div-inverse c = omega (arith, c.requires.5)
+
+pub lead-to-requires : goal.lead-to-requires
+lead-to-requires c =
+    let pre = c.requires in
+    let d = c.args.d in
+    let s = c.args.s in
+    let upto : d.level ≤ s.w = omega (arith, pre.5) in
+    let room = way_room pre.0 upto in
+    let step = way_step pre.0 d.level (omega (arith, pre.5)) in
+    (omega arith, step, upto, omega (arith, pre.0.layers.few), pre.0.layers.rate-is, refl)
+
+pub loop-to-init : goal.loop-to-init
+loop-to-init c =
+    let args = c.args in
+    let pre = c.requires in
+    let end = c.smaller-end.result in
+    let told = c.lead-to.ensures in (
+      omega arith,
+      omega (arith, pre.5),
+      told.1,
+      held_as _ pre.1 (λ j l.
+          run_start args.d args.s args.low end args.d.level j (level_free args.d args.s args.low pre.3 pre.5 j)
+          ∙ ap (λ (t : ℕ). tried_run args.d args.s args.low end (t + 1) j) (sym told.0)),
+    )
+
+pub step_on-to-requires : goal.step_on-to-requires
+step_on-to-requires c =
+    let pre = c.requires in
+    shared_some pre.0 c.loop-to.invariant.2 c.loop-to-test.true
+
+pub share_amount-requires : goal.share_amount-requires
+share_amount-requires c =
+    let pre = c.requires in
+    let args = c.args in
+    let end_is = c.smaller-end.ensures in
+    let inv = c.loop-to.invariant in
+    let some : args.low < c.smaller-end.result = omega (arith, pre.4) in
+    let r : Run = record { low = args.low; end = c.smaller-end.result; bound = c.least_bound-bound.result } in
+    let run : Running args.d args.s r = record { within = omega arith; above = pre.3; level_is = pre.5 } in
+    let bounds = bounds_are args.rising args.best.now _ _ r (omega arith) pre.2 (omega arith)
+    c.fill_bounds.ensures c.least_bound-bound.ensures in (
+      pre.0,
+      run,
+      some,
+      bounds_le bounds _ (held_more pre.0 run some pre.1 inv.3 (omega (arith, inv.0))),
+      shared_on pre.0 inv.2 inv.0 c.loop-to-test.true c.step_on-to.ensures,
+      inv.3.long,
+    )
+
+pub loop-to-smaller : goal.loop-to-smaller
+loop-to-smaller c = omega (arith, c.step_on-to.ensures.0)
+
+pub loop-to-preserved : goal.loop-to-preserved
+loop-to-preserved c =
+    let pre = c.requires in
+    let args = c.args in
+    let end_is = c.smaller-end.ensures in
+    let inv = c.loop-to.invariant in
+    let told = c.step_on-to.ensures in
+    let way = shared_on pre.0 inv.2 inv.0 c.loop-to-test.true told in
+    let r : Run = record { low = args.low; end = c.smaller-end.result; bound = c.least_bound-bound.result } in
+    let run : Running args.d args.s r = record { within = omega arith; above = pre.3; level_is = pre.5 } in (
+      omega (arith, told.0),
+      way.upto,
+      way.shared,
+      amount_tried pre.0 run (omega (arith, pre.4)) way
+          (held_as _ inv.3 (λ j l. ap (λ (t : ℕ). tried_run args.d args.s args.low r.end t j) (sym told.0)))
+          c.share_amount.ensures,
+    )
+
+pub returns : goal.returns
+returns c =
+    let args = c.args in
+    let pre = c.requires in
+    let end_is = c.smaller-end.ensures in
+    let loop = c.loop-to in
+    let done : loop.to.t + 1 ≡ args.s.w + 1 = omega (arith, loop.invariant.1) in (
+      end_is,
+      held_as _ loop.invariant.3
+          (λ j l. ap (λ (z : ℕ). tried_run args.d args.s args.low c.smaller-end.result z j) done
+          ∙ run_end args.d args.s args.low c.smaller-end.result j (omega (arith, pre.4))
+          (λ p. omega (arith, level_free args.d args.s args.low pre.3 pre.5 j p, pre.5))
+          ∙ ap (λ (z : ℕ). tried_below args.d args.s z j) end_is),
+    )

@@ -1,0 +1,7 @@
+-- `report::byte` meets its contract. Assumes nothing.
+use borrow.Author.Rules.{rules}
+use Rattle.report.specs.Text.{put_byte}
+use Rattle.report.proofs.byte.Goals as goal
+
+pub returns : goal.returns
+returns c = put_byte _ _ _ c.requires

@@ -1,0 +1,17 @@
+-- `states::decide_block` meets its contract. Assumes nothing.
+use borrow.Author.Rules.{rules}
+use Rattle.keys.specs.Sums.{sums}
+use Rattle.rules.specs.Operations.{behaviour_of}
+use Rattle.states.proofs.Blocks.{block_decided, key_holds_value, key_holds_amount}
+use Rattle.states.proofs.decide_block.Goals as goal
+
+pub returns : goal.returns
+returns c =
+    let args = c.args in
+    let span = c.requires.0.span in
+    let keys = c.decide_keys.ensures in (
+      block_decided (behaviour_of args.behaviour) (sums args.work.now args.d) args.table.now _ _ span
+          c.smaller-at.ensures c.smaller.ensures
+          c.take_amounts.ensures c.take_values.ensures (key_holds_amount span keys) (key_holds_value span keys),
+      keys.long,
+    )

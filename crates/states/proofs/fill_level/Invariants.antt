@@ -1,0 +1,13 @@
+-- `states::fill_level` meets its contract. Assumes nothing.
+use lib.ListN.{length}
+use mathlib.Core.Path.{◌≡◌, refl, sym, ap, ◌∙◌}
+use native.Mathlib.Omega.{arith}
+use Prim.Native.Nat.{◌+◌, ◌-◌, ◌≤◌}
+use Rattle.slices.specs.Stored.{stored, stored_more, length_stored}
+use Rattle.states.proofs.fill_level.Given as goal
+
+abbrev pub invariant-loop-j : goal.invariant-loop-j
+invariant-loop-j l = (l.j ≤ l.n) × (l.table ≡ stored l.initial.table l.at (λ x. l.level) l.j)
+
+abbrev pub decreases-loop-j : goal.decreases-loop-j
+decreases-loop-j l = l.n - l.j

@@ -1,0 +1,9 @@
+-- `states::prepare` meets its contract. Assumes nothing.
+use borrow.Author.Rules.{rules}
+use Rattle.states.proofs.Layer.{prepared_further}
+use Rattle.states.proofs.prepare.Goals as goal
+
+pub returns : goal.returns
+returns c =
+    prepared_further c.requires c.further_layer.ensures
+    c.rises-rising.ensures

@@ -1,0 +1,54 @@
+-- `supplied::follow` meets its contract. Assumes nothing.
+use Prim.Native.Nat.{◌+◌}
+use borrow.Author.Rules.{rules}
+use native.Mathlib.Omega.{arith}
+use Rattle.contract.specs.Reading.{terms_in}
+use Rattle.rules.specs.FixedTerm.{layer_size}
+use Rattle.rules.specs.Contract.{returns_of, rates_of}
+use Rattle.returns.specs.Sorted.{part_sorted}
+use Rattle.valuing.specs.First.{First, first_from_lem, settling}
+use Rattle.supplied.specs.Followed.{table_on}
+use Rattle.supplied.proofs.Laws.{answered_accepted, starting, table_on_most, of_the_list}
+use Rattle.supplied.proofs.follow.Goals as goal
+
+pub fill_maturity-requires : goal.fill_maturity-requires
+unfolding layer_size
+fill_maturity-requires c =
+    let pre = c.requires in
+    let v = pre.given.valid.terms in
+    (omega (arith, v.top), omega (arith, v.top, v.premium), omega (arith, pre.room))
+
+pub follow_dates-requires : goal.follow_dates-requires
+unfolding layer_size
+follow_dates-requires c =
+    let start = c in
+    let pre = start.requires in
+    let sorted = part_sorted c.sort-count.ensures in
+    starting start.args.work.now pre.given sorted pre.room pre.entries pre.none_bad
+    c.fill_maturity.ensures
+
+-- the first layer then holds the table's values of date 1
+valued-first : (c : tie.After-follow-dates)
+    → let args = c.args in
+    First (table_on (terms_in args.c) (returns_of args.list.now) (rates_of args.rates.now) args.table.now 1) (terms_in args.c)
+    args.work.now c.follow_dates.new.0
+unfolding layer_size
+valued-first c =
+    let sorted = part_sorted c.sort-count.ensures in
+    first_from_lem _ c.fill_maturity.ensures
+    (of_the_list _ c.args.table.now sorted.same c.follow_dates.ensures)
+
+pub settle-requires : goal.settle-requires
+settle-requires c =
+    let start = c in
+    let pre = start.pre in
+    settling pre.given pre.room (valued-first c)
+    (λ w a.
+    table_on_most _ _ start.args.table.now pre.given.valid pre.none_bad 1 w a (omega arith)
+    pre.given.valid.terms.dates_least)
+
+pub returns : goal.returns
+returns c =
+    let pre = c.requires in
+    answered_accepted _ _ pre.room (pre.given.valid.rates.rate 0)
+    (valued-first c) c.settle.ensures

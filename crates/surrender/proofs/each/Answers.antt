@@ -1,0 +1,61 @@
+-- `surrender::each` meets its contract. Assumes nothing.
+use Prim.Native.Nat.{ℕ, ◌+◌, ◌-◌, ◌*◌, ◌≤◌}
+use lib.ListN.{length}
+use mathlib.Core.Path.{◌≡◌, ap, ap₂, sym, ◌∙◌}
+use native.Mathlib.Omega.{arith}
+use Rattle.decision.specs.Bits.{bit_le}
+use Rattle.surrender.specs.Mapped.{draws}
+use Rattle.surrender.proofs.Bits.{above, above_none, above_next, above_all, above_fits}
+use Rattle.surrender.proofs.each.Goals as goal
+
+pub loop-k-init : goal.loop-k-init
+loop-k-init c =
+    let args = c.args in
+    (omega arith, sym (above_none (draws args.row.now args.account) (length args.row.now)))
+
+pub overflow_mul-bits : goal.overflow_mul-bits
+overflow_mul-bits c =
+    let args = c.args in
+    let loop = c.loop-k in
+    let pre = c.requires in
+    let f = above_fits (draws args.row.now args.account) (length args.row.now) loop.k (pre) (omega arith) in
+    omega (arith, loop.invariant.1)
+
+pub offset_bounds-row-k : goal.offset_bounds-row-k
+offset_bounds-row-k c = omega (arith, c.requires)
+
+pub bounds-row-k : goal.bounds-row-k
+bounds-row-k c = omega (arith, c.loop-k.invariant.0)
+
+pub same-requires : goal.same-requires
+same-requires c = tt
+
+pub wide-requires : goal.wide-requires
+wide-requires c = tt
+
+pub overflow_add-bits : goal.overflow_add-bits
+overflow_add-bits c =
+    let args = c.args in
+    let loop = c.loop-k in
+    let pre = c.requires in
+    let wide = c.wide in
+    let same = c.same in
+    let f = above_fits (draws args.row.now args.account) (length args.row.now) loop.k (pre) (omega arith) in
+    omega (arith, loop.invariant.1, wide.ensures, same.ensures, bit_le (draws args.row.now args.account (loop.k - 1)))
+
+pub loop-k-preserved : goal.loop-k-preserved
+loop-k-preserved c =
+    let loop = c.loop-k in
+    let args = c.args in
+    let wide = c.wide in
+    let same = c.same in
+    let inv = loop.invariant in
+    let next = above_next (draws args.row.now args.account) (length args.row.now) loop.k (omega arith) inv.0 in
+    (omega (arith, inv.0), ap₂ (λ (x y : ℕ). 2 * x + y) inv.1 (wide.ensures ∙ same.ensures) ∙ next)
+
+pub returns : goal.returns
+returns c =
+    let f = draws c.args.row.now c.args.account in
+    let n = length c.args.row.now in
+    let none : c.loop-k.k ≡ 0 = omega arith in
+    c.loop-k.invariant.1 ∙ ap (above f n) none ∙ above_all f n

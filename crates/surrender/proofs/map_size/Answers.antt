@@ -1,0 +1,14 @@
+-- `surrender::map_size` meets its contract. Assumes nothing.
+use Prim.Native.Nat.{ℕ, ◌+◌, ◌/◌}
+use borrow.Author.Rules.{rules}
+use mathlib.Core.Path.{ap}
+use Rattle.decision.specs.Bits.{words_for}
+use Rattle.rules.specs.Map.{map_size}
+use Rattle.rules.specs.Product.{entries}
+use Rattle.laws.specs.Terms.{table_size}
+use Rattle.rules.specs.FixedTerm.{fixed_term, process_of, layout_of}
+use Rattle.surrender.proofs.map_size.Goals as goal
+
+pub returns : goal.returns
+unfolding map_size words_for entries table_size fixed_term process_of layout_of
+returns c = ap (λ (n : ℕ). (n + 63) / 64) c.table_size.ensures.0

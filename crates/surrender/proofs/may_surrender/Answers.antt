@@ -1,0 +1,17 @@
+-- `surrender::may_surrender` meets its contract. Assumes nothing.
+use borrow.Author.Rules.{rules}
+use native.Mathlib.Omega.{arith}
+use Rattle.rules.specs.Date.{free_amount}
+use Rattle.surrender.proofs.may_surrender.Goals as goal
+
+pub returns-then-c-at : goal.returns-then-c-at
+unfolding free_amount
+returns-then-c-at c = record { within = omega arith; above = λ k l. omega (arith, c.if-c-at.true); others = λ k l m. omega arith }
+
+pub returns : goal.returns
+unfolding free_amount
+returns c = record {
+  within = omega (arith, c.smaller.ensures);
+  above = λ k l. omega (arith, c.smaller.ensures, c.less.ensures, c.if-c-at.false);
+  others = λ k l m. omega (arith, c.smaller.ensures, c.less.ensures, c.if-c-at.false);
+}

@@ -1,0 +1,38 @@
+-- `valuing::valued` meets its contract. Assumes nothing.
+use borrow.Author.Rules.{rules}
+use native.Mathlib.Omega.{arith}
+use Rattle.rules.specs.FixedTerm.{layer_size}
+use Rattle.returns.specs.Sorted.{part_sorted}
+use Rattle.valuing.specs.First.{settling}
+use Rattle.dates.specs.Back.{values_most}
+use Rattle.valuing.proofs.Laws.{answered, starting, first, from_start, of_the_list}
+use Rattle.valuing.proofs.valued.Goals as goal
+
+pub fill_maturity-requires : goal.fill_maturity-requires
+unfolding layer_size
+fill_maturity-requires c =
+    let pre = c.requires in
+    let v = pre.given.valid.terms in
+    (omega (arith, v.top), omega (arith, v.top, v.premium), omega (arith, pre.room))
+
+pub all_dates-requires : goal.all_dates-requires
+unfolding layer_size
+all_dates-requires c =
+    let start = c in
+    starting start.requires (part_sorted c.sort-count.ensures) c.fill_maturity.ensures
+
+pub settle-requires : goal.settle-requires
+unfolding layer_size
+settle-requires c =
+    let pre = c.requires in
+    let sorted = part_sorted c.sort-count.ensures in
+    let v = from_start _ c.fill_maturity.ensures (of_the_list sorted.same c.all_dates.ensures) in
+    settling pre.given pre.room (first v) (values_most _ _ _ _ pre.given.valid 1)
+
+pub returns : goal.returns
+unfolding layer_size
+returns c =
+    let pre = c.requires in
+    let sorted = part_sorted c.sort-count.ensures in
+    let v = from_start _ c.fill_maturity.ensures (of_the_list sorted.same c.all_dates.ensures) in
+    answered _ _ pre.room (pre.given.valid.rates.rate 0) v c.settle.ensures

@@ -1,0 +1,34 @@
+-- `walk::first_missing` meets its contract. Assumes nothing.
+use Prim.Native.Nat.{ℕ, ◌-◌}
+use borrow.Author.Rules.{rules}
+use borrow.Author.Tests.{le-leb, lt-leb}
+use lib.Dec.{leb}
+use lib.ListN.{get_or}
+use mathlib.Core.Path.{sym, ap, ◌∙◌}
+use native.Mathlib.Omega.{arith}
+use Rattle.decision.specs.Index.{Searched, search_none, search_more, search_hit, search_end}
+use Rattle.walk.proofs.first_missing.Goals as goal
+
+pub loop-j-init : goal.loop-j-init
+loop-j-init c = search_none _ _
+
+pub bounds-path-j : goal.bounds-path-j
+bounds-path-j c = omega (arith, c.requires)
+
+pub returns-then-count-wide16 : goal.returns-then-count-wide16
+returns-then-count-wide16 c =
+    let args = c.args in
+    let loop = c.loop-j in
+    let loop-test = c.loop-j-test in
+    sym (search_hit loop.invariant loop-test.true (sym (ap (leb args.count) c.wide16.ensures.0)
+    ∙ le-leb _ _ c.if-count-wide16.true))
+
+pub loop-j-preserved : goal.loop-j-preserved
+loop-j-preserved c =
+    let args = c.args in
+    let loop = c.loop-j in
+    let loop-test = c.loop-j-test in
+    search_more loop.invariant loop-test.true (sym (ap (leb args.count) c.wide16.ensures.0) ∙ lt-leb _ _ c.if-count-wide16.false)
+
+pub returns : goal.returns
+returns c = sym (search_end c.loop-j.invariant c.loop-j-test.false)

@@ -1,0 +1,16 @@
+-- `walk::next_place` meets its contract. Assumes nothing.
+use Prim.Native.Nat.{ℕ, suc, ◌*◌}
+use borrow.Author.Rules.{rules}
+use lib.ListN.{get_or}
+use mathlib.Core.Path.{◌≡◌, sym, ap, ap₂, ◌∙◌, subst}
+use native.Mathlib.Nat.{le_trans, le_of_eq, sub-le}
+use native.Mathlib.Omega.{arith}
+use Rattle.contract.specs.Reading.{terms_in}
+use Rattle.rules.specs.Contract.{word, returns_of}
+use Rattle.rules.specs.Date.{balance_after, guarantee_after, next_account, excess_paid}
+use Rattle.walk.specs.Walked.{Met}
+use Rattle.walk.proofs.Laws.{next_met, factor_small}
+use Rattle.walk.proofs.next_place.Given as goal
+
+abbrev start : tie.After-word → tie.Start
+start c = c.before.before.before.before.before.before.before.before
