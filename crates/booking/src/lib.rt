@@ -104,7 +104,7 @@ fn booked(c: Contract, date: usize, w: usize, a: usize, t: usize, buffer: &mut [
 
 // Books t at account w and guarantee a.
 pub fn book(bytes: &[u8], date: usize, w: usize, a: usize, t: usize, buffer: &mut [u8]) -> Outcome
-    ensures value { result ≡ outcome_of (verdict (booking_checks bytes.now date w a t buffer.old)) }
+    ensures outcome { result ≡ outcome_of (verdict (booking_checks bytes.now date w a t buffer.old)) }
     ensures buffer_after { buffer.new ≡ booking_buffer bytes.now date w a t buffer.old }
 {
     let reading = Contract::read(bytes);

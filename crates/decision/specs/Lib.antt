@@ -10,5 +10,6 @@ pub mod Layers
 pub mod Bounds
 pub mod Arrivals
 pub mod Compare
+pub mod Units
 pub mod Later
 pub mod Bisection

@@ -14,8 +14,8 @@ use contract::Contract;
 // Checks a record. The place of every refusal is 0.
 #[unsafe(no_mangle)]
 pub extern "C" fn gmwb_check(bytes: &[u8]) -> u32
-    ensures value { result ≡ number_of (verdict (record_checks bytes.now)) }
-    ensures bytes_value { place_of (verdict (record_checks bytes.now)) ≡ 0 }
+    ensures number { result ≡ number_of (verdict (record_checks bytes.now)) }
+    ensures place { place_of (verdict (record_checks bytes.now)) ≡ 0 }
 {
     let reading = Contract::read(bytes);
     let outcome = reading.outcome();
@@ -33,8 +33,8 @@ pub extern "C" fn gmwb_version() -> u32
 // How long the slices of a contract have to be. The place of every refusal is 0.
 #[unsafe(no_mangle)]
 pub extern "C" fn gmwb_sizes(bytes: &[u8], work: &mut u64, table: &mut u64, map: &mut u64) -> u32
-    ensures map_after { sizes_told result work.new table.new map.new ≡ sizes_of (record_policy bytes.now) }
-    ensures bytes_value { place_of (verdict (record_checks bytes.now)) ≡ 0 }
+    ensures told { sizes_told result work.new table.new map.new ≡ sizes_of (record_policy bytes.now) }
+    ensures place { place_of (verdict (record_checks bytes.now)) ≡ 0 }
 {
     let sizes = sizes::needed(bytes);
     *work = sizes.work;
@@ -53,8 +53,8 @@ pub extern "C" fn gmwb_book(
     amount: u64,
     buffer: &mut [u8],
 ) -> u32
-    ensures value { result ≡ number_of (verdict (booking_checks bytes.now date account guarantee amount buffer.old)) }
-    ensures buffer_value { place_of (verdict (booking_checks bytes.now date account guarantee amount buffer.old)) ≡ 0 }
+    ensures number { result ≡ number_of (verdict (booking_checks bytes.now date account guarantee amount buffer.old)) }
+    ensures place { place_of (verdict (booking_checks bytes.now date account guarantee amount buffer.old)) ≡ 0 }
     ensures buffer_after { buffer.new ≡ booking_buffer bytes.now date account guarantee amount buffer.old }
 {
     let outcome = booking::book(
@@ -208,9 +208,9 @@ pub extern "C" fn gmwb_walk(
     cash: &mut [u64],
     place: &mut u64,
 ) -> u32
-    ensures value { result ≡ number_of (verdict (walk_checks (living_policy bytes.now list.now) table.now
+    ensures number { result ≡ number_of (verdict (walk_checks (living_policy bytes.now list.now) table.now
         path.now cash.old)) }
-    ensures place_after { place.new ≡ place_of (verdict (walk_checks (living_policy bytes.now list.now)
+    ensures place { place.new ≡ place_of (verdict (walk_checks (living_policy bytes.now list.now)
         table.now path.now cash.old)) }
     ensures cash_after { cash.new ≡ walk_cashes (living_policy bytes.now list.now) table.now
         path.now cash.old }

@@ -141,7 +141,7 @@ fn return_line(
     at: usize,
 ) -> usize
     requires tabled { Tabled (terms_in c) count list.now statics.now mixeds.now dynamics.now }
-    requires k_lt_count { (k < count) × (at + 126 ≤ length out.old) }
+    requires room { (k < count) × (at + 126 ≤ length out.old) }
     ensures { Put 126 out.old at (table_line (terms_in c) (returns_of list.now) statics.now
         mixeds.now dynamics.now k) result out.new }
 {
@@ -165,7 +165,7 @@ fn return_lines(
     at: usize,
 ) -> usize
     requires tabled { Tabled (terms_in c) count list.now statics.now mixeds.now dynamics.now }
-    requires count_in_bounds { at + 126 * count ≤ length out.old }
+    requires room { at + 126 * count ≤ length out.old }
     ensures { Put (126 * count) out.old at
         (lines_of (table_line (terms_in c) (returns_of list.now) statics.now mixeds.now
         dynamics.now) count) result out.new }
@@ -188,7 +188,7 @@ fn all_lines(
     at: usize,
 ) -> usize
     requires filled { Filled bytes.now list.now statics.now mixeds.now dynamics.now }
-    requires at_in_bounds { at + 8064 ≤ length out.old }
+    requires room { at + 8064 ≤ length out.old }
     ensures { Put 8064 out.old at
         (lines_of
         (table_line (terms_of bytes.now) (returns_of list.now)
@@ -228,9 +228,9 @@ pub fn print(
     dynamics: &mut [u16; 16384],
     out: &mut [u8; 8192],
 ) -> usize
-    ensures out_after { take result out.new ≡ printed bytes.now list.now }
+    ensures text { take result out.new ≡ printed bytes.now list.now }
     ensures counts { Counts result out.new }
-    ensures out_unchanged { drop result out.new ≡ drop result out.old }
+    ensures rest { drop result out.new ≡ drop result out.old }
     ensures work_after { work.new ≡ work_left bytes.now list.now dynamic work.old }
     ensures statics_after { statics.new ≡ table_left bytes.now list.now static statics.old }
     ensures mixeds_after { mixeds.new ≡ table_left bytes.now list.now mixed mixeds.old }

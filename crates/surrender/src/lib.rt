@@ -149,7 +149,7 @@ pub fn map_size(c: Contract) -> usize
 // Fills the map of a table, word by word, and counts its set bits.
 pub fn fill(c: Contract, table: &[u16], map: &mut [u64]) -> u64
     requires { MapRoom (terms_in c) table.now map.old }
-    ensures value { result ≡ surrender_count (frame (terms_in c)) table.now }
+    ensures count { result ≡ surrender_count (frame (terms_in c)) table.now }
     ensures map_after { map.new
         ≡ surrender_map (frame (terms_in c)) table.now ++ drop (map_size (frame (terms_in c))) map.old }
 {

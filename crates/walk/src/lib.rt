@@ -266,7 +266,7 @@ fn walked(
 
 // Walks a contract along a path, and fills N cash amounts.
 pub fn walk(bytes: &[u8], list: &[u8], table: &[u16], path: &[u16], cash: &mut [u64]) -> Outcome
-    ensures value { result
+    ensures outcome { result
         ≡ outcome_of (verdict (walk_checks (living_policy bytes.now list.now) table.now path.now
         cash.old)) }
     ensures cash_after { cash.new

@@ -1,0 +1,13 @@
+-- `gmwbbench::gmwb_value_no_table` meets its contract. Assumes nothing.
+use borrow.Author.Rules.{rules}
+use mathlib.Core.Path.{ap}
+use Rattle.valuing.specs.declared.Answer.{Answer}
+use Rattle.gmwbbench.proofs.gmwb_value_no_table.Goals as goal
+
+pub returns : goal.returns
+returns c =
+    let done = c.value_no_table-answer.ensures in record {
+      number_is = ap (λ (x : Answer). x.number) done.answer-is;
+      value_is = ap (λ (x : Answer). x.value) done.answer-is;
+      work_is = done.work-is;
+    }

@@ -1,0 +1,19 @@
+// The call for the benchmark: a valuation with no table. It is no part of the library for C hosts.
+ghost use Rattle.gmwbbench.specs.Told.{NoTableTold};
+
+#[unsafe(no_mangle)]
+pub extern "C" fn gmwb_value_no_table(
+    bytes: &[u8],
+    list: &[u8],
+    rates: &[u8],
+    behaviour: u64,
+    work: &mut [u64],
+    value: &mut u64,
+) -> u32
+    ensures { NoTableTold (record { bytes = bytes.entry.now; list = list.now; rates = rates.now }) behaviour
+        work.old result value.new work.new }
+{
+    let answer = valuing::value_no_table(bytes, list, rates, behaviour as usize, work);
+    *value = answer.value;
+    answer.number
+}
