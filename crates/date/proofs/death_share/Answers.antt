@@ -1,28 +1,20 @@
--- `date::death_share` meets its contract. Assumes nothing.
-use Prim.Native.Nat.{◌-◌, ◌*◌, ◌≤◌}
-use borrow.Author.Rules.{rules}
-use mathlib.Core.Path.{refl}
-use native.Mathlib.Nat.{mul-le-mul_left}
-use native.Mathlib.Omega.{arith}
+-- `date::death_share` meets its contract: the share of those who live and that of those who die. Assumes nothing.
+use Rattle.std.proofs.Common.{◌-◌, refl, arith}
+use Rattle.std.proofs.Math.Nat.{mul-le-mul_left}
 use Rattle.rules.specs.Date.{death_share}
 use Rattle.date.proofs.death_share.Goals as goal
 
--- the two parts
-lived : (c : tie.Start) → (10000 - c.args.rate) * c.args.value ≤ (10000 - c.args.rate) * 4294967295
-lived c = mul-le-mul_left (10000 - c.args.rate) c.requires.1
-
-paid : (c : tie.Start) → c.args.rate * c.args.payment ≤ c.args.rate * 4294967295
-paid c = mul-le-mul_left c.args.rate c.requires.2
-
 pub overflow_mul-result : goal.overflow_mul-result
-overflow_mul-result c = omega (arith, lived c)
+overflow_mul-result c = omega (arith, mul-le-mul_left (10000 - c.args.rate) c.requires.1)
 
 pub overflow_mul-result-2 : goal.overflow_mul-result-2
-overflow_mul-result-2 c = omega (arith, paid c)
+overflow_mul-result-2 c = omega (arith, mul-le-mul_left c.args.rate c.requires.2)
 
 pub overflow_add-result : goal.overflow_add-result
-overflow_add-result c = omega (arith, lived c, paid c)
+overflow_add-result c =
+    omega (arith, mul-le-mul_left (10000 - c.args.rate) c.requires.1, mul-le-mul_left c.args.rate c.requires.2)
 
 pub returns : goal.returns
 unfolding death_share
-returns c = (refl, omega (arith, lived c, paid c))
+returns c =
+    (refl, omega (arith, mul-le-mul_left (10000 - c.args.rate) c.requires.1, mul-le-mul_left c.args.rate c.requires.2))
