@@ -24,7 +24,7 @@ returns-in_default c =
     let a₀ = args.a in
     let t₀ = args.t in
     let read = c.read-reading in
-    let told = c.enum_told-1.given.1 in
+    let told = c.in_default.is in
     let refusal = read_refused bytes₀ _ (sym read.ensures ∙ ap reading_tells told) in
     let whole =
     booking_verdict bytes₀ date₀ w₀ a₀ t₀ buffer₀
@@ -35,7 +35,7 @@ returns-in_default c =
 
 pub booked-requires : goal.booked-requires
 booked-requires c = (read_accepted c.args.bytes.now _
-    (sym c.read-reading.ensures ∙ ap reading_tells c.reading-1.given.1)).valid
+    (sym c.read-reading.ensures ∙ ap reading_tells c.in-Accepted.is)).valid
 
 pub returns : goal.returns
 unfolding booking_buffer
@@ -48,10 +48,9 @@ returns c =
     let a₀ = args.a in
     let t₀ = args.t in
     let read = c.read-reading in
-    let reading = c.reading-1 in
     let booked = c.booked in
     let x = args in
-    let known = read_accepted x.bytes.now _ (sym read.ensures ∙ ap reading_tells reading.given.1) in
+    let known = read_accepted x.bytes.now _ (sym read.ensures ∙ ap reading_tells c.in-Accepted.is) in
     let whole =
     booking_verdict bytes₀ date₀ w₀ a₀ t₀ buffer₀
     ∙ ap (λ (v : Verdict). and_then v (verdict (amount_checks (terms_of bytes₀) date₀ w₀ a₀ t₀ buffer₀))) known.accepts in
@@ -59,7 +58,7 @@ returns c =
     let same = ap (λ (c : Terms). verdict (amount_checks c x.date x.w x.a x.t x.buffer.now)) terms ∙ sym whole in
     let bytes = ap (λ (c : Terms). booking_bytes c x.date x.w x.a x.t) terms in
     let told = booked.ensures in (
-      told.outcome-is ∙ ap outcome_of same,
-      told.buffer-is
+      told.outcome_is ∙ ap outcome_of same,
+      told.buffer_is
           ∙ ap₂ (λ (v : Verdict) (new : List ℕ). on_success v new x.buffer.now) same bytes,
     )
