@@ -1,6 +1,5 @@
 -- `booking::book` meets its contract. Assumes nothing.
 use Prim.Native.Nat.{ℕ}
-use borrow.Author.Rules.{rules}
 use mathlib.Core.List.{List}
 use mathlib.Core.Path.{ap, ap₂, sym, ◌∙◌}
 use Rattle.contract.specs.Accepted.{read_accepted, read_refused}
