@@ -1,12 +1,10 @@
 -- `sizes::needed` meets its contract. Assumes nothing.
-use borrow.Author.Rules.{rules}
 use mathlib.Core.Path.{ap, sym, ◌∙◌}
 use Prim.Native.Nat.{◌*◌}
 use Rattle.contract.specs.Accepted.{read_accepted, read_refused}
 use Rattle.contract.specs.Reading.{reading_tells, outcome_in}
 use Rattle.contract.specs.declared.Reading.{Reading}
 use Rattle.sizes.specs.Sizes.{sizes_in, sizes_refused, sizes_accepted}
-use Rattle.sizes.specs.declared.Sizes as declared
 use Rattle.sizes.proofs.needed.Goals as goal
 
 pub returns-in_default : goal.returns-in_default

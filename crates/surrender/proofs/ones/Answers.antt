@@ -1,8 +1,5 @@
 -- `surrender::ones` meets its contract. Assumes nothing.
-use mathlib.Core.Path.{◌≡◌}
 use native.Mathlib.Omega.{arith}
-use lib.Count as Count
-use Rattle.decision.specs.Bits.{ones}
 use Rattle.surrender.proofs.Bits.{ones_le, ones_same}
 use Rattle.surrender.proofs.ones.Goals as goal
 
