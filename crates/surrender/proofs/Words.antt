@@ -184,4 +184,5 @@ module _ {c : Terms} {table map map' : List ℕ} {at : State} {count j : ℕ} (d
     pub filled_map : map_size (frame c) ≤ length map → map' ≡ surrender_map (frame c) table ++ drop (map_size (frame c)) map
     unfolding surrender_map map_size words_of entries table_size fixed_term process_of layout_of
     filled_map room =
-        d.map_is ∙ ap (stored map 0 (word_of (surrendered (frame c) table) (table_size c))) all ∙ stored_front map _ (map_size (frame c)) room
+        d.map_is ∙ ap (stored map 0 (word_of (surrendered (frame c) table) (table_size c))) all
+        ∙ stored_front map _ (map_size (frame c)) room
