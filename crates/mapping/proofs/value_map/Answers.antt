@@ -50,4 +50,4 @@ unfolding short
 returns c =
     let told = agreed _ _ _ _ _ (sym c.check-agreement.ensures ∙ ap agreement_tells c.in-Accepted.is) in
     let fill = c.fill-count.ensures in
-    filled_whole _ _ _ _ _ told (le-ltb _ _ (rw c.map_size.ensures at c.if-map-map_size.false)) c.valued-answer.ensures fill.0 fill.1
+    filled_whole _ _ _ _ _ told (le-ltb _ _ (rw c.map_size.ensures at c.if-map-map_size.false)) c.valued-answer.ensures fill.count fill.map_after
