@@ -6,7 +6,7 @@ use Rattle.slices.specs.Rows.{cells}
 use Rattle.rules.specs.Contract.{Terms, Returns, returns_of, rate_most, discount_most, weight_total, weight_most, returns_most}
 use Rattle.rules.specs.Date.{next_account, excess_paid, death_payment, death_share, discounted}
 use Rattle.rules.specs.FixedTerm.{mean_by_list, mean_by_account, layer_size}
-use Rattle.rules.specs.ByList.{by_account_is_by_list}
+use Rattle.rules.proofs.ByList.{by_account_is_by_list}
 use Rattle.laws.specs.Accepted.{Valid, ValidReturns}
 use Rattle.laws.specs.Date.{account_le, excess_paid_le, shared}
 use Rattle.laws.specs.ByList.{mean_by_account_same}

@@ -1,34 +1,50 @@
 // Reads terms.bin and returns.bin in the folder it runs in, and prints the contract's three values and its amounts at date 1.
 #![tactic(auto)]
 
-ghost use Rattle.io.specs.Counts.{IsPrefixLen};
+ghost use Rattle.std.specs.Prelude.{◌≡◌, ◌≤◌, length, take, IfOk};
 
-use libc::STDOUT_FILENO;
+use std::fs::File;
+use std::io::{Read, Write};
+use std::{fs, io};
 
-// The start of a file, longer than any record or list that is accepted. A file that is missing, can't be opened or can't be read to
-// its end is empty: what is valued is a whole file. Behind the last byte one more read answers 0, and anything else where one failed.
-fn read(name: &[u8], bytes: &mut [u8; 512]) -> usize
-    ensures { IsPrefixLen result bytes.new }
+// Fills a buffer from a file, as far as the file goes.
+fn fill(file: &mut File, bytes: &mut [u8]) -> io::Result<usize>
+    ensures { IfOk result (λ n. n ≤ length bytes.new) }
 {
-    let fd = os::open_read(name);
-    if fd < 0 {
-        return 0;
+    let mut n = 0;
+    while n < bytes.len() {
+        let more = file.read(&mut bytes[n..])?;
+        if more == 0 {
+            return Ok(n);
+        }
+        n += more;
     }
-    let n = io::read_full(fd, bytes);
-    let mut behind = [0u8; 1];
-    let more = libc::read(fd, &mut behind);
-    libc::close(fd);
-    if n < bytes.len() && more != 0 {
-        return 0;
-    }
-    n
+    Ok(n)
 }
 
-fn main() {
+fn start(rt: &HostRuntime, name: &str, bytes: &mut [u8]) -> io::Result<usize>
+    ensures { IfOk result (λ n. n ≤ length bytes.new) }
+{
+    let mut file = fs::open(rt, name)?;
+    fill(&mut file, bytes)
+}
+
+// The start of a file, longer than any record or list that is accepted. A file that is missing, can't be opened or can't be read to
+// its end is empty: what is valued is a whole file.
+fn read(rt: &HostRuntime, name: &str, bytes: &mut [u8; 512]) -> usize
+    ensures { (result ≤ length bytes.new) × (result ≡ length (take result bytes.new)) }
+{
+    match start(rt, name, bytes) {
+        Ok(n) => n,
+        Err(_) => 0,
+    }
+}
+
+fn main(rt: HostRuntime) -> io::Result<()> {
     let mut terms = [0u8; 512];
-    let terms_length = read(b"terms.bin", &mut terms);
+    let terms_length = read(&rt, "terms.bin", &mut terms);
     let mut returns = [0u8; 512];
-    let returns_length = read(b"returns.bin", &mut returns);
+    let returns_length = read(&rt, "returns.bin", &mut returns);
     let mut work: [u64; 4096] = [0; 4096];
     let mut statics: [u16; 16384] = [0; 16384];
     let mut mixeds: [u16; 16384] = [0; 16384];
@@ -43,5 +59,6 @@ fn main() {
         &mut dynamics,
         &mut text,
     );
-    io::write_all(STDOUT_FILENO, &text[..n]);
+    let mut out = rt.stdout();
+    out.write_all(&text[..n])
 }

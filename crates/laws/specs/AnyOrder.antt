@@ -13,7 +13,7 @@ use Rattle.rules.specs.Contract.{Terms, Returns, Rates, factor_most, weight_most
 use Rattle.rules.specs.Date.{Behaviour, next_account, excess, discounted}
 use Rattle.rules.specs.Product.{state_value, recorded_amount, contract_value, supplied_value}
 use Rattle.rules.specs.FixedTerm.{State, Held, admissible_in, mean_by_account, value_with, held_by_account, process_of, layout_of, fixed_term}
-use Rattle.rules.specs.ByList.{by_account_is_by_list}
+use Rattle.rules.proofs.ByList.{by_account_is_by_list}
 use Rattle.rules.specs.Fee.{fee_sought}
 use Rattle.laws.specs.Terms.{with_fee}
 use Rattle.laws.specs.Fee.{smallest_fee}

@@ -11,7 +11,7 @@ use Rattle.rules.specs.Date.{Behaviour, dynamic, lifted_account, next_account, e
 use Rattle.rules.specs.Product.{state_value, recorded_amount, contract_value}
 use Rattle.rules.specs.FixedTerm.{State, Held, InRange, free_in, admissible_in, rate_in, cash_in, after_in, reach_by, paid_by, death_by}
 use Rattle.rules.specs.FixedTerm.{mean_by_list, held_by_list, held_by_account, process_of, fixed_term}
-use Rattle.rules.specs.ByList.{mean_by_list_lem}
+use Rattle.rules.proofs.ByList.{mean_by_list_lem}
 use Rattle.laws.specs.Accepted.{Valid, ValidReturns, ValidInput}
 use Rattle.laws.specs.Date.{admits_within, amount_most_lem, excess_paid_le, period_le, share_le, death_le}
 use Rattle.laws.specs.FixedTerm.{opened, closed}

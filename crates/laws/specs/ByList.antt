@@ -9,7 +9,8 @@ use Rattle.rules.specs.Date.{Behaviour, discounted}
 use Rattle.rules.specs.Product.{Product, state_value, recorded_amount, contract_value, value_layer, amount_layers, supplied_value}
 use Rattle.rules.specs.Product.{supplied_layer}
 use Rattle.rules.specs.FixedTerm.{State, Held, weight_to, excess_most, by_account, mean_by_account, fixed_term}
-use Rattle.rules.specs.ByList.{listed_contract, listed_term}
+use Rattle.rules.specs.ByList.{listed_term}
+use Rattle.rules.proofs.ByList.{listed_contract}
 use Rattle.rules.specs.Fee.{fee_sought}
 use Rattle.laws.specs.Terms.{with_fee}
 use Rattle.laws.specs.Fee.{smallest_fee}

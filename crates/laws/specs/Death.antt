@@ -8,7 +8,7 @@ use Rattle.rules.specs.Date.{Behaviour, death_payment, death_share}
 use Rattle.rules.specs.Product.{Product, state_value, contract_value, value_layer, amount_layers, supplied_value, supplied_layer}
 use Rattle.rules.specs.FixedTerm.{State, Held, death_by, mean_by_list, held_by_list, mean_by_account, value_with, held_by_account, process_of}
 use Rattle.rules.specs.FixedTerm.{fixed_term}
-use Rattle.rules.specs.ByList.{mean_by_list_lem}
+use Rattle.rules.proofs.ByList.{mean_by_list_lem}
 use Rattle.rules.specs.Refusals.{verdict, on_success, record_checks}
 use Rattle.rules.specs.Printed.{zero_rate_bytes, program_of}
 use Rattle.laws.specs.Date.{share_living, share_certain}

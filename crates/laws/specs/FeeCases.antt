@@ -11,8 +11,9 @@ use Rattle.rules.specs.Date.{guarantee_after, balance_after, lifted_account, nex
 use Rattle.rules.specs.Date.{death_share, discounted}
 use Rattle.rules.specs.Product.{contract_value}
 use Rattle.rules.specs.FixedTerm.{free_in, admissible_in, cash_in, after_in, reach_by, paid_by, death_by, mean_by_list, held_by_list, process_of}
-use Rattle.rules.specs.ByList.{listed_contract, listed_term}
-use Rattle.rules.specs.Cases.{P, returns_p}
+use Rattle.rules.specs.ByList.{listed_term}
+use Rattle.rules.proofs.ByList.{listed_contract}
+use Rattle.rules.proofs.Cases.{P, returns_p}
 use Rattle.laws.specs.Date.{or_elim}
 use Rattle.laws.specs.Fee.{fee_is, fee_none, fee_value, smallest_fee}
 

@@ -8,7 +8,7 @@ use Rattle.rules.specs.Contract.{Terms, Returns, Rates}
 use Rattle.rules.specs.Date.{Behaviour, largest_amount, discounted}
 use Rattle.rules.specs.FixedTerm.{State, Held, InRange, free_in, admissible_in, after_in, reach_by, death_by, mean_by_list, held_by_list}
 use Rattle.rules.specs.FixedTerm.{process_of, layer_size, layout_of, fixed_term}
-use Rattle.rules.specs.ByList.{mean_by_list_lem}
+use Rattle.rules.proofs.ByList.{mean_by_list_lem}
 use Rattle.laws.specs.Accepted.{Valid}
 use Rattle.laws.specs.Date.{static_mixed, mixed_dynamic, admits_free, admits_within, guarantee_le, account_le, share_mono}
 use Rattle.laws.specs.Demand.{Sound}

@@ -12,5 +12,4 @@ pub mod Map
 pub mod Sizes
 pub mod Fee
 pub mod Printed
-pub mod Cases
 pub mod Facts

@@ -17,7 +17,8 @@ use Rattle.rules.specs.Product.{bad_date, walk_paid, walk_cash_on, walk_cash_las
 use Rattle.rules.specs.FixedTerm.{State, free_in, admissible_in, surrender_in, cash_in, after_in, reach_by, paid_by, death_by, mean_by_list}
 use Rattle.rules.specs.FixedTerm.{held_by_list, weight_to, excess_most, by_account, mean_by_account, value_with, held_by_account, process_of}
 use Rattle.rules.specs.FixedTerm.{layer_size, layout_of, fixed_term}
-use Rattle.rules.specs.ByList.{listed_term, listed_contract}
+use Rattle.rules.specs.ByList.{listed_term}
+use Rattle.rules.proofs.ByList.{listed_contract}
 use Rattle.rules.specs.Refusals.{check_each, Verdict, accepted, refused, verdict, number_of, place_of, on_success, outside, short}
 use Rattle.rules.specs.Refusals.{terms_checks, record_checks, bad_return, list_checks, rates_checks, input_checks}
 use Rattle.rules.specs.Operations.{answer, filled, behaviour_number, behaviour_of, work_size, slices_short, valuing_checks, valued_answer}
