@@ -1,10 +1,7 @@
 -- `further::better_run` meets its contract. Assumes nothing.
-use Prim.Native.Nat.{ℕ, ◌+◌, ◌-◌, ◌≤◌, max}
+use Prim.Native.Nat.{◌+◌, ◌-◌, ◌≤◌, max}
 use lib.ListN.{get_or}
-use mathlib.Core.Path.{◌≡◌, ap, ap₂, ◌∙◌}
-use native.Mathlib.Omega.{arith}
-use Rattle.slices.specs.Stored.{stored}
-use Rattle.further.proofs.Run.{Run, run_none, run_next, run_out, run_before}
+use Rattle.further.proofs.Run.{Run}
 use Rattle.further.proofs.better_run.Given as goal
 
 abbrev pub invariant-loop-i : goal.invariant-loop-i
