@@ -41,7 +41,8 @@ module _ {g : ℕ → ℕ → ℕ} {best best' : List ℕ} {n low k : ℕ} {coun
     inside : (j : ℕ) → low ≤ j → j < low + k → slice_index best' j ≡ f (j - low)
     inside j p l =
         let z : j ≡ low + (j - low) = omega arith in
-        entry j ∙ ap (λ (x : ℕ). slice_index (stored best low f k) x) z ∙ stored_in best low f k (j - low) (omega (arith, h.long)) (omega arith)
+        entry j ∙ ap (λ (x : ℕ). slice_index (stored best low f k) x) z
+        ∙ stored_in best low f k (j - low) (omega (arith, h.long)) (omega arith)
 
     pub offered : Held g best' n count'
     offered = record {
