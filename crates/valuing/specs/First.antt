@@ -1,6 +1,6 @@
 -- What the calls that value share: the first layer as the rules write it, and terms and returns that were read. Assumes nothing.
 use Rattle.std.specs.Prelude.{List, ◌++◌, ◌≡◌, ℕ, ◌+◌, ◌*◌, ◌/◌, ◌%◌, ◌≤◌, ◌<◌, length, drop, replicate}
-use Rattle.std.proofs.Common.{inr, sym, ◌∙◌, le_trans, le_of_eq, div-lt_iff_lt-mul}
+use Rattle.std.proofs.Common.{inr, subst, sym, ◌∙◌, le_trans, le_of_eq, div-lt_iff_lt-mul}
 use Rattle.std.proofs.Math.Path.{ap}
 use Rattle.std.proofs.Math.Nat.{mod-lt, div-add-mod'}
 use native.Mathlib.Omega.{arith}
@@ -103,5 +103,5 @@ unfolding entries table_size fixed_term process_of layout_of
 table_lent x behaviour work table told =
     let both = valuing_no_table (policy_of x) behaviour work table told.accepts in record {
       first = work_lent x behaviour work both.0 told.terms;
-      room_table = rw told.terms both.1;
+      room_table = subst (λ (t : Terms). table_size t ≤ length table) (sym told.terms) both.1;
     }

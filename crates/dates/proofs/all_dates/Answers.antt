@@ -33,7 +33,7 @@ loop-i-preserved c =
     let one-date = c.one_date in (
       omega arith,
       valued_before pre loop.invariant.1 part c.loop-i-test.true loop.invariant.0
-          one-date.new.1.0 one-date.new.1.1.0 one-date.ensures,
+          one-date.new.work one-date.new.table one-date.ensures,
     )
 
 pub shape_of-work : goal.shape_of-work

@@ -18,38 +18,29 @@ pub share_layer-requires : goal.share_layer-requires
 share_layer-requires c = rw c.rate_of.ensures (sharing c.requires)
 
 -- what the shares leave, by the period's rate
-module _ (c : tie.After-share-layer) where
-  abbrev start : tie.Start
-  start = c
-
-  abbrev leaves : ℕ → List ℕ
-  leaves r =
-      let stride = start.args.c.premium + 1 in
-      let work = start.args.work.now in
-      stored work 0 (flat stride (shared r (cells work 0 stride))) ((start.args.c.top + 1) * stride)
-
-  left : c.share_layer.new.0 ≡ leaves (rates_of start.args.rates.now start.args.i)
-  left = c.share_layer.ensures ∙ ap leaves c.rate_of.ensures
+abbrev leaves : List ℕ → (stride n r : ℕ) → List ℕ
+leaves work stride n r = stored work 0 (flat stride (shared r (cells work 0 stride))) (n * stride)
 
 pub expect_layer-requires : goal.expect_layer-requires
 expect_layer-requires c =
-    let start = c in
-    let pre = start.requires in
+    let args = c.args in
+    let left = c.share_layer.ensures ∙ ap (leaves args.work.now (args.c.premium + 1) (args.c.top + 1)) c.rate_of.ensures in
+    let pre = c.requires in
     let given = pre.given in (
       record { valid = given.valid.returns; climbing = given.climbing },
-      shared_values pre _ (left c),
+      shared_values pre _ left,
       omega (arith, pre.before, given.valid.terms.dates),
     )
 
 pub returns : goal.returns
 returns c =
-    let start = c in
-    let args = start.args in
+    let args = c.args in
+    let left = c.share_layer.ensures ∙ ap (leaves args.work.now (args.c.premium + 1) (args.c.top + 1)) c.rate_of.ensures in
     let size = c.layer_size.ensures.0 in
     let rate = c.rate_on.ensures.0 in
     let is : record { base = _; stride = args.c.premium + 1; level = args.c.level; rate = _ } ≡ date_of (terms_in args.c) args.i =
     λ x. record { base = size x; stride = args.c.premium + 1; level = args.c.level; rate = rate x } in (
       is,
       subst (Summed (terms_in args.c) (in_order args.order.now) (rates_of args.rates.now args.i) args.work.now _) (sym is)
-          (summed start.requires _ (left (c)) _ c.expect_layer.ensures),
+          (summed c.requires _ left _ c.expect_layer.ensures),
     )

@@ -1,11 +1,10 @@
 -- `death::share_layer` meets its contract. Assumes nothing.
-use Prim.Native.Nat.{ℕ, ◌-◌, ◌*◌, ◌≤◌}
+use Prim.Native.Nat.{ℕ, ◌*◌}
 use lib.ListN.{length}
-use mathlib.Core.List.{List}
 use mathlib.Core.Path.{◌≡◌, ap, ◌∙◌}
 use native.Mathlib.Omega.{arith}
 use Rattle.laws.specs.Date.{shared}
-use Rattle.slices.specs.Rows.{cells, flat}
+use Rattle.slices.specs.Rows.{cells}
 use Rattle.slices.specs.Stored.{stored, stored_none, length_stored}
 use Rattle.death.proofs.Laws.{row_of, share_step, shared_none}
 use Rattle.death.proofs.share_layer.Goals as goal
@@ -17,7 +16,7 @@ returns-then-rate-eq0 c =
     c.if-rate-eq0.true
 
 pub halves-d-requires : goal.halves-d-requires
-halves-d-requires c = (omega (arith, c.if-rate-eq0.false), c.requires.rate-is)
+halves-d-requires c = (omega (arith, c.if-rate-eq0.false), c.requires.rate_is)
 
 pub loop-w-init : goal.loop-w-init
 loop-w-init c = (omega arith, stored_none _ _ _ _)

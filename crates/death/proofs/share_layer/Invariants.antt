@@ -1,13 +1,9 @@
 -- `death::share_layer` meets its contract. Assumes nothing.
-use Prim.Native.Nat.{ℕ, ◌-◌, ◌*◌, ◌≤◌}
-use lib.ListN.{length}
-use mathlib.Core.List.{List}
-use mathlib.Core.Path.{◌≡◌, ap, ◌∙◌}
-use native.Mathlib.Omega.{arith}
+use Prim.Native.Nat.{◌-◌, ◌*◌, ◌≤◌}
+use mathlib.Core.Path.{◌≡◌}
 use Rattle.laws.specs.Date.{shared}
 use Rattle.slices.specs.Rows.{cells, flat}
-use Rattle.slices.specs.Stored.{stored, stored_none, length_stored}
-use Rattle.death.proofs.Laws.{row_of, share_step, shared_none}
+use Rattle.slices.specs.Stored.{stored}
 use Rattle.death.proofs.share_layer.Given as goal
 
 abbrev pub invariant-loop-w : goal.invariant-loop-w

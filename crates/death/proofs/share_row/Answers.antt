@@ -1,5 +1,4 @@
 -- `death::share_row` meets its contract. Assumes nothing.
-use borrow.Author.Rules.{rules}
 use native.Mathlib.Omega.{arith}
 use Rattle.death.proofs.Laws.{low_run, high_run, two_runs}
 use Rattle.death.proofs.share_row.Goals as goal

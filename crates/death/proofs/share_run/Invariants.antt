@@ -1,12 +1,8 @@
 -- `death::share_run` meets its contract. Assumes nothing.
-use Prim.Native.Nat.{ℕ, ◌+◌, ◌-◌, ◌*◌, ◌/◌, ◌≤◌, ◌<◌}
-use lib.ListN.{length, get_or}
-use mathlib.Core.Path.{◌≡◌, refl, ap, ◌∙◌}
-use native.Mathlib.Nat.{le_trans, le_of_eq, mul-le-mul}
-use native.Mathlib.Omega.{arith}
-use Rattle.slices.specs.Stored.{stored, stored_more, length_stored}
-use Rattle.rules.specs.Contract.{top_most, rate_most}
-use Rattle.death.proofs.Laws.{shared_run, entry_kept}
+use Prim.Native.Nat.{◌-◌, ◌≤◌}
+use mathlib.Core.Path.{◌≡◌}
+use Rattle.slices.specs.Stored.{stored}
+use Rattle.death.proofs.Laws.{shared_run}
 use Rattle.death.proofs.share_run.Given as goal
 
 abbrev pub invariant-loop-j : goal.invariant-loop-j

@@ -1,5 +1,5 @@
 -- `expect::add_all` meets its contract. Assumes nothing.
-use Prim.Native.Nat.{◌+◌, ◌-◌, ◌%◌, ◌≤◌}
+use Prim.Native.Nat.{ℕ, ◌+◌, ◌-◌, ◌%◌, ◌≤◌, ◌<◌}
 use mathlib.Core.Path.{◌≡◌, refl, subst}
 use native.Mathlib.Omega.{arith}
 use Rattle.decision.specs.Index.{sum_append}
@@ -14,28 +14,25 @@ pub loop-k-init : goal.loop-k-init
 loop-k-init c = (c.requires.1.some, refl, c.set_eight.ensures)
 
 -- eight more are left
-left : (c : tie.Then1 invariant-loop decreases-loop)
-    → c.loop-k.k + 8 ≤ c.args.average.count
-left c = omega (arith, c.loop-k-test.true, c.loop-k.invariant.1, c.requires.1.whole)
+left : (k count : ℕ) → k < count → k % 8 ≡ 0 → count % 8 ≡ 0 → k + 8 ≤ count
+left k count l m n = omega arith
 
 pub add_eight-requires : goal.add_eight-requires
 add_eight-requires c =
     let pre = c.requires in
     let loop = c.loop-k in
-    (run_part pre.0 (loop.k + 8) (left c), summed_adding pre.0 loop.invariant.2 pre.3 loop.invariant.0)
+    (run_part pre.0 (loop.k + 8) (left _ _ c.loop-k-test.true loop.invariant.1 pre.1.whole), summed_adding pre.0 loop.invariant.2 pre.3 loop.invariant.0)
 
 pub overflow_add-k : goal.overflow_add-k
-overflow_add-k c = omega (arith, left c, c.requires.0.few)
-
-pub loop-k-smaller : goal.loop-k-smaller
-loop-k-smaller c = omega (arith, left c)
+overflow_add-k c =
+    omega (arith, left _ _ c.loop-k-test.true c.loop-k.invariant.1 c.requires.1.whole, c.requires.0.few)
 
 pub loop-k-preserved : goal.loop-k-preserved
 loop-k-preserved c =
     let loop = c.loop-k in
     let run = c.requires.0 in
     let k = loop.k in (
-      left c,
+      left _ _ c.loop-k-test.true loop.invariant.1 c.requires.1.whole,
       omega (arith, loop.invariant.1),
       summed_more (k + 8) _ loop.invariant.2 c.add_eight.ensures run.short (λ j. sum_append _ k 8),
     )

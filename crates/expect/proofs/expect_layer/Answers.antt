@@ -40,7 +40,7 @@ group-groups-requires c =
       record {
         valid = valid;
         returns = pre.0;
-        balance-is = omega (arith, c.loop-balance-test.true, valid.top);
+        balance_is = omega (arith, c.loop-balance-test.true, valid.top);
         stride_is = omega (arith, valid.premium, valid.top);
       },
       loop.invariant.3,
@@ -61,42 +61,30 @@ overflow_add-to c =
     let r = row_room c.loop-balance.balance start.requires.1.layers (omega (arith, taken)) in
     omega arith
 
--- the balance met
-balance-is : (c : tie.After-group invariant-loop decreases-loop)
-    → let start = c in
-    let loop = c.loop-balance in
-    Balance (terms_in start.args.c) start.args.i (in_order start.args.order.now)
-    loop.work start.args.c.discount c.most_after-most.result loop.balance
-    (start.args.c.premium + 1) ((start.args.c.top + 1) * (start.args.c.premium + 1))
-balance-is c =
-    let pre = c.requires in
-    let loop = c.loop-balance in
-    let most = c.most_after-most.ensures in
-    layer_balance loop.work _ _ loop.balance pre.0.valid pre.1 most loop.invariant.1
-    (omega (arith, c.loop-balance-test.true))
-
 pub expect_row-requires : goal.expect_row-requires
 expect_row-requires c =
-    let grouped = c in
-    (balance_row (balance-is grouped) grouped.group.ensures, grouped.before.before.before.before.loop.invariant.2)
+    let pre = c.requires in
+    let loop = c.loop-balance in
+    let met =
+    layer_balance loop.work _ _ loop.balance pre.0.valid pre.1 c.most_after-most.ensures loop.invariant.1 (omega arith) in
+    (balance_row met c.group-groups.ensures, loop.invariant.2)
 
 pub overflow_step-balance : goal.overflow_step-balance
 overflow_step-balance c =
-    let grouped = c in
-    let start = grouped.before.before.before.before.before.before.before.before.before.before.before in
-    omega (arith, start.requires.1.layers.valid.top)
+    omega (arith, c.requires.1.layers.valid.top)
 
 pub loop-balance-preserved : goal.loop-balance-preserved
 loop-balance-preserved c =
-    let grouped = c in
-    let start = grouped.before.before.before.before.before.before.before.before.before.before.before in
-    let loop = grouped.before.before.before.before.loop in
-    let groups = grouped.group.ensures in
+    let pre = c.requires in
+    let loop = c.loop-balance in
+    let groups = c.group-groups.ensures in
     let row = c.expect_row in
-    let c₀ = start.args.c in
-    let is = balance_cells (balance-is grouped) groups in
+    let c₀ = c.args.c in
+    let met =
+    layer_balance loop.work _ _ loop.balance pre.0.valid pre.1 c.most_after-most.ensures loop.invariant.1 (omega arith) in
+    let is = balance_cells met groups in
     let step =
-    expect_step (terms_in c₀) (in_order start.args.order.now) start.args.work.now
+    expect_step (terms_in c₀) (in_order c.args.order.now) c.args.work.now
     (c₀.premium + 1) ((c₀.top + 1) * (c₀.premium + 1)) refl in (
       omega (arith, c.loop-balance-test.true),
       row.ensures.0 ∙ stored_eq _ _ _ _ _ (λ k l. ap (λ (x : ℕ). 8192 * x) (is k)) ∙ step loop.balance loop.work loop.invariant.1,

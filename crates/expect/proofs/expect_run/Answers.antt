@@ -19,7 +19,7 @@ store_sums-requires c =
     let start = c in
     let pre = start.requires in
     let add-all = c.add_all in (
-      pre.0.discount-is,
+      pre.0.discount_is,
       pre.1,
       omega (arith, pre.0.room),
       pre.0.sums_small,

@@ -1,15 +1,16 @@
 -- `expect::first_reached` meets its contract. Assumes nothing.
-use Prim.Native.Nat.{◌≤◌}
+use Rattle.std.proofs.Common.{ℕ, ◌≤◌, ◌≡◌}
 use borrow.Author.Rules.{rules}
 use native.Mathlib.Nat.{le_trans}
 use native.Mathlib.Omega.{arith}
 use Rattle.laws.specs.Date.{account_le}
+use Rattle.rules.specs.Date.{next_account}
 use Rattle.expect.proofs.Laws.{return_in, factor_in, account_in, value_low, start_is}
 use Rattle.expect.proofs.first_reached.Goals as goal
 
 -- the account that the return leads to
-account : (c : tie.After-next-account) → c.next_account-account.result ≤ c.args.c.top
-account c = rw c.next_account-account.ensures (account_le _ _ _ _)
+account : {x : ℕ} (fee top balance factor : ℕ) → x ≡ next_account fee top balance factor → x ≤ top
+account fee top balance factor e = rw e (account_le _ _ _ _)
 
 pub word-factor-requires : goal.word-factor-requires
 word-factor-requires c = let pre = c.requires in omega (arith, return_in pre.0 _ pre.1)
@@ -23,29 +24,29 @@ excess_paid-paid-requires c =
 
 pub overflow_mul-account : goal.overflow_mul-account
 overflow_mul-account c =
-    let pre = c.requires in omega (arith, account_in pre.0 _ pre.1 _ (account c))
+    let pre = c.requires in omega (arith, account_in pre.0 _ pre.1 _ (account _ _ _ _ c.next_account-account.ensures))
 
 pub overflow_add-account : goal.overflow_add-account
 overflow_add-account c =
-    let pre = c.requires in omega (arith, account_in pre.0 _ pre.1 _ (account (c)))
+    let pre = c.requires in omega (arith, account_in pre.0 _ pre.1 _ (account _ _ _ _ c.next_account-account.ensures))
 
 pub offset_bounds-work-account : goal.offset_bounds-work-account
 offset_bounds-work-account c =
-    let pre = c.requires in omega (arith, account_in pre.0 _ pre.1 _ (account (c)))
+    let pre = c.requires in omega (arith, account_in pre.0 _ pre.1 _ (account _ _ _ _ c.next_account-account.ensures))
 
 pub bounds-work-account : goal.bounds-work-account
 bounds-work-account c =
-    let pre = c.requires in account_in pre.0 _ pre.1 _ (account (c))
+    let pre = c.requires in account_in pre.0 _ pre.1 _ (account _ _ _ _ c.next_account-account.ensures)
 
 pub death_payment-payment-requires : goal.death_payment-payment-requires
 death_payment-payment-requires c =
-    let valid = c.requires.0.first.layers.valid in (le_trans (account (c)) valid.top, le_trans valid.premium valid.top)
+    let valid = c.requires.0.first.layers.valid in (le_trans (account _ _ _ _ c.next_account-account.ensures) valid.top, le_trans valid.premium valid.top)
 
 pub death_share-requires : goal.death_share-requires
 death_share-requires c =
     let pre = c.requires in
-    let low = value_low pre.0 _ pre.1 _ (account (c)) in
-    (pre.0.rate-is, rw c.wide-value.ensures low, omega (arith, c.death_payment-payment.ensures.1))
+    let low = value_low pre.0 _ pre.1 _ (account _ _ _ _ c.next_account-account.ensures) in
+    (pre.0.rate_is, rw c.wide-value.ensures low, omega (arith, c.death_payment-payment.ensures.1))
 
 pub returns : goal.returns
 returns c =

@@ -7,16 +7,15 @@ use native.Mathlib.Omega.{arith}
 use Rattle.expect.proofs.most_after.Goals as goal
 
 -- every decision to come
-small : (c : tie.After-struct-known2) → c.less.result * (20000 * c.args.c.top) ≤ 40 * 80000000
-small c =
-    let valid = c.requires.0 in
-    mul-le-mul {n₂ = 40} {m₂ = 80000000} (omega (arith, c.less.ensures, valid.dates)) (omega (arith, valid.top))
+small : {x top : ℕ} → x ≤ 40 → top ≤ 4000 → x * (20000 * top) ≤ 40 * 80000000
+small h l = mul-le-mul {n₂ = 40} {m₂ = 80000000} h (omega arith)
 
 pub overflow_mul-result-3 : goal.overflow_mul-result-3
-overflow_mul-result-3 c = omega (arith, small c)
+overflow_mul-result-3 c = let valid = c.requires.0 in omega (arith, small {x = c.less.result} (omega (arith, valid.dates)) valid.top)
 
 pub overflow_add-result : goal.overflow_add-result
-overflow_add-result c = omega (arith, small c, c.requires.0.top)
+overflow_add-result c = 
+    let valid = c.requires.0 in omega (arith, small {x = c.less.result} (omega (arith, valid.dates)) valid.top, valid.top)
 
 pub returns : goal.returns
 returns c =

@@ -16,6 +16,12 @@ use Rattle.expect.specs.Expected.{reached_from, expected_listed}
 use Rattle.expect.proofs.Laws.{start_le, return_in, return_number, weight_is, weight_small}
 use Rattle.expect.proofs.start_value.Given as goal
 
+-- what the sum is over
+abbrev pub weighed : List ℕ → List ℕ → ℕ → Terms → ℕ → ℕ
+weighed work list rate c j =
+    (returns_of list).weight j
+    * reached_from c (returns_of list) (shared rate (cells work 0 (c.premium + 1))) c.premium c.premium j
+
 abbrev pub invariant-loop-k : goal.invariant-loop-k
 invariant-loop-k l =
     (l.k ≤ l.k-end) × (l.sum ≡ sum (weighed l.work l.list l.rate (terms_in l.c)) l.k) × (l.sum ≤ l.k * (weight_most * entry_most))

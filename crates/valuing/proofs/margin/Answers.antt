@@ -21,7 +21,7 @@ overflow_sub-result c =
 pub returns : goal.returns
 unfolding margin
 returns c = rw (
-  to_z-of_z (sub-result c),
+  to_z-of_z (overflow_sub-result c),
   to_z_pos w64 {n = c.args.value} (omega arith),
   to_z_pos w64 {n = 10000 * c.args.premium} (omega arith),
   diff c.args.value (10000 * c.args.premium),

@@ -38,14 +38,6 @@ margin-requires c =
     let valid = c.requires.first.layers.valid in
     (c.start_value-value.ensures.1, le_trans valid.premium valid.top)
 
-margin-fits : (c : tie.After-margin) → SFits w64 c.margin.result
-unfolding margin
-margin-fits c =
-    let valid = c.requires.first.layers.valid in
-    rw c.margin.ensures
-    (sfits_of (mag_sub c.start_value-value.result (10000 * c.args.c.premium) (2 ^ 63)
-    (omega (arith, c.start_value-value.ensures.1)) (omega (arith, valid.premium, valid.top))))
-
 pub returns : goal.returns
 returns c =
     let args = c.args in
@@ -58,7 +50,7 @@ returns c =
           expected (terms_in args.c) (returns_of args.list.now) (shared r (cells args.work.now 0 stride)) args.c.premium
           args.c.premium)
           c.rate_of.ensures;
-      margin_is = to_z-of_z (margin-fits c) ∙ c.margin.ensures;
+      margin_is = to_z-of_z {w = w64} (sfits_of c.margin.type_inv) ∙ c.margin.ensures;
       work_is =
           c.clear.ensures
           ∙ ap (λ (n : ℕ). stored args.work.now n (λ (i : ℕ). 0) n) c.layer_size-size.ensures.0;
