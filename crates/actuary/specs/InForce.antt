@@ -10,7 +10,7 @@ use Rattle.std.proofs.Math.Dec.{ltb, eqb→eq, eqb_refl, not_T}
 use borrow.Author.Tests.{le-ltb}
 use Rattle.std.proofs.Math.ListN.{length, drop, length-drop}
 use Rattle.decision.specs.Index.{first, none_found, get_d_drop}
-use Rattle.decision.specs.Later.{Continues, value_later, recorded_later, table_value_later, lookup_later, layers_later}
+use Rattle.decision.proofs.Later.{Continues, value_later, recorded_later, table_value_later, lookup_later, layers_later}
 use Rattle.decision.specs.Process.{table_value}
 use Rattle.decision.specs.Layers.{entry, lookup, layer, layers}
 use Rattle.rules.specs.Contract.{Input, Terms, Returns, Rates, word, record_bytes, terms_of, returns_of, rates_of, rate_bytes, dates_most}

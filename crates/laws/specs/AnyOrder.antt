@@ -7,7 +7,8 @@ use Rattle.std.proofs.Math.Dec.{leb}
 use Rattle.decision.specs.Index.{sum, sum_eq, sum_zeros, sum_ones, sum_term, first_eq}
 use Rattle.decision.specs.Groups.{most, le_most, sum_by_keys}
 use Rattle.decision.specs.Process.{Table, table_value}
-use Rattle.decision.specs.Means.{SameMeans, value_same, recorded_same, start_same, table_same, start_table_same}
+use Rattle.decision.specs.Means.{SameMeans}
+use Rattle.decision.proofs.Means.{value_same, recorded_same, start_same, table_same, start_table_same}
 use Rattle.decision.specs.Layers.{lookup}
 use Rattle.rules.specs.Contract.{Terms, Returns, Rates, factor_most, weight_most, rate_most}
 use Rattle.rules.specs.Date.{Behaviour, next_account, excess, discounted}

@@ -5,7 +5,7 @@ use Rattle.std.proofs.Math.Path.{ap}
 use Rattle.std.proofs.Common.{sym, ◌∙◌, subst, le_of_eq, sub-le}
 use Rattle.std.proofs.Math.Nat.{le_refl, le_trans}
 use Rattle.std.proofs.Math.Dec.{T}
-use Rattle.decision.specs.Units.{Matched, value_less, start_less}
+use Rattle.decision.proofs.Units.{Matched, value_less, start_less}
 use Rattle.rules.specs.Contract.{Terms, Returns, Rates, rate_most}
 use Rattle.rules.specs.Date.{Behaviour, static, mixed, dynamic, free_amount, admits, rate_on, cash, guarantee_after}
 use Rattle.rules.specs.Product.{state_value, contract_value}

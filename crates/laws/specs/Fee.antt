@@ -6,7 +6,7 @@ use Rattle.std.proofs.Math.Nat.{le_trans}
 use native.Mathlib.Omega.{arith}
 use Rattle.std.proofs.Math.Dec.{leb→le, le→leb, nleb→lt, not_T}
 use Rattle.decision.specs.Index.{first, first_is, is_first, none_found, false_is}
-use Rattle.decision.specs.Compare.{Matched, value_less, start_less}
+use Rattle.decision.proofs.Compare.{Matched, value_less, start_less}
 use Rattle.decision.specs.Bisection.{Lasting}
 use Rattle.rules.specs.Contract.{Terms, Returns, Rates, rate_most}
 use Rattle.rules.specs.Date.{Behaviour, static, mixed, dynamic, free_amount, admits, rate_on, cash, guarantee_after}

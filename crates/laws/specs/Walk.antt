@@ -9,7 +9,7 @@ use Rattle.std.proofs.Math.Dec.{T, ltb, eqb→eq, eqb_refl, nltb→le}
 use Rattle.decision.specs.Index.{sum, first, all_fail}
 use Rattle.decision.specs.Process.{met, start_met}
 use Rattle.decision.specs.Layers.{lookup}
-use Rattle.decision.specs.Optimal.{Steps, start_met_steps}
+use Rattle.decision.proofs.Optimal.{Steps, start_met_steps}
 use Rattle.rules.specs.Contract.{Terms, Returns, zero_rates, terms_of, returns_of, factor_most}
 use Rattle.rules.specs.Date.{dynamic, free_amount, balance_after}
 use Rattle.rules.specs.Product.{Product, entries, bad_date, walk_state, walk_amount, walk_held, walk_paid}

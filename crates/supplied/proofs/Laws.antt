@@ -11,7 +11,7 @@ use lib.ListN.{length, get_or, drop, replicate}
 use borrow.Rule.Slice.PartMut.{mid_of}
 use Rattle.decision.specs.Index.{first}
 use Rattle.decision.specs.Process.{worth, table_value, start_table_value}
-use Rattle.decision.specs.Optimal.{table_step, table_last}
+use Rattle.decision.proofs.Optimal.{table_step, table_last}
 use Rattle.decision.specs.Layers.{low_digit, lookup, layer}
 use Rattle.slices.specs.Parts.{part_at}
 use Rattle.slices.specs.Stored.{stored, length_stored, stored_out}

@@ -8,7 +8,8 @@ use native.Mathlib.Omega.{arith}
 use lib.ListN.{length, set, drop}
 use borrow.Rule.Slice.PartMut.{mid_of, mid_len}
 use Rattle.decision.specs.Index.{sum, sum_next}
-use Rattle.decision.specs.Bits.{from_bits, words_for, bits_in, word_of, words_of, ones, bits_lt, bits_append, words_count}
+use Rattle.decision.specs.Bits.{from_bits, words_for, bits_in, word_of, words_of, ones}
+use Rattle.decision.proofs.Bits.{bits_lt, bits_append, words_count}
 use Rattle.slices.specs.Stored.{stored, stored_push, stored_front}
 use Rattle.rules.specs.Contract.{Terms}
 use Rattle.rules.specs.FixedTerm.{layer_size, fixed_term, process_of, layout_of}
