@@ -26,7 +26,8 @@ use Rattle.laws.specs.Supplied.{all_admitted, table_checked, supplied_refused, s
 use Rattle.laws.specs.Date.{dynamic_is, shared}
 use Rattle.laws.specs.Accepted.{Valid, ValidInput}
 use Rattle.laws.specs.Bounds.{table_value_le, state_most, entry_most}
-use Rattle.laws.specs.AnyOrder.{Reordered, any_order_table}
+use Rattle.laws.specs.AnyOrder.{Reordered}
+use Rattle.laws.proofs.AnyOrder.{any_order_table}
 use Rattle.input.specs.Accepted.{Given}
 use Rattle.returns.specs.Sorted.{Sorted, ordered_input}
 use Rattle.expect.specs.Expected.{expected, shared_same}
