@@ -2,9 +2,11 @@
 // and the answers expected of it are the second program's. It is no part of the product, so its contracts are modest.
 #![tactic(auto)]
 
-ghost use Rattle.std.specs.Prelude.{◌≡◌, ◌≤◌, length};
+ghost use Rattle.std.specs.Prelude.{◌≡◌, ◌≤◌, length, IfOk};
 
-use libc::STDOUT_FILENO;
+use std::fs::File;
+use std::io::{Read, Stdout, Write};
+use std::{fs, io};
 
 const NEW_LINE: u8 = b'\n';
 // More pieces of a file than a script has.
@@ -18,32 +20,44 @@ struct Left {
 }
 
 // Prints the answer to a line, and tells how many entries the last table has.
-fn tell(line: &[u8], held: usize, work: &mut [u64], table: &mut [u16]) -> usize
+fn tell(
+    out: &mut Stdout,
+    line: &[u8],
+    held: usize,
+    work: &mut [u64],
+    table: &mut [u16],
+) -> io::Result<usize>
     requires { held ≤ length table.old }
-    ensures { result ≤ length table.old }
+    ensures { IfOk result (λ last. last ≤ length table.old) }
 {
-    let mut out = [0u8; 160];
-    let done = script::answer(line, held, work, table, &mut out);
+    let mut text = [0u8; 160];
+    let done = script::answer(line, held, work, table, &mut text);
     let n = done.text;
-    io::write_all(STDOUT_FILENO, &out[0..n]);
-    done.table
+    out.write_all(&text[0..n])?;
+    Ok(done.table)
 }
 
 // Answers the lines that are whole.
-fn lines(text: &[u8], held: usize, work: &mut [u64], table: &mut [u16]) -> Left
+fn lines(
+    out: &mut Stdout,
+    text: &[u8],
+    held: usize,
+    work: &mut [u64],
+    table: &mut [u16],
+) -> io::Result<Left>
     requires { held ≤ length table.old }
-    ensures { (result.at ≤ length text.now) × (result.table ≤ length table.old) }
+    ensures { IfOk result (λ left. (left.at ≤ length text.now) × (left.table ≤ length table.old)) }
 {
     let n = text.len();
     let mut at = 0;
     let mut last = held;
     let mut end = script::find(text, 0, NEW_LINE);
     while end < n {
-        last = tell(&text[at..end], last, work, table);
+        last = tell(out, &text[at..end], last, work, table)?;
         at = end + 1;
         end = script::find(text, at, NEW_LINE);
     }
-    Left { at, table: last }
+    Ok(Left { at, table: last })
 }
 
 // Moves what is left of a text to its start.
@@ -58,37 +72,58 @@ fn moved(text: &mut [u8], at: usize, n: usize) -> usize
     left
 }
 
-// Reads on behind the `held` bytes of a line that is not whole; how many bytes there are now.
-fn more(fd: i32, text: &mut [u8], held: usize) -> usize
-    requires { held ≤ length text.old }
-    ensures { (held ≤ result) × (result ≤ length text.old) }
+// Fills a buffer from a file, as far as the file goes.
+fn fill(file: &mut File, bytes: &mut [u8]) -> io::Result<usize>
+    ensures { IfOk result (λ n. n ≤ length bytes.new) }
 {
-    let n = io::read_full(fd, &mut text[held..]);
-    held + n
+    let mut n = 0;
+    while n < bytes.len() {
+        let more = file.read(&mut bytes[n..])?;
+        if more == 0 {
+            return Ok(n);
+        }
+        n += more;
+    }
+    Ok(n)
 }
 
-fn run(fd: i32, text: &mut [u8], work: &mut [u64], table: &mut [u16]) {
+// Reads on behind the `held` bytes of a line that is not whole; how many bytes there are now.
+fn more(file: &mut File, text: &mut [u8], held: usize) -> io::Result<usize>
+    requires { held ≤ length text.old }
+    ensures { IfOk result (λ n. (held ≤ n) × (n ≤ length text.old)) }
+{
+    let n = fill(file, &mut text[held..])?;
+    Ok(held + n)
+}
+
+fn run(
+    file: &mut File,
+    out: &mut Stdout,
+    text: &mut [u8],
+    work: &mut [u64],
+    table: &mut [u16],
+) -> io::Result<()> {
     let mut held = 0;
     let mut last = 0;
     for piece in 0..PIECES {
-        let n = more(fd, text, held);
+        let n = more(file, text, held)?;
         if n == held {
-            return;
+            return Ok(());
         }
-        let left = lines(&text[0..n], last, work, table);
+        let left = lines(out, &text[0..n], last, work, table)?;
         last = left.table;
         held = moved(text, left.at, n);
     }
+    Ok(())
 }
 
-fn main() {
-    let fd = os::open_read(b"script.txt");
-    if fd < 0 {
-        return;
-    }
+fn main(rt: HostRuntime) -> io::Result<()> {
+    let Ok(mut file) = fs::open(&rt, "script.txt") else {
+        return Ok(());
+    };
+    let mut out = rt.stdout();
     let mut text = [0u8; 65536];
     let mut work: [u64; 65536] = [0; 65536];
     let mut table: [u16; 65536] = [0; 65536];
-    run(fd, &mut text, &mut work, &mut table);
-    libc::close(fd);
+    run(&mut file, &mut out, &mut text, &mut work, &mut table)
 }
