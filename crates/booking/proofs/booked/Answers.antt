@@ -42,10 +42,14 @@ rate_on-rate-requires c =
     (v.penalty, v.step, omega (arith, (able _ _ _ _ _ _ c.refused_by-number.ensures c.if-number-ne0.false).date, v.dates))
 
 pub cash-cash-requires : goal.cash-cash-requires
-cash-cash-requires c = (c.rate_on-rate.ensures.1, (bookable_small c.requires (able _ _ _ _ _ _ c.refused_by-number.ensures c.if-number-ne0.false)).2)
+cash-cash-requires c =
+    let yes = able _ _ _ _ _ _ c.refused_by-number.ensures c.if-number-ne0.false in
+    (c.rate_on-rate.ensures.1, (bookable_small c.requires yes).2)
 
 pub penalty-penalty-requires : goal.penalty-penalty-requires
-penalty-penalty-requires c = (c.rate_on-rate.ensures.1, (bookable_small c.requires (able _ _ _ _ _ _ c.refused_by-number.ensures c.if-number-ne0.false)).2)
+penalty-penalty-requires c =
+    let yes = able _ _ _ _ _ _ c.refused_by-number.ensures c.if-number-ne0.false in
+    (c.rate_on-rate.ensures.1, (bookable_small c.requires yes).2)
 
 pub guarantee_after-guarantee-requires : goal.guarantee_after-guarantee-requires
 guarantee_after-guarantee-requires c =
