@@ -1,5 +1,5 @@
 -- Following a supplied table: what the loops hand to each other. Assumes nothing.
-use Rattle.std.specs.Prelude.{List, ◌≡◌, ℕ, ◌+◌, ◌-◌, ◌*◌, ◌≤◌, ◌<◌, T, length, get_or}
+use Rattle.std.specs.Prelude.{List, ◌≡◌, ℕ, ◌+◌, ◌*◌, ◌≤◌, ◌<◌, T, length, get_or}
 use Rattle.decision.specs.Index.{first}
 use Rattle.decision.specs.Process.{table_value}
 use Rattle.decision.specs.Layers.{lookup}

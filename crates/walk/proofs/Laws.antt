@@ -17,7 +17,8 @@ use Rattle.decision.specs.Layers.{lookup}
 use Rattle.rules.specs.Contract.{Terms, top_most, factor_most, terms_of, Returns, returns_of}
 use Rattle.rules.specs.Date.{dynamic, free_amount, admits, balance_after, guarantee_after}
 use Rattle.rules.specs.Product.{walk_state, walk_amount, walk_held, walk_paid, walk_cash_on, walk_cash_last, walk_cash, bad_date}
-use Rattle.rules.specs.FixedTerm.{State, Held, reach_by, paid_by, after_in, cash_in, free_in, admissible_in, process_of, layout_of, fixed_term}
+use Rattle.rules.specs.FixedTerm.{State, Held, reach_by, paid_by, after_in, cash_in, free_in, admissible_in}
+use Rattle.rules.specs.FixedTerm.{process_of, layout_of, fixed_term}
 use Rattle.rules.specs.Refusals.{Verdict, accepted, refused, verdict, number_of, place_of, on_success, record_checks, list_checks}
 use Rattle.rules.specs.Operations.{walk_checks, walk_cashes, Policy, filled}
 use Rattle.laws.specs.Accepted.{Valid, not_not, then_accepted}
@@ -97,7 +98,8 @@ module _ {c : Terms} {rs : Returns} {table path : List ℕ} {i : ℕ} {p : Place
       ≡ not (admits dynamic (free_amount c.level p.guarantee) p.account (walk_amount (living_term c rs) table path i))
   unfolding bad_date fixed_term admissible_in free_in
   bad_is =
-      ap (λ (n : ℕ). not (admissible_in c dynamic (walk_state (living_term c rs) table path n) (walk_amount (living_term c rs) table path n))) up
+      ap (λ (n : ℕ). not (admissible_in c dynamic (walk_state (living_term c rs) table path n)
+      (walk_amount (living_term c rs) table path n))) up
       ∙ ap (λ (s : State). not (admissible_in c dynamic s (walk_amount (living_term c rs) table path i))) m.state
 
   pub cash_is : p.paid + cash_in c i (at p.account p.guarantee) (walk_amount (living_term c rs) table path i)

@@ -1,5 +1,4 @@
 -- `mapping::value_map` meets its contract. Assumes nothing.
-use borrow.Author.Rules.{rules}
 use borrow.Author.Tests.{lt-ltb, le-ltb}
 use mathlib.Core.Path.{sym, ap, ◌∙◌}
 use native.Mathlib.Omega.{arith}
@@ -50,4 +49,5 @@ unfolding short
 returns c =
     let told = agreed _ _ _ _ _ (sym c.check-agreement.ensures ∙ ap agreement_tells c.in-Accepted.is) in
     let fill = c.fill-count.ensures in
-    filled_whole _ _ _ _ _ told (le-ltb _ _ (rw c.map_size.ensures at c.if-map-map_size.false)) c.valued-answer.ensures fill.count fill.map_after
+    filled_whole _ _ _ _ _ told (le-ltb _ _ (rw c.map_size.ensures at c.if-map-map_size.false)) c.valued-answer.ensures
+    fill.count fill.map_after

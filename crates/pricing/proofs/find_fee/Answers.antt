@@ -1,5 +1,4 @@
 -- `pricing::find_fee` meets its contract. Assumes nothing.
-use borrow.Author.Rules.{rules}
 use mathlib.Core.Path.{sym, ap, ◌∙◌}
 use native.Mathlib.Omega.{arith}
 use Rattle.input.specs.Accepted.{agreed, disagreed}

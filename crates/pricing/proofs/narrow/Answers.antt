@@ -1,5 +1,4 @@
 -- `pricing::narrow` meets its contract. Assumes nothing.
-use borrow.Author.Rules.{rules}
 use borrow.Author.Tests.{lt-ltb, le-ltb}
 use Rattle.pricing.proofs.narrow.Goals as goal
 

@@ -1,7 +1,6 @@
 -- `pricing::power_within` meets its contract. Assumes nothing.
 use native.Mathlib.Omega.{arith}
-use Prim.Native.Nat.{◌-◌}
-use Rattle.pricing.proofs.Laws.{Doubled, doubled_one, doubled_more, doubled_done}
+use Rattle.pricing.proofs.Laws.{doubled_one, doubled_more, doubled_done}
 use Rattle.pricing.proofs.power_within.Goals as goal
 
 pub loop-power-init : goal.loop-power-init

@@ -1,7 +1,6 @@
 -- `pricing::power_within` meets its contract. Assumes nothing.
-use native.Mathlib.Omega.{arith}
 use Prim.Native.Nat.{◌-◌}
-use Rattle.pricing.proofs.Laws.{Doubled, doubled_one, doubled_more, doubled_done}
+use Rattle.pricing.proofs.Laws.{Doubled}
 use Rattle.pricing.proofs.power_within.Given as goal
 
 abbrev pub invariant-loop-power : goal.invariant-loop-power

@@ -1,5 +1,4 @@
 -- `pricing::refused` meets its contract. Assumes nothing.
-use borrow.Author.Rules.{rules}
 use mathlib.Core.Path.{ap}
 use Rattle.valuing.specs.declared.Answer.{Answer}
 use Rattle.pricing.proofs.refused.Goals as goal

@@ -1,15 +1,10 @@
 -- `pricing::search` meets its contract. Assumes nothing.
-use borrow.Author.Rules.{rules}
-use mathlib.Core.Path.{ap}
-use native.Mathlib.Omega.{arith}
-use Prim.Native.Nat.{ℕ, ◌-◌}
+use Prim.Native.Nat.{◌-◌}
 use Rattle.contract.specs.Reading.{terms_in}
-use Rattle.decision.specs.Bisection.{halvings, halved}
+use Rattle.decision.specs.Bisection.{halvings}
 use Rattle.rules.specs.Contract.{returns_of, rates_of}
 use Rattle.rules.specs.Operations.{behaviour_of}
-use Rattle.pricing.specs.declared.Priced.{Priced}
 use Rattle.pricing.specs.Priced.{Searching}
-use Rattle.pricing.proofs.Laws.{lent_under_fee, searching_none, searching_more, searching_done, narrowed_less}
 use Rattle.pricing.proofs.search.Given as goal
 
 abbrev pub invariant-loop-s : goal.invariant-loop-s

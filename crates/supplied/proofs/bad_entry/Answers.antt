@@ -1,6 +1,5 @@
 -- `supplied::bad_entry` meets its contract. Assumes nothing.
 use Prim.Native.Nat.{ℕ, ◌+◌, ◌/◌}
-use borrow.Author.Rules.{rules}
 use mathlib.Core.Path.{sym, ap₂, ◌∙◌}
 use Rattle.rules.specs.Date.{dynamic, admits}
 use Rattle.rules.specs.FixedTerm.{admissible_in, layout_of, free_in}

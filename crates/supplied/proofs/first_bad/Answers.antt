@@ -10,7 +10,7 @@ use Rattle.rules.specs.FixedTerm.{layer_size}
 use Rattle.slices.specs.Rows.{rows_step, rows_le}
 use Rattle.laws.specs.FixedTerm.{size_most, table_most_lem}
 use Rattle.supplied.proofs.Laws.{search_fits, search_same}
-use Rattle.laws.specs.Terms.{table_size, bad_in}
+use Rattle.laws.specs.Terms.{table_size}
 use Rattle.supplied.proofs.first_bad.Goals as goal
 
 pub overflow_add-size : goal.overflow_add-size

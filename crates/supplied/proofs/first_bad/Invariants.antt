@@ -1,15 +1,7 @@
 -- `supplied::first_bad` meets its contract. Assumes nothing.
-use Prim.Native.Nat.{◌+◌, ◌-◌, ◌*◌}
-use borrow.Rule.Slice.PartMut.{mid_len}
-use mathlib.Core.Path.{sym, subst}
-use native.Mathlib.Nat.{zero-mul}
-use native.Mathlib.Omega.{arith}
+use Prim.Native.Nat.{◌-◌, ◌*◌}
 use Rattle.contract.specs.Reading.{terms_in}
-use Rattle.decision.specs.Index.{Searched, search_none, search_end, run_hit, run_end}
-use Rattle.rules.specs.FixedTerm.{layer_size}
-use Rattle.slices.specs.Rows.{rows_step, rows_le}
-use Rattle.laws.specs.FixedTerm.{size_most, table_most_lem}
-use Rattle.supplied.proofs.Laws.{search_fits, search_same}
+use Rattle.decision.specs.Index.{Searched}
 use Rattle.laws.specs.Terms.{table_size, bad_in}
 use Rattle.supplied.proofs.first_bad.Given as goal
 

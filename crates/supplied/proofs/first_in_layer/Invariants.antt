@@ -1,10 +1,8 @@
 -- `supplied::first_in_layer` meets its contract. Assumes nothing.
 use Prim.Native.Nat.{ℕ, ◌-◌}
 use lib.ListN.{get_or}
-use mathlib.Core.Path.{sym, ◌∙◌}
-use native.Mathlib.Omega.{arith}
 use Rattle.contract.specs.Reading.{terms_in}
-use Rattle.decision.specs.Index.{Searched, search_none, search_more, search_hit, search_end}
+use Rattle.decision.specs.Index.{Searched}
 use Rattle.laws.specs.Terms.{bad_at}
 use Rattle.supplied.proofs.first_in_layer.Given as goal
 

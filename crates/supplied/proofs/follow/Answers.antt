@@ -1,13 +1,8 @@
 -- `supplied::follow` meets its contract. Assumes nothing.
-use Prim.Native.Nat.{◌+◌}
-use borrow.Author.Rules.{rules}
 use native.Mathlib.Omega.{arith}
-use Rattle.contract.specs.Reading.{terms_in}
 use Rattle.rules.specs.FixedTerm.{layer_size}
-use Rattle.rules.specs.Contract.{returns_of, rates_of}
 use Rattle.returns.specs.Sorted.{part_sorted}
-use Rattle.valuing.specs.First.{First, first_from_lem, settling}
-use Rattle.supplied.specs.Followed.{table_on}
+use Rattle.valuing.specs.First.{first_from_lem, settling}
 use Rattle.supplied.proofs.Laws.{answered_accepted, starting, table_on_most, of_the_list}
 use Rattle.supplied.proofs.follow.Goals as goal
 

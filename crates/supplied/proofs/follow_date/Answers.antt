@@ -1,5 +1,4 @@
 -- `supplied::follow_date` meets its contract. Assumes nothing.
-use borrow.Author.Rules.{rules}
 use Rattle.supplied.proofs.Laws.{following, back}
 use Rattle.supplied.proofs.follow_date.Goals as goal
 

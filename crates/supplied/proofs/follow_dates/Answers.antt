@@ -1,13 +1,6 @@
 -- `supplied::follow_dates` meets its contract. Assumes nothing.
-use Prim.Native.Nat.{suc, ◌<◌}
-use borrow.Author.Rules.{rules}
 use mathlib.Core.Path.{◌≡◌}
 use native.Mathlib.Omega.{arith}
-use Rattle.contract.specs.Reading.{terms_in}
-use Rattle.returns.specs.Sorted.{in_order}
-use Rattle.rules.specs.Contract.{rates_of}
-use Rattle.supplied.specs.Followed.{table_on}
-use Rattle.valuing.specs.First.{First}
 use Rattle.supplied.proofs.Laws.{dating, first_before, first_none}
 use Rattle.supplied.proofs.follow_dates.Goals as goal
 

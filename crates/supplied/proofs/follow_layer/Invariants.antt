@@ -1,12 +1,9 @@
 -- `supplied::follow_layer` meets its contract. Assumes nothing.
-use Prim.Native.Nat.{ℕ, ◌-◌, ◌*◌, ◌≤◌}
-use lib.ListN.{length}
-use mathlib.Core.Path.{◌≡◌, ap, ◌∙◌}
-use native.Mathlib.Omega.{arith}
+use Prim.Native.Nat.{◌-◌, ◌*◌, ◌≤◌}
+use mathlib.Core.Path.{◌≡◌}
 use Rattle.slices.specs.Rows.{flat}
-use Rattle.slices.specs.Stored.{stored, stored_none, length_stored}
+use Rattle.slices.specs.Stored.{stored}
 use Rattle.supplied.specs.Followed.{followed_on}
-use Rattle.supplied.proofs.Laws.{following_on, follow_step}
 use Rattle.supplied.proofs.follow_layer.Given as goal
 
 abbrev pub invariant-loop-w : goal.invariant-loop-w

@@ -1,5 +1,4 @@
 -- `supplied::value` meets its contract. Assumes nothing.
-use borrow.Author.Rules.{rules}
 use mathlib.Core.Path.{sym, ap, ◌∙◌}
 use Rattle.input.specs.Accepted.{given, input_read_lem, input_not_read}
 use Rattle.contract.specs.Reading.{outcome_in}

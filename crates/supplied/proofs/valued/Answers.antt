@@ -1,18 +1,14 @@
 -- `supplied::valued` meets its contract. Assumes nothing.
 use Prim.Native.Nat.{ℕ, ◌+◌, ◌-◌, ◌*◌, ◌≤◌}
-use borrow.Author.Rules.{rules}
 use borrow.Author.Tests.{lt-ltb, le-ltb}
 use lib.Dec.{ltb}
-use lib.ListN.{length}
-use mathlib.Core.Bool.{false, ◌||◌}
-use mathlib.Core.Path.{◌≡◌, ap, sym, ◌∙◌}
+use mathlib.Core.Path.{ap, sym, ◌∙◌}
 use native.Mathlib.Omega.{arith}
 use Rattle.contract.specs.Reading.{terms_in}
 use Rattle.decision.specs.Index.{first}
 use Rattle.laws.specs.Supplied.{lent_room, slices_refused, entry_refused, table_accepted}
 use Rattle.rules.specs.Contract.{returns_of, rates_of}
 use Rattle.rules.specs.FixedTerm.{layer_size}
-use Rattle.rules.specs.Refusals.{short}
 use Rattle.valuing.specs.Answered.{refusal}
 use Rattle.laws.specs.FixedTerm.{size_most, table_most_lem}
 use Rattle.supplied.proofs.Laws.{answered_refused, answered_by}

@@ -1,7 +1,6 @@
 -- `supplied::worth` meets its contract. Assumes nothing.
-use Rattle.std.proofs.Common.{List, ℕ, ◌+◌, ◌/◌, ◌≤◌, ◌≡◌, get_or, arith, ap, ap₂, ◌∙◌}
+use Rattle.std.proofs.Common.{ℕ, ◌+◌, ◌/◌, ◌≤◌, ◌≡◌, get_or, arith, ap, ap₂, ◌∙◌}
 use native.Mathlib.Nat.{le_trans, le_of_eq, sub-le}
-use Rattle.keys.specs.declared.Date.{Date}
 use Rattle.keys.specs.Sums.{sums}
 use Rattle.laws.specs.Date.{guarantee_le}
 use Rattle.rules.specs.Date.{cash, balance_after, guarantee_after}

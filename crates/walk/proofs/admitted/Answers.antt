@@ -1,6 +1,5 @@
 -- `walk::admitted` meets its contract. Assumes nothing.
 use Prim.Native.Nat.{ℕ}
-use borrow.Author.Rules.{rules}
 use mathlib.Core.Path.{ap, ◌∙◌}
 use Rattle.rules.specs.Date.{dynamic, admits}
 use Rattle.walk.proofs.admitted.Goals as goal

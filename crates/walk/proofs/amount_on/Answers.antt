@@ -1,5 +1,4 @@
 -- `walk::amount_on` meets its contract. Assumes nothing.
-use borrow.Author.Rules.{rules}
 use mathlib.Core.Path.{◌∙◌}
 use Rattle.walk.proofs.Laws.{entry_in, amount_is}
 use Rattle.walk.proofs.amount_on.Goals as goal

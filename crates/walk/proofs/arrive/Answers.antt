@@ -1,5 +1,4 @@
 -- `walk::arrive` meets its contract. Assumes nothing.
-use borrow.Author.Rules.{rules}
 use Rattle.walk.proofs.arrive.Goals as goal
 
 pub returns : goal.returns

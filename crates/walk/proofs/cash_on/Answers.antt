@@ -1,6 +1,5 @@
 -- `walk::cash_on` meets its contract. Assumes nothing.
 use Prim.Native.Nat.{ℕ, ◌+◌}
-use borrow.Author.Rules.{rules}
 use mathlib.Core.Path.{ap, ap₂, ◌∙◌}
 use Rattle.rules.specs.Date.{cash}
 use Rattle.rules.specs.FixedTerm.{free_in, cash_in}

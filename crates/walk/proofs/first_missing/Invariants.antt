@@ -1,12 +1,8 @@
 -- `walk::first_missing` meets its contract. Assumes nothing.
 use Prim.Native.Nat.{ℕ, ◌-◌}
-use borrow.Author.Rules.{rules}
-use borrow.Author.Tests.{le-leb, lt-leb}
 use lib.Dec.{leb}
 use lib.ListN.{get_or}
-use mathlib.Core.Path.{sym, ap, ◌∙◌}
-use native.Mathlib.Omega.{arith}
-use Rattle.decision.specs.Index.{Searched, search_none, search_more, search_hit, search_end}
+use Rattle.decision.specs.Index.{Searched}
 use Rattle.walk.proofs.first_missing.Given as goal
 
 abbrev pub invariant-loop-j : goal.invariant-loop-j

@@ -1,5 +1,5 @@
 -- `walk::first_place` meets its contract. Assumes nothing.
-use Rattle.std.proofs.Common.{List, ℕ, ◌*◌, ◌≡◌, get_or, arith, sym, ap, ◌∙◌, subst}
+use Rattle.std.proofs.Common.{List, ℕ, ◌*◌, ◌≡◌, arith, sym, ap, ◌∙◌, subst}
 use native.Mathlib.Nat.{le_trans, le_of_eq}
 use Rattle.contract.specs.Reading.{terms_in}
 use Rattle.rules.specs.Contract.{word, returns_of}

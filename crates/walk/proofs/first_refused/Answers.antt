@@ -1,19 +1,13 @@
 -- `walk::first_refused` meets its contract. Assumes nothing.
-use Prim.Native.Nat.{ℕ, ◌+◌, ◌-◌, ◌≤◌, ◌<◌}
-use borrow.Author.Rules.{rules}
+use Prim.Native.Nat.{ℕ, ◌+◌, ◌-◌}
 use lib.Dec.{T}
 use mathlib.Core.Bool.{not}
 use mathlib.Core.Path.{◌≡◌, ap, sym, ◌∙◌, subst}
 use native.Mathlib.Omega.{arith}
-use Rattle.contract.specs.Reading.{terms_in}
 use Rattle.decision.specs.Index.{Searched, search_none, search_more, search_hit, search_end}
 use Rattle.laws.specs.Date.{dynamic_is}
-use Rattle.rules.specs.Contract.{returns_of}
 use Rattle.rules.specs.Date.{dynamic, free_amount, admits}
-use Rattle.walk.specs.Walked.{Met}
 use Rattle.walk.proofs.Laws.{bad_is, met_up}
-use Rattle.rules.specs.Product.{bad_date}
-use Rattle.laws.specs.Terms.{living_term}
 use Rattle.walk.proofs.first_refused.Goals as goal
 
 pub first_place-place-requires : goal.first_place-place-requires

@@ -1,8 +1,6 @@
 -- `walk::next_place` meets its contract. Assumes nothing.
 use Rattle.std.proofs.Common.{List}
 use Prim.Native.Nat.{ℕ, suc, ◌*◌}
-use borrow.Author.Rules.{rules}
-use lib.ListN.{get_or}
 use mathlib.Core.Path.{◌≡◌, sym, ap, ap₂, ◌∙◌, subst}
 use native.Mathlib.Nat.{le_trans, le_of_eq, sub-le}
 use native.Mathlib.Omega.{arith}

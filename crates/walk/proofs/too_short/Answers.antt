@@ -1,5 +1,4 @@
 -- `walk::too_short` meets its contract. Assumes nothing.
-use borrow.Author.Rules.{rules}
 use borrow.Author.Tests.{lt-ltb, le-ltb}
 use Rattle.rules.specs.Refusals.{short}
 use Rattle.walk.proofs.too_short.Goals as goal

@@ -1,5 +1,4 @@
 -- `walk::walk` meets its contract. Assumes nothing.
-use borrow.Author.Rules.{rules}
 use mathlib.Core.Path.{sym, ap, ◌∙◌}
 use Rattle.input.specs.Accepted.{both_read_lem, disagreed}
 use Rattle.contract.specs.Reading.{outcome_in}
