@@ -1,10 +1,6 @@
 -- `dates::all_dates` meets its contract. Assumes nothing.
-use borrow.Author.Rules.{rules}
-use mathlib.Core.Path.{◌≡◌}
-use native.Mathlib.Omega.{arith}
 use Prim.Native.Nat.{◌<◌}
 use Rattle.contract.specs.Reading.{terms_in}
-use Rattle.dates.proofs.Laws.{dating, valued_before, valued_none}
 use Rattle.dates.specs.Back.{Valued}
 use Rattle.returns.specs.Sorted.{in_order}
 use Rattle.rules.specs.Contract.{rates_of}

@@ -1,11 +1,11 @@
 -- `dates::fill_maturity` meets its contract. Assumes nothing.
-use Prim.Native.Nat.{ℕ, ◌+◌, ◌-◌, ◌*◌, ◌≤◌}
+use Prim.Native.Nat.{ℕ, ◌+◌, ◌*◌}
 use lib.ListN.{length}
 use mathlib.Core.List.{List}
 use mathlib.Core.Path.{◌≡◌, refl, ap, ◌∙◌}
 use native.Mathlib.Omega.{arith}
 use Rattle.rules.specs.Date.{maturity_value}
-use Rattle.slices.specs.Rows.{flat, row_next, rows_le, rows_step}
+use Rattle.slices.specs.Rows.{row_next, rows_le, rows_step}
 use Rattle.slices.specs.Stored.{stored, stored_none, length_stored}
 use Rattle.dates.proofs.fill_maturity.Goals as goal
 

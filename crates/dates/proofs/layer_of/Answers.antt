@@ -1,5 +1,4 @@
 -- `dates::layer_of` meets its contract. Assumes nothing.
-use borrow.Author.Rules.{rules}
 use native.Mathlib.Omega.{arith}
 use Rattle.contract.specs.Reading.{terms_in}
 use Rattle.laws.specs.FixedTerm.{table_most_lem}

@@ -1,9 +1,8 @@
 -- `dates::maturity_row` meets its contract. Assumes nothing.
-use Prim.Native.Nat.{◌+◌, ◌-◌, ◌*◌, ◌≤◌}
+use Prim.Native.Nat.{◌+◌, ◌*◌}
 use lib.ListN.{length, set}
 use mathlib.Core.Path.{◌≡◌, refl, ap, ◌∙◌}
 use native.Mathlib.Omega.{arith}
-use Rattle.rules.specs.Date.{maturity_value}
 use Rattle.slices.specs.Stored.{stored, stored_next, length_stored}
 use Rattle.dates.proofs.maturity_row.Goals as goal
 

@@ -1,6 +1,6 @@
 -- `expect::add_eight` meets its contract. Assumes nothing.
-use Prim.Native.Nat.{ℕ, ◌+◌, ◌-◌, ◌≤◌}
-use lib.ListN.{get_or, set}
+use Prim.Native.Nat.{ℕ, ◌+◌}
+use lib.ListN.{set}
 use mathlib.Core.Path.{◌≡◌, refl, sym, ap₂, ◌∙◌}
 use native.Mathlib.Omega.{arith}
 use Rattle.decision.specs.Index.{sum, sum_append}

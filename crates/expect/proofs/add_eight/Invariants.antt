@@ -1,12 +1,10 @@
 -- `expect::add_eight` meets its contract. Assumes nothing.
-use Prim.Native.Nat.{ℕ, ◌+◌, ◌-◌, ◌≤◌}
-use lib.ListN.{get_or, set}
-use mathlib.Core.Path.{◌≡◌, refl, sym, ap₂, ◌∙◌}
-use native.Mathlib.Omega.{arith}
-use Rattle.decision.specs.Index.{sum, sum_append}
+use Prim.Native.Nat.{◌+◌, ◌-◌, ◌≤◌}
+use lib.ListN.{get_or}
+use mathlib.Core.Path.{◌≡◌}
+use Rattle.decision.specs.Index.{sum}
 use Rattle.expect.specs.Expected.{term}
-use Rattle.slices.specs.Stored.{stored, stored_push}
-use Rattle.expect.proofs.Laws.{kept_yet}
+use Rattle.slices.specs.Stored.{stored}
 use Rattle.expect.proofs.add_eight.Given as goal
 
 abbrev pub invariant-loop-j : goal.invariant-loop-j

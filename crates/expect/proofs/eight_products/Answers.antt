@@ -1,5 +1,4 @@
 -- `expect::eight_products` meets its contract. Assumes nothing.
-use borrow.Author.Rules.{rules}
 use native.Mathlib.Omega.{arith}
 use Rattle.expect.proofs.Laws.{twice_four}
 use Rattle.expect.proofs.eight_products.Goals as goal

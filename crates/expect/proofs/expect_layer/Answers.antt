@@ -1,11 +1,11 @@
 -- `expect::expect_layer` meets its contract. Assumes nothing.
-use Prim.Native.Nat.{ℕ, ◌+◌, ◌*◌, ◌-◌, ◌≤◌}
+use Prim.Native.Nat.{ℕ, ◌+◌, ◌*◌}
 use lib.ListN.{length}
-use mathlib.Core.Path.{◌≡◌, refl, ap, sym, ◌∙◌}
-use native.Mathlib.Nat.{le_trans, le_of_eq}
+use mathlib.Core.Path.{◌≡◌, refl, ap, ◌∙◌}
+use native.Mathlib.Nat.{le_of_eq}
 use native.Mathlib.Omega.{arith}
 use Rattle.contract.specs.Reading.{terms_in}
-use Rattle.expect.specs.Expected.{expected, scaled, Balance}
+use Rattle.expect.specs.Expected.{expected, scaled}
 use Rattle.returns.specs.Sorted.{in_order}
 use Rattle.rules.specs.FixedTerm.{layer_size}
 use Rattle.slices.specs.Rows.{cells, flat}

@@ -1,6 +1,5 @@
 -- `expect::first_reached` meets its contract. Assumes nothing.
 use Rattle.std.proofs.Common.{ℕ, ◌≤◌, ◌≡◌}
-use borrow.Author.Rules.{rules}
 use native.Mathlib.Nat.{le_trans}
 use native.Mathlib.Omega.{arith}
 use Rattle.laws.specs.Date.{account_le}

@@ -1,6 +1,5 @@
 -- `expect::most_after` meets its contract. Assumes nothing.
 use Prim.Native.Nat.{ℕ, ◌+◌, ◌*◌, ◌≤◌}
-use borrow.Author.Rules.{rules}
 use mathlib.Core.Path.{ap}
 use native.Mathlib.Nat.{mul-le-mul}
 use native.Mathlib.Omega.{arith}
@@ -14,7 +13,7 @@ pub overflow_mul-result-3 : goal.overflow_mul-result-3
 overflow_mul-result-3 c = let valid = c.requires.0 in omega (arith, small {x = c.less.result} (omega (arith, valid.dates)) valid.top)
 
 pub overflow_add-result : goal.overflow_add-result
-overflow_add-result c = 
+overflow_add-result c =
     let valid = c.requires.0 in omega (arith, small {x = c.less.result} (omega (arith, valid.dates)) valid.top, valid.top)
 
 pub returns : goal.returns

@@ -1,6 +1,5 @@
 -- `expect::reached` meets its contract. Assumes nothing.
 use native.Mathlib.Omega.{arith}
-use mathlib.Core.Path.{refl}
 use Rattle.expect.proofs.reached.Goals as goal
 
 pub offset_bounds-starts-k : goal.offset_bounds-starts-k

@@ -1,18 +1,17 @@
 -- `expect::start_value` meets its contract. Assumes nothing.
-use Prim.Native.Nat.{ℕ, ◌+◌, ◌*◌, ◌-◌, ◌≤◌, ◌<◌}
-use mathlib.Core.List.{List}
+use Prim.Native.Nat.{◌+◌, ◌*◌, ◌≤◌}
 use mathlib.Core.Path.{◌≡◌, refl, ap, ap₂, sym, ◌∙◌}
 use native.Mathlib.Nat.{le_trans, mul-le-mul, mul-le-mul_right}
 use native.Mathlib.Omega.{arith}
 use Rattle.decision.specs.Index.{sum, sum_next}
 use Rattle.laws.specs.Bounds.{entry_most}
 use Rattle.laws.specs.Date.{shared}
-use Rattle.rules.specs.Contract.{Terms, returns_of, weight_most}
+use Rattle.rules.specs.Contract.{returns_of, weight_most}
 use Rattle.rules.specs.Date.{discounted}
 use Rattle.rules.specs.FixedTerm.{mean_by_list}
 use Rattle.contract.specs.Reading.{terms_in}
 use Rattle.slices.specs.Rows.{cells}
-use Rattle.expect.specs.Expected.{reached_from, expected_listed}
+use Rattle.expect.specs.Expected.{expected_listed}
 use Rattle.expect.proofs.Laws.{start_le, return_in, return_number, weight_is, weight_small}
 use Rattle.expect.proofs.start_value.Goals as goal
 
@@ -39,10 +38,13 @@ pub overflow_mul-sum : goal.overflow_mul-sum
 overflow_mul-sum c = omega (arith, mul-le-mul (weight_small c.requires c.loop-k.k (omega (arith, c.returns_in-k-end.ensures)) c.word-weight.ensures.0) c.first_reached.ensures.1)
 
 pub overflow_add-sum : goal.overflow_add-sum
-overflow_add-sum c = 
+overflow_add-sum c =
     let n = return_number c.requires c.loop-k.k (omega (arith, c.returns_in-k-end.ensures)) in
-    omega (arith, mul-le-mul (weight_small c.requires c.loop-k.k (omega (arith, c.returns_in-k-end.ensures)) c.word-weight.ensures.0) c.first_reached.ensures.1,
-    le_trans c.loop-k.invariant.2 (mul-le-mul_right {n = 63} (weight_most * entry_most) (omega arith)))
+    omega (
+      arith,
+      mul-le-mul (weight_small c.requires c.loop-k.k (omega (arith, c.returns_in-k-end.ensures)) c.word-weight.ensures.0) c.first_reached.ensures.1,
+      le_trans c.loop-k.invariant.2 (mul-le-mul_right {n = 63} (weight_most * entry_most) (omega arith)),
+    )
 
 pub overflow_step-k : goal.overflow_step-k
 overflow_step-k c = omega (arith, return_number c.requires c.loop-k.k (omega (arith, c.returns_in-k-end.ensures)))

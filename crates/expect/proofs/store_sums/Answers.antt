@@ -1,10 +1,9 @@
 -- `expect::store_sums` meets its contract. Assumes nothing.
 use lib.Dec.{T, leb→le}
-use lib.ListN.{length, get_or}
+use lib.ListN.{length}
 use mathlib.Core.Path.{◌≡◌, refl, sym, ap, ◌∙◌, subst}
 use native.Mathlib.Omega.{arith}
-use Prim.Native.Nat.{◌+◌, ◌*◌, ◌-◌, ◌≤◌}
-use Rattle.rules.specs.Date.{discounted}
+use Prim.Native.Nat.{◌+◌, ◌*◌}
 use Rattle.slices.specs.Stored.{stored, length_stored, stored_more}
 use Rattle.expect.proofs.store_sums.Goals as goal
 

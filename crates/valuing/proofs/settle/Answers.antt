@@ -1,20 +1,17 @@
 -- `valuing::settle` meets its contract. Assumes nothing.
-use Prim.Native.Nat.{ℕ, ◌+◌, ◌*◌, ◌^◌}
-use borrow.Author.Rules.{rules, sfits_of}
+use Prim.Native.Nat.{ℕ, ◌+◌}
+use borrow.Author.Rules.{sfits_of}
 use mathlib.Core.Path.{refl, ap, ◌∙◌}
 use mir.Facts.{to_z-of_z}
 use mir.Syntax.{w64}
-use mir.Val.{SFits}
 use native.Mathlib.Nat.{le_trans}
 use native.Mathlib.Omega.{arith}
 use Rattle.contract.specs.Reading.{terms_in}
 use Rattle.laws.specs.Date.{shared}
 use Rattle.expect.specs.Expected.{expected}
 use Rattle.rules.specs.Contract.{returns_of}
-use Rattle.rules.specs.Date.{margin}
 use Rattle.slices.specs.Rows.{cells}
 use Rattle.slices.specs.Stored.{stored}
-use Rattle.valuing.proofs.Laws.{mag_sub}
 use Rattle.valuing.proofs.settle.Goals as goal
 
 pub rate_of-requires : goal.rate_of-requires
