@@ -13,9 +13,11 @@ use Rattle.rules.specs.Operations.{behaviour_of}
 use Rattle.rules.specs.Policy.{policy_of}
 use Rattle.rules.specs.Fee.{under_fee, fee_found}
 use Rattle.laws.specs.Accepted.{input_valid}
-use Rattle.laws.specs.Pricing.{fee_verdict, found_is}
-use Rattle.laws.specs.Compared.{covered_same, in_units, state_in, state_compared, value_compared}
-use Rattle.laws.specs.Fee.{fee_value, meets, smallest_fee, first_to_meet, fee_sought_lem}
+use Rattle.laws.proofs.Pricing.{fee_verdict, found_is}
+use Rattle.laws.specs.Compared.{covered_same, in_units, state_in}
+use Rattle.laws.proofs.Compared.{state_compared, value_compared}
+use Rattle.laws.specs.Fee.{fee_value, meets, smallest_fee, first_to_meet}
+use Rattle.laws.proofs.FeeSought.{fee_sought_lem}
 
 -- the fee sought for k times the value wanted is no smaller, and there is none where there was none
 module _ (c : Terms) (rs : Returns) (ds : Rates) (small : c.penalty ≤ rate_most) {k : ℕ} (some : 0 < k) (b : Behaviour) (wanted : ℕ) where

@@ -1,10 +1,9 @@
 -- A slice of which every entry is stored. Assumes nothing.
-use mathlib.Core.List.{List, [], ◌++◌, append-nil}
+use mathlib.Core.List.{List, ◌++◌, append-nil}
 use mathlib.Core.Path.{◌≡◌, ap, ◌∙◌}
 use Prim.Native.Nat.{ℕ, ◌+◌}
-use native.Mathlib.Nat.{le_of_eq}
 use native.Mathlib.Omega.{arith}
-use lib.ListN.{length, drop, drop_of_length-le}
+use lib.ListN.{length, drop_of_length-le}
 use lib.Seq.{sets, sets-eq}
 
 pub all_stored : (l vs : List ℕ) → length l ≡ length vs → sets l 0 vs ≡ vs

@@ -2,7 +2,7 @@
 use Rattle.std.specs.Prelude.{List, ◌≡◌, ℕ, suc, ◌+◌, ◌-◌, ◌*◌, ◌≤◌, ◌<◌, length, get_or}
 use Rattle.std.proofs.Common.{sym, ◌∙◌}
 use Rattle.decision.specs.Process.{worth, recorded}
-use Rattle.decision.specs.Optimal.{value_step, value_last}
+use Rattle.decision.proofs.Optimal.{value_step, value_last}
 use Rattle.slices.specs.Rows.{cells}
 use Rattle.rules.specs.Contract.{Terms, Returns, Rates, rate_most}
 use Rattle.rules.specs.Date.{Behaviour, maturity_value}

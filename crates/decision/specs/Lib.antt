@@ -4,12 +4,6 @@ pub mod Groups
 pub mod Bits
 pub mod Choice
 pub mod Process
-pub mod Optimal
 pub mod Means
 pub mod Layers
-pub mod Bounds
-pub mod Arrivals
-pub mod Compare
-pub mod Units
-pub mod Later
 pub mod Bisection

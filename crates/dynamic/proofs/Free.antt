@@ -16,7 +16,7 @@ use Rattle.keys.specs.Sums.{Span, Copying, sums, sum_in, sum_small}
 use Rattle.worth.specs.Worth.{key_over}
 use Rattle.worth.specs.Laws.{free_is}
 use Rattle.keys.specs.declared.Block.{Block}
-use Rattle.proportion.specs.Held.{Held, free_of, key_at, key_most, tried_below}
+use Rattle.proportion.specs.Held.{Held, free_of, key_at, tried_below}
 use Rattle.dynamic.specs.Block.{Offering, tried_to}
 use Rattle.proportion.specs.Offers.{offered}
 use Rattle.proportion.specs.Tried.{below_free}

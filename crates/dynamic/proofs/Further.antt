@@ -3,21 +3,20 @@ use mathlib.Core.List.{List}
 use mathlib.Core.Logic.{◌⊎◌, inl, inr}
 use mathlib.Core.Path.{◌≡◌, ap, ap₂, sym, ◌∙◌, subst}
 use Prim.Native.Nat.{ℕ, ◌+◌, ◌-◌, ◌*◌, ◌^◌, ◌≤◌, ◌<◌, min, max}
-use native.Mathlib.Nat.{le_trans, le_of_eq, mul-le-mul, max-eq_left}
-use native.Mathlib.Decide.{dec_le}
+use native.Mathlib.Nat.{mul-le-mul, max-eq_left}
 use native.Mathlib.Omega.{arith}
-use lib.ListN.{length, get_or}
+use lib.ListN.{get_or}
 use Rattle.slices.specs.Stored.{stored}
 use Rattle.slices.specs.Rows.{cells}
 use Rattle.rules.specs.Date.{free_amount}
 use Rattle.keys.specs.declared.Date.{Date}
 use Rattle.keys.specs.Key.{key}
 use Rattle.keys.specs.Most.{most}
-use Rattle.keys.specs.Sums.{Sums, Span, sums, sum_most, row_in, sum_small}
+use Rattle.keys.specs.Sums.{Span, sums, sum_most, row_in, sum_small}
 use Rattle.worth.specs.Further.{further_key, further_small, Furthered}
 use Rattle.worth.specs.Laws.{further_joins}
 use Rattle.keys.specs.declared.Block.{Block}
-use Rattle.proportion.specs.Held.{Held, free_of, key_at, key_most, tried_below}
+use Rattle.proportion.specs.Held.{Held, free_of, key_at, tried_below}
 use Rattle.dynamic.specs.Block.{Offering, Alike}
 use Rattle.proportion.specs.Offers.{offered}
 use Rattle.proportion.specs.Tried.{below_all, below_free, below_same}

@@ -4,7 +4,8 @@ use Rattle.std.proofs.Math.Path.{refl, ap, sym}
 use Rattle.std.proofs.Common.{ap₂, ◌∙◌, subst, le_of_eq, eqb→eq}
 use native.Mathlib.Omega.{arith}
 use Rattle.rules.specs.Contract.{Input, Terms, terms_of, returns_of, rate_bytes, rates_of}
-use Rattle.rules.specs.Refusals.{check_each, Verdict, accepted, refused, verdict, number_of, place_of, record_checks, list_checks, rates_checks}
+use Rattle.rules.specs.Refusals.{check_each, Verdict, accepted, refused, verdict, number_of, place_of}
+use Rattle.rules.specs.Refusals.{record_checks, list_checks, rates_checks}
 use Rattle.rules.specs.Refusals.{input_checks}
 use Rattle.laws.specs.Accepted.{Valid, ValidReturns, ValidInput, AllPass, all_pass, pass_right, not_not, valid_returns, Positive}
 use Rattle.laws.specs.Accepted.{zero_accepts, and_then, verdict_append, then_accepted, then_refused, both_terms, both_returns, input_valid}

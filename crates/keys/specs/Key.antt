@@ -2,7 +2,8 @@
 use Rattle.std.specs.Prelude.{◌≡◌, ℕ, ◌+◌, ◌-◌, ◌*◌, ◌/◌, ◌%◌, ◌<◌, ◌≤◌, Bool, T, ◌⊎◌}
 use Rattle.std.proofs.Common.{inl, inr, ap, ap₂, sym, ◌∙◌, le_trans, le_of_eq, le_antisymm, mul-le-mul_right, arith}
 use Rattle.std.proofs.Math.Decide.{dec_le}
-use Rattle.decision.specs.Choice.{largest, smallest_best, Best, best_is}
+use Rattle.decision.specs.Choice.{largest, smallest_best, Best}
+use Rattle.decision.proofs.Choice.{best_is}
 
 -- no amount is above it
 abbrev pub amount_most : ℕ

@@ -4,8 +4,8 @@ use Rattle.std.proofs.Common.{ap, ◌∙◌, mul-le-mul, mul-le-mul_left, mul-le
 use Rattle.std.proofs.Math.Nat.{le_trans, div-le_of_le-mul, sub-le-sub_left, max-le, min-le_left}
 use Rattle.decision.specs.Index.{weighted_le}
 use Rattle.decision.specs.Process.{reached, Table, table_value, start_table_value, Decides}
-use Rattle.decision.specs.Optimal.{recorded_best}
-use Rattle.decision.specs.Bounds.{value_bounded, start_bounded, table_bounded, start_table_bounded}
+use Rattle.decision.proofs.Optimal.{recorded_best}
+use Rattle.decision.proofs.Bounds.{value_bounded, start_bounded, table_bounded, start_table_bounded}
 use Rattle.rules.specs.Contract.{Terms, Returns, Rates, top_most, dates_most, factor_most, discount_most, weight_total}
 use Rattle.rules.specs.Date.{Behaviour, dynamic, lifted_account, next_account, excess_paid, maturity_value, discounted}
 use Rattle.rules.specs.Product.{state_value, recorded_amount, contract_value}

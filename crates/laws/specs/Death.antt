@@ -96,19 +96,10 @@ program_deathless bytes list =
 
 -- ---- a rate of 10,000 on the first period: the discounted mean of the death payments, whatever is withdrawn later
 module _ (c : Terms) (rs : Returns) (ds : Rates) (sure : ds 0 ≡ 10000) where
-  certain : (value payment : ℕ) → death_share (ds 0) value payment ≡ payment
-  certain value payment = ap (λ (r : ℕ). death_share r value payment) sure ∙ share_certain value payment
-
-  only_death : (v : State → ℕ) → held_by_account c rs ds 0 (start_held c) v ≡ mean_by_list c rs (death_by c rs (start_held c))
+  pub only_death : (v : State → ℕ) → held_by_account c rs ds 0 (start_held c) v ≡ mean_by_list c rs (death_by c rs (start_held c))
   unfolding held_by_list
   only_death v =
-      mean_by_list_lem c rs ds 0 (start_held c) v
-      ∙ (λ j. mean_by_list c rs (λ k. certain (reached (process_of c rs ds) v (start_held c) k) (death_by c rs (start_held c) k) j))
-
-  pub certain_death : (b : Behaviour) → contract_value (fixed_term c rs ds) b ≡ mean_by_list c rs (death_by c rs (start_held c))
-  unfolding contract_value start_value fixed_term process_of
-  certain_death b = only_death _
-
-  pub certain_death_supplied : (table : List ℕ) → supplied_value (fixed_term c rs ds) table ≡ mean_by_list c rs (death_by c rs (start_held c))
-  unfolding supplied_value start_table_value fixed_term process_of
-  certain_death_supplied table = only_death _
+      let h = start_held c in
+      mean_by_list_lem c rs ds 0 h v
+      ∙ (λ j. mean_by_list c rs (λ k.
+      (ap (λ (r : ℕ). death_share r (reached (process_of c rs ds) v h k) (death_by c rs h k)) sure ∙ share_certain _ _) j))

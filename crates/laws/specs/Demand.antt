@@ -2,7 +2,7 @@
 use Rattle.std.specs.Prelude.{List, ◌++◌, ◌≡◌, ℕ, ◌-◌, ◌≤◌, T}
 use Rattle.std.proofs.Common.{arith}
 use Rattle.decision.specs.Process.{Averaging, Open, Closed, Decides, Attained}
-use Rattle.decision.specs.Optimal.{attained, wider, start_wider}
+use Rattle.decision.proofs.Optimal.{attained, wider, start_wider}
 use Rattle.decision.specs.Layers.{Placed, lookup, lookup_layers}
 use Rattle.rules.specs.Date.{Behaviour, static, mixed, dynamic}
 use Rattle.rules.specs.Product.{Product, decisions, state_value, recorded_amount, contract_value, amount_layers, AtMost, ThirdDemand}

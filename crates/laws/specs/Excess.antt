@@ -8,8 +8,9 @@ use Rattle.std.proofs.Math.Nat.{le_refl, le_trans}
 use Rattle.std.proofs.Common.{mul-le-mul_right, sub-le, mod-lt}
 use native.Mathlib.Omega.{arith}
 use Rattle.decision.specs.Index.{tabulate_eq}
-use Rattle.decision.specs.Means.{SameMeans, value_same, recorded_same, start_same, table_same, start_table_same}
-use Rattle.decision.specs.Arrivals.{arriving, Alike, arriving_means, start_met_same}
+use Rattle.decision.specs.Means.{SameMeans}
+use Rattle.decision.proofs.Means.{value_same, recorded_same, start_same, table_same, start_table_same}
+use Rattle.decision.proofs.Arrivals.{arriving, Alike, arriving_means, start_met_same}
 use Rattle.decision.specs.Layers.{lookup, layer, layers}
 use Rattle.rules.specs.Contract.{Terms, Returns, Rates, zero_rates}
 use Rattle.rules.specs.Date.{Behaviour, balance_after, lifted_account, excess, excess_paid}

@@ -6,7 +6,7 @@ use Rattle.std.proofs.Math.Nat.{le_trans}
 use native.Mathlib.Omega.{arith}
 use Rattle.std.proofs.Math.Dec.{leb→le, le→leb, nleb→lt, not_T}
 use Rattle.decision.specs.Index.{first, first_is, is_first, none_found, false_is}
-use Rattle.decision.specs.Compare.{Matched, value_less, start_less}
+use Rattle.decision.proofs.Compare.{Matched, value_less, start_less}
 use Rattle.decision.specs.Bisection.{Lasting}
 use Rattle.rules.specs.Contract.{Terms, Returns, Rates, rate_most}
 use Rattle.rules.specs.Date.{Behaviour, static, mixed, dynamic, free_amount, admits, rate_on, cash, guarantee_after}
@@ -52,151 +52,17 @@ pub record Less (b : Behaviour) (h g : Held) : Type 0 where
   pub balance : h.balance ≤ g.balance
   pub guarantee : Covered b h.guarantee g.guarantee
 
-covered_le : (b : Behaviour) {x y : ℕ} → Covered b x y → x ≤ y
+pub covered_le : (b : Behaviour) {x y : ℕ} → Covered b x y → x ≤ y
 unfolding Covered
 covered_le static e = le_of_eq e
 covered_le mixed e = le_of_eq e
 covered_le dynamic l = l
 
-covered_same : (b : Behaviour) (x : ℕ) → Covered b x x
+pub covered_same : (b : Behaviour) (x : ℕ) → Covered b x x
 unfolding Covered
 covered_same static x = refl
 covered_same mixed x = refl
 covered_same dynamic x = le_refl x
-
-module _ (c : Terms) (rs : Returns) (ds : Rates) (small : c.penalty ≤ rate_most) {low high : ℕ} (fees : low ≤ high) where
-  -- the contract with the larger fee and the one with the smaller fee
-  abbrev dear : Terms
-  dear = with_fee c high
-
-  abbrev cheap : Terms
-  cheap = with_fee c low
-
-  -- ---- what no behaviour changes: arrivals, payments and means
-  module _ (b : Behaviour) where
-    reaches : (h g : Held) (k : ℕ) → Less b h g → Below b (reach_by dear rs h k) (reach_by cheap rs g k)
-    unfolding reach_by
-    reaches h g k l = record { account = account_rises c.top (rs.factor k) fees l.balance; guarantee = l.guarantee }
-
-    pays : (h g : Held) (k : ℕ) → Less b h g → paid_by dear rs h k ≤ paid_by cheap rs g k
-    unfolding paid_by
-    pays h g k l = excess_paid_rises c.top (rs.factor k) fees l.balance
-
-    dies : (h g : Held) (k : ℕ) → Less b h g → death_by dear rs h k ≤ death_by cheap rs g k
-    unfolding death_by reach_by
-    dies h g k l =
-        death_rises (account_rises c.top (rs.factor k) fees l.balance) (covered_le b l.guarantee)
-        (excess_rises c.top (rs.factor k) fees l.balance)
-
-    expects : (i : ℕ) (h g : Held) (v w : ℕ → ℕ) → Less b h g → ((k : ℕ) → v k ≤ w k)
-        → held_by_list dear rs ds i h v ≤ held_by_list cheap rs ds i g w
-    unfolding mean_by_list held_by_list
-    expects i h g v w l m = mean_mono c rs (λ k n. share_mono (ds i) (m k) (dies h g k l))
-
-    starts : Less b (start_held dear) (start_held cheap)
-    starts = record { balance = le_refl _; guarantee = covered_same b c.premium }
-
-    final : (s u : State) → Below b s u → (process_of dear rs ds).final s ≤ (process_of cheap rs ds).final u
-    unfolding process_of
-    final s u l = maturity_rises l.account (covered_le b l.guarantee)
-
-  -- ---- the choices
-  rate_most_lem : (i : ℕ) → rate_in c i ≤ rate_most
-  unfolding rate_on
-  rate_most_lem i = le_trans (sub-le _ _) small
-
-  abbrev Fees : Behaviour → Type 0
-  Fees b =
-      Matched (process_of dear rs ds) (process_of cheap rs ds) (admissible_in dear b) (admissible_in cheap b) (Below b) (Less b)
-
-  dynamic_fees : Fees dynamic
-  unfolding process_of admissible_in free_in cash_in after_in Covered
-  dynamic_fees = record {
-    dates = refl;
-    starts = starts dynamic;
-    final = final dynamic;
-    answer = λ s u t. t;
-    admitted = λ s u t l p. dynamic_rises t (free_rises c.level l.guarantee) l.account p;
-    cash = λ i s u t l p. cash_rises (rate_in c i) t (free_rises c.level l.guarantee);
-    after = λ i s u t l p. record {
-      balance = balance_rises t l.account;
-      guarantee = guarantee_rises c.level t l.guarantee l.account (dynamic_is _ _ t p);
-    };
-    reach = reaches dynamic;
-    paid = pays dynamic;
-    by_list = expects dynamic;
-  }
-
-  -- static and mixed: one guarantee, and an answer that keeps it
-  module _ (b : Behaviour) (same : (x y : ℕ) → Covered b x y → x ≡ y) (cover : (x y : ℕ) → x ≡ y → Covered b x y)
-      (answers : (rate m a t w x : ℕ) → rate ≤ rate_most → w ≤ x → T (admits b m w t) → Answers b rate m w x a t (answered m x t))
-    where
-      abbrev answer_to : State → State → ℕ → ℕ
-      answer_to s u t = answered (free_in c s) u.account t
-
-      -- the answer, from the state with more account
-      moved : (i : ℕ) (s u : State) (t : ℕ) → Below b s u → T (admissible_in dear b s t)
-          → Answers b (rate_in c i) (free_in c u) s.account u.account u.guarantee t (answer_to s u t)
-      unfolding admissible_in free_in
-      moved i s u t l p =
-          subst (λ (a : ℕ). Answers b (rate_in c i) (free_amount c.level a) s.account u.account a t (answer_to s u t))
-          (same _ _ l.guarantee) (answers (rate_in c i) _ s.guarantee t _ _ (rate_most_lem i) l.account p)
-
-      level_fees : Fees b
-      unfolding process_of admissible_in free_in cash_in after_in
-      level_fees = record {
-        dates = refl;
-        starts = starts b;
-        final = final b;
-        answer = answer_to;
-        admitted = λ s u t l p. (moved 1 s u t l p).open_to;
-        cash = λ i s u t l p.
-            subst (λ (a : ℕ). cash (rate_in c i) (free_amount c.level a) t ≤ cash (rate_in c i) (free_in c u) (answer_to s u t))
-            (sym (same _ _ l.guarantee)) (moved i s u t l p).cash_is;
-        after = λ i s u t l p. record {
-          balance = (moved i s u t l p).balance_is;
-          guarantee = cover _ _
-              (subst (λ (a : ℕ). guarantee_after (free_amount c.level a) s.account a t
-              ≡ guarantee_after (free_in c u) u.account u.guarantee (answer_to s u t))
-              (sym (same _ _ l.guarantee)) (moved i s u t l p).guarantee_is);
-        };
-        reach = reaches b;
-        paid = pays b;
-        by_list = expects b;
-      }
-
-  fee_answers : (b : Behaviour) → Fees b
-  unfolding Covered
-  fee_answers static = level_fees static (λ x y e. e) (λ x y e. e) static_answers
-  fee_answers mixed = level_fees mixed (λ x y e. e) (λ x y e. e) mixed_answers
-  fee_answers dynamic = dynamic_fees
-
-  -- A LARGER FEE IS NEVER WORTH MORE, in any state of any date, nor is less account, or under dynamic withdrawals less guarantee
-  pub state_falls_with_fee : (b : Behaviour) (i : ℕ) (s u : State) → Below b s u
-      → state_value (fixed_term dear rs ds) b i s ≤ state_value (fixed_term cheap rs ds) b i u
-  unfolding state_value fixed_term
-  state_falls_with_fee b =
-      value_less (process_of dear rs ds) (process_of cheap rs ds) (admissible_in dear b) (admissible_in cheap b) (fee_answers b)
-      (averages dear rs ds) (averages cheap rs ds) (opened dear rs ds b) (opened cheap rs ds b)
-
-  -- .. nor for the contract
-  pub value_falls_with_fee : (b : Behaviour) → fee_value c rs ds b high ≤ fee_value c rs ds b low
-  unfolding fee_value contract_value fixed_term
-  value_falls_with_fee b =
-      start_less (process_of dear rs ds) (process_of cheap rs ds) (admissible_in dear b) (admissible_in cheap b) (fee_answers b)
-      (averages dear rs ds) (averages cheap rs ds) (opened dear rs ds b) (opened cheap rs ds b)
-
--- at one fee: what rises with the account
-pub value_rises : (c : Terms) (rs : Returns) (ds : Rates) → c.penalty ≤ rate_most → (b : Behaviour) (i : ℕ) (s u : State) → Below b s u
-    → state_value (fixed_term c rs ds) b i s ≤ state_value (fixed_term c rs ds) b i u
-value_rises c rs ds small b i s u l = state_falls_with_fee c rs ds small (le_refl c.fee) b i s u l
-
--- ---- so a fee that is low enough in value stays so where it grows
-pub meets_lasts : (c : Terms) (rs : Returns) (ds : Rates) → c.penalty ≤ rate_most → (b : Behaviour) (wanted : ℕ)
-    → Lasting (meets c rs ds b wanted)
-unfolding meets
-meets_lasts c rs ds small b wanted low high fees t =
-    le→leb _ wanted (le_trans (value_falls_with_fee c rs ds small fees b) (leb→le _ wanted t))
 
 -- ---- what is sought
 -- a fee is sought exactly where its value is at most what is wanted, and every smaller fee gives more
@@ -204,50 +70,3 @@ pub record Sought (c : Terms) (rs : Returns) (ds : Rates) (b : Behaviour) (wante
   pub within : fee ≤ rate_most
   pub enough : fee_value c rs ds b fee ≤ wanted
   pub smallest : (x : ℕ) → x < fee → wanted < fee_value c rs ds b x
-
-module _ (c : Terms) (rs : Returns) (ds : Rates) (b : Behaviour) (wanted : ℕ) where
-  pub fee_sought_lem : smallest_fee c rs ds b wanted ≤ rate_most → Sought c rs ds b wanted (smallest_fee c rs ds b wanted)
-  unfolding smallest_fee fee_sought meets fee_value
-  fee_sought_lem l =
-      let x = first_is (meets c rs ds b wanted) (rate_most + 1) in record {
-        within = l;
-        enough = leb→le _ wanted (x.passes (omega arith));
-        smallest = λ fee m. more fee (x.none fee (omega arith) m);
-      }
-    where
-      more : (fee : ℕ) → (T (leb (fee_value c rs ds b fee) wanted) → ⊥) → wanted < fee_value c rs ds b fee
-      more fee none = nleb→lt _ wanted (not_T (leb (fee_value c rs ds b fee) wanted) none)
-
-  -- none is, exactly where every fee gives more
-  pub no_fee : (rate_most < smallest_fee c rs ds b wanted) ↔ ((fee : ℕ) → fee ≤ rate_most → wanted < fee_value c rs ds b fee)
-  unfolding smallest_fee fee_sought meets fee_value
-  no_fee = (
-    λ l fee m. nleb→lt _ wanted (not_T (leb (fee_value c rs ds b fee) wanted) (λ t.
-        (first_is (meets c rs ds b wanted) (rate_most + 1)).none fee (omega arith) (omega arith) t)),
-    λ more. none_found _ (rate_most + 1) (λ fee l.
-        false_is (leb (fee_value c rs ds b fee) wanted) (λ t.
-        let h = more fee (omega arith) in let k = leb→le _ wanted t in omega arith)),
-  )
-
-  module _ (small : c.penalty ≤ rate_most) where
-    -- values fall with the fee, so a fee is told by its own value and that of the fee before it ..
-    pub fee_is : (fee : ℕ) → fee ≤ rate_most → fee_value c rs ds b fee ≤ wanted → (fee ≡ 0) ⊎ (wanted < fee_value c rs ds b (fee - 1))
-        → smallest_fee c rs ds b wanted ≡ fee
-    unfolding smallest_fee fee_sought meets fee_value
-    fee_is fee l enough before = is_first (record {
-      from = omega arith;
-      within = omega arith;
-      passes = λ m. le→leb _ wanted enough;
-      none = λ k m n t. go before k n (leb→le _ wanted t);
-    })
-      where
-        go : (fee ≡ 0) ⊎ (wanted < fee_value c rs ds b (fee - 1)) → (k : ℕ) → k < fee → fee_value c rs ds b k ≤ wanted → ⊥
-        go (inl e) k n h = omega arith
-        go (inr more) k n h =
-            let m : k ≤ fee - 1 = omega arith in
-            let f = value_falls_with_fee c rs ds small m b in
-            omega arith
-
-    -- .. and that there is none by the value of the largest
-    pub fee_none : wanted < fee_value c rs ds b rate_most → rate_most < smallest_fee c rs ds b wanted
-    fee_none more = no_fee.1 (λ fee l. let f = value_falls_with_fee c rs ds small l b in omega arith)

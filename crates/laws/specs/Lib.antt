@@ -22,5 +22,3 @@ pub mod Rising
 pub mod Scaled
 pub mod Compared
 pub mod Fee
-pub mod Pricing
-pub mod FeeCases

@@ -5,9 +5,10 @@ use Rattle.std.proofs.Math.Path.{ap}
 use Rattle.std.proofs.Common.{sym, ◌∙◌, div-lt_iff_lt-mul, arith, ltb→lt}
 use Rattle.std.proofs.Math.Dec.{T, eqb→eq}
 use Rattle.decision.specs.Index.{sum, sum_eq, get_d_tabulate, false_is}
-use Rattle.decision.specs.Bits.{bit, words_for, word_of, words_of, bit_at, ones, words_count, word_back, word_unused, words_none, bits_unset}
+use Rattle.decision.specs.Bits.{bit, words_for, word_of, words_of, bit_at, ones}
+use Rattle.decision.proofs.Bits.{words_count, word_back, word_unused, words_none, bits_unset}
 use Rattle.decision.specs.Choice.{and_left, and_right}
-use Rattle.decision.specs.Optimal.{recorded_best}
+use Rattle.decision.proofs.Optimal.{recorded_best}
 use Rattle.decision.specs.Layers.{lookup, layers, entry, entry_within, entry_state, Placed}
 use Rattle.rules.specs.Contract.{Terms, Returns, Rates, terms_of, returns_of, rates_of, Input}
 use Rattle.rules.specs.Date.{static, surrenders, admits}

@@ -10,7 +10,7 @@ use Rattle.std.proofs.Math.ListN.{length, length-append}
 use borrow.Author.Tests.{le-ltb}
 use Rattle.decision.specs.Index.{length_tabulate, get_d_tabulate, true_is, first, all_fail, none_found}
 use Rattle.decision.specs.Process.{Decides, start_earned, start_follow}
-use Rattle.decision.specs.Optimal.{recorded_best, start_table_earned, start_table_kept}
+use Rattle.decision.proofs.Optimal.{recorded_best, start_table_earned, start_table_kept}
 use Rattle.decision.specs.Layers.{lookup, layers, entry, entry_within, entry_state}
 use Rattle.rules.specs.Contract.{Terms, Returns, Rates, terms_of, returns_of, rates_of, Input}
 use Rattle.rules.specs.Date.{Behaviour, static, mixed, dynamic}

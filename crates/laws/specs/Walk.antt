@@ -9,7 +9,7 @@ use Rattle.std.proofs.Math.Dec.{T, ltb, eqb→eq, eqb_refl, nltb→le}
 use Rattle.decision.specs.Index.{sum, first, all_fail}
 use Rattle.decision.specs.Process.{met, start_met}
 use Rattle.decision.specs.Layers.{lookup}
-use Rattle.decision.specs.Optimal.{Steps, start_met_steps}
+use Rattle.decision.proofs.Optimal.{Steps, start_met_steps}
 use Rattle.rules.specs.Contract.{Terms, Returns, zero_rates, terms_of, returns_of, factor_most}
 use Rattle.rules.specs.Date.{dynamic, free_amount, balance_after}
 use Rattle.rules.specs.Product.{Product, entries, bad_date, walk_state, walk_amount, walk_held, walk_paid}
@@ -190,15 +190,3 @@ walk_conserves c rs table path (suc n) l free =
     let falls = guarantee_free (free_in c s) s.account s.guarantee t small in
     let most = min-le_right c.level s.guarantee in
     omega arith
-
--- .. of a walk that is accepted, on every date up to maturity
-pub walk_keeps : (bytes list table path cashes : List ℕ) → verdict (walk_checks (living_policy bytes list) table path cashes) ≡ accepted
-    → (n : ℕ) → n < (terms_of bytes).dates
-    → let X = (living_policy bytes list).product in
-    ((j : ℕ) → j < n → walk_amount X table path (suc j) ≤ free_in (terms_of bytes) (walk_state X table path (suc j)))
-    → sum (λ j. walk_amount X table path (suc j)) n + (walk_state X table path (suc n)).guarantee ≡ (terms_of bytes).premium
-unfolding walk_checks AllPass fixed_term process_of
-walk_keeps bytes list table path cashes e n l free =
-    let checks = pass_right (record_checks bytes ++ list_checks list) _ (all_pass _ e) in
-    let long = eqb→eq (length path) (terms_of bytes).dates (not_not (eqb (length path) (terms_of bytes).dates) checks.1.0) in
-    walk_conserves (terms_of bytes) (returns_of list) table path n (omega arith) free

@@ -23,8 +23,9 @@ use Rattle.rules.specs.Refusals.{accepted, refused, number_of, place_of, on_succ
 use Rattle.rules.specs.Operations.{answer, work_after, behaviour_of, filled, no_table_checks}
 use Rattle.rules.specs.Fee.{under_fee, fee_found, fee_answer, fee_work}
 use Rattle.laws.specs.Terms.{with_fee}
-use Rattle.laws.specs.Fee.{fee_value, meets, smallest_fee, first_to_meet, meets_lasts}
-use Rattle.laws.specs.Pricing.{valid_fee, fee_refused, fee_accepted, fee_wanting, fee_accepts, fee_claim}
+use Rattle.laws.specs.Fee.{fee_value, meets, smallest_fee, first_to_meet}
+use Rattle.laws.proofs.FeeSought.{meets_lasts}
+use Rattle.laws.proofs.Pricing.{valid_fee, fee_refused, fee_accepted, fee_wanting, fee_accepts, fee_claim}
 use Rattle.valuing.specs.declared.Answer as valued
 use Rattle.valuing.specs.Answered.{WorkLent, Worked, answer_of}
 use Rattle.pricing.specs.declared.Bracket as bracket

@@ -1,5 +1,6 @@
 -- What the states of a run hold at least. Assumes nothing.
-use Rattle.std.proofs.Common.{◌≡◌, ℕ, zero, suc, ◌+◌, ◌-◌, ◌*◌, ◌/◌, ◌<◌, ◌≤◌, min, Bool, true, false, List, length, get_or, refl, ap, ◌∙◌, le_trans, le_of_eq, add-one, arith}
+use Rattle.std.proofs.Common.{◌≡◌, ℕ, zero, suc, ◌+◌, ◌-◌, ◌*◌, ◌/◌, ◌<◌, ◌≤◌, min, Bool, true, false, List, length, get_or, refl, ap}
+use Rattle.std.proofs.Common.{◌∙◌, le_trans, le_of_eq, add-one, arith}
 use native.Mathlib.Decide.{dec_le}
 use Rattle.slices.specs.Rows.{cells}
 use Rattle.slices.specs.Stored.{stored, stored_first}
@@ -27,7 +28,8 @@ least_le f (suc n) k l = go (dec_le n k) (least_le f n k)
     go (no h) before = let e = before (omega arith) in omega arith
 
 -- ---- a bound for 8 states
-bound_le : (rising : Bool) (best : List ℕ) (low end j : ℕ) → low ≤ j → j < low + 8 → j < end → bound_of rising best low end ≤ get_or best j 0
+bound_le : (rising : Bool) (best : List ℕ) (low end j : ℕ) → low ≤ j → j < low + 8 → j < end
+    → bound_of rising best low end ≤ get_or best j 0
 bound_le false best low end j h l m = omega arith
 bound_le true best low end j h l m =
     let at : low + (j - low) ≡ j = omega arith in

@@ -1,5 +1,6 @@
 -- The guarantee in proportion, by a reciprocal. Assumes nothing.
-use Rattle.std.proofs.Common.{◌≡◌, ℕ, ◌+◌, ◌-◌, ◌*◌, ◌/◌, ◌%◌, ◌<◌, ◌≤◌, sym, ap, ◌∙◌, le_trans, le_of_eq, mul-le-mul_right, mod-lt, mul-le-mul, mul-le-mul_left, div-add-mod', le-div_iff_mul-le, div-mul-le_self, arith}
+use Rattle.std.proofs.Common.{◌≡◌, ℕ, ◌+◌, ◌-◌, ◌*◌, ◌/◌, ◌%◌, ◌<◌, ◌≤◌, sym, ap, ◌∙◌, le_trans, le_of_eq, mul-le-mul_right, mod-lt}
+use Rattle.std.proofs.Common.{mul-le-mul, mul-le-mul_left, div-add-mod', le-div_iff_mul-le, div-mul-le_self, arith}
 use native.Mathlib.Nat.{div-le_of_le-mul, div-div-eq-div-mul}
 use Rattle.decision.specs.Layers.{high_digit}
 

@@ -1,5 +1,5 @@
 -- A run of states, 8 at a time. Assumes nothing.
-use Rattle.std.proofs.Common.{◌≡◌, ℕ, ◌+◌, ◌-◌, ◌*◌, ◌<◌, ◌≤◌, min, max, List, length, get_or, sym, refl, ap, ◌∙◌, ap₂, inl, inr, le_trans, le_of_eq, arith}
+use Rattle.std.proofs.Common.{◌≡◌, ℕ, ◌+◌, ◌-◌, ◌*◌, ◌<◌, ◌≤◌, min, max, List, get_or, sym, ap, ◌∙◌, ap₂, inr, le_trans, le_of_eq, arith}
 use native.Mathlib.Decide.{dec_le}
 use Rattle.slices.specs.Stored.{stored, stored_join, stored_out}
 use Rattle.keys.specs.declared.Block.{Block}

@@ -1,5 +1,5 @@
 -- Rows that rise with the guarantee. Assumes nothing.
-use Rattle.std.proofs.Common.{◌≡◌, ℕ, zero, suc, ◌+◌, ◌-◌, ◌*◌, ◌<◌, ◌≤◌, min, List, get_or, ap, subst, subst₂, le_trans, le_of_eq, arith}
+use Rattle.std.proofs.Common.{◌≡◌, ℕ, zero, suc, ◌+◌, ◌-◌, ◌*◌, ◌<◌, ◌≤◌, List, get_or, ap, subst, subst₂, le_trans, le_of_eq, arith}
 use native.Mathlib.Decide.{dec_le}
 use Rattle.slices.specs.Rows.{cells}
 use Rattle.proportion.specs.Share.{Ascending, Rising}

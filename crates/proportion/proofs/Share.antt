@@ -1,5 +1,6 @@
 -- The amounts above m where the account is below the guarantee, for a run of states. Assumes nothing.
-use Rattle.std.proofs.Common.{◌≡◌, ℕ, ◌+◌, ◌-◌, ◌*◌, ◌/◌, ◌^◌, ◌<◌, ◌≤◌, max, List, length, get_or, sym, refl, ap, ◌∙◌, ap₂, le_trans, sub-le, arith}
+use Rattle.std.proofs.Common.{◌≡◌, ℕ, ◌+◌, ◌-◌, ◌*◌, ◌/◌, ◌^◌, ◌<◌, ◌≤◌, max, List, length, get_or, sym, refl, ap, ◌∙◌, ap₂, le_trans}
+use Rattle.std.proofs.Common.{sub-le, arith}
 use native.Mathlib.Nat.{max-eq_left}
 use Rattle.slices.specs.Stored.{is_stored, stored_eq}
 use Rattle.slices.specs.Rows.{cells}

@@ -1,9 +1,9 @@
 -- What the states of a block hold while numbers are offered to them. Assumes nothing.
-use Rattle.std.specs.Prelude.{◌≡◌, ℕ, zero, suc, ◌+◌, ◌-◌, ◌<◌, ◌≤◌, max, ◌⊎◌, List, length, set, slice_index, slice_index_or, slice_set, refl}
-use Rattle.std.proofs.Common.{inl, inr, ap, ap₂, sym, ◌∙◌, le_refl, le_of_eq, le_trans, arith}
+use Rattle.std.specs.Prelude.{◌≡◌, ℕ, ◌+◌, ◌-◌, ◌<◌, ◌≤◌, max, ◌⊎◌, List, length, set, slice_index, slice_index_or, slice_set}
+use Rattle.std.proofs.Common.{inl, inr, ap, ◌∙◌, le_refl, le_of_eq, le_trans, arith}
 use Rattle.std.proofs.Math.Decide.{dec_le}
 use Rattle.slices.specs.Stored.{stored, length_stored, stored_in, stored_out, stored_next}
-use Rattle.keys.specs.Most.{most, most_next}
+use Rattle.keys.specs.Most.{most}
 use Rattle.proportion.specs.Held.{Held, key_most}
 
 -- ---- one number after the other
@@ -41,7 +41,8 @@ module _ {g : ℕ → ℕ → ℕ} {best best' : List ℕ} {n low k : ℕ} {coun
     inside : (j : ℕ) → low ≤ j → j < low + k → slice_index best' j ≡ f (j - low)
     inside j p l =
         let z : j ≡ low + (j - low) = omega arith in
-        entry j ∙ ap (λ (x : ℕ). slice_index (stored best low f k) x) z ∙ stored_in best low f k (j - low) (omega (arith, h.long)) (omega arith)
+        entry j ∙ ap (λ (x : ℕ). slice_index (stored best low f k) x) z
+        ∙ stored_in best low f k (j - low) (omega (arith, h.long)) (omega arith)
 
     pub offered : Held g best' n count'
     offered = record {

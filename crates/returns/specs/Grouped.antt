@@ -1,5 +1,5 @@
 -- Request (vii): the groups of the returns that lead from a balance to one row of a layer. Assumes nothing.
-use Rattle.std.specs.Prelude.{Bool, cond, ◌&&◌, List, ◌≡◌, ℕ, ◌+◌, ◌-◌, ◌*◌, ◌/◌, ◌%◌, ◌≤◌, ◌<◌, ltb, eqb, get_or, length, set}
+use Rattle.std.specs.Prelude.{Bool, cond, ◌&&◌, List, ◌≡◌, ℕ, ◌+◌, ◌-◌, ◌*◌, ◌%◌, ◌≤◌, ◌<◌, ltb, eqb, get_or, length, set}
 use Rattle.decision.specs.Index.{sum}
 use Rattle.rules.specs.Contract.{Terms, Returns, top_most, weight_most}
 use Rattle.rules.specs.Date.{next_account, excess_paid}

@@ -11,7 +11,7 @@ use lib.ListN.{length, get_or, drop, replicate}
 use borrow.Rule.Slice.PartMut.{mid_of}
 use Rattle.decision.specs.Index.{first}
 use Rattle.decision.specs.Process.{worth, table_value, start_table_value}
-use Rattle.decision.specs.Optimal.{table_step, table_last}
+use Rattle.decision.proofs.Optimal.{table_step, table_last}
 use Rattle.decision.specs.Layers.{low_digit, lookup, layer}
 use Rattle.slices.specs.Parts.{part_at}
 use Rattle.slices.specs.Stored.{stored, length_stored, stored_out}
@@ -26,7 +26,8 @@ use Rattle.laws.specs.Supplied.{all_admitted, table_checked, supplied_refused, s
 use Rattle.laws.specs.Date.{dynamic_is, shared}
 use Rattle.laws.specs.Accepted.{Valid, ValidInput}
 use Rattle.laws.specs.Bounds.{table_value_le, state_most, entry_most}
-use Rattle.laws.specs.AnyOrder.{Reordered, any_order_table}
+use Rattle.laws.specs.AnyOrder.{Reordered}
+use Rattle.laws.proofs.AnyOrder.{any_order_table}
 use Rattle.input.specs.Accepted.{Given}
 use Rattle.returns.specs.Sorted.{Sorted, ordered_input}
 use Rattle.expect.specs.Expected.{expected, shared_same}

@@ -6,7 +6,8 @@ use native.Mathlib.Nat.{le_refl, pow-le-pow_right, pow-succ', two-pow-succ, div-
 use native.Mathlib.Omega.{arith}
 use lib.Count as Count
 use Rattle.decision.specs.Index.{sum, sum_eq, sum_append, sum_zeros, sum_next}
-use Rattle.decision.specs.Bits.{bit, from_bits, set_bits, bit_le, bit_of, ones, pow_add, bits_lt, bits_cons}
+use Rattle.decision.specs.Bits.{bit, from_bits, set_bits, bit_of, ones}
+use Rattle.decision.proofs.Bits.{bit_le, pow_add, bits_lt, bits_cons}
 use Rattle.decision.specs.Layers.{high_digit}
 
 sum_most_lem : (f : ℕ → ℕ) (n : ℕ) → ((k : ℕ) → f k ≤ 1) → sum f n ≤ n

@@ -11,7 +11,8 @@ use lib.Seq.{get_or-take, get_or-drop}
 use borrow.Rule.Slice.PartMut.{mid_of}
 use borrow.Author.Tests.{lt-ltb, le-ltb}
 use Rattle.decision.specs.Index.{sum_eq, sum_zeros}
-use Rattle.decision.specs.Bits.{bit, from_bits, bits_append}
+use Rattle.decision.specs.Bits.{bit, from_bits}
+use Rattle.decision.proofs.Bits.{bits_append}
 use Rattle.decision.specs.Layers.{low_digit, high_digit, two_digits}
 use Rattle.rules.specs.Contract.{Terms}
 use Rattle.rules.specs.Date.{free_amount, surrenders}

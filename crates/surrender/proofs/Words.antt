@@ -8,7 +8,8 @@ use native.Mathlib.Omega.{arith}
 use lib.ListN.{length, set, drop}
 use borrow.Rule.Slice.PartMut.{mid_of, mid_len}
 use Rattle.decision.specs.Index.{sum, sum_next}
-use Rattle.decision.specs.Bits.{from_bits, words_for, bits_in, word_of, words_of, ones, bits_lt, bits_append, words_count}
+use Rattle.decision.specs.Bits.{from_bits, words_for, bits_in, word_of, words_of, ones}
+use Rattle.decision.proofs.Bits.{bits_lt, bits_append, words_count}
 use Rattle.slices.specs.Stored.{stored, stored_push, stored_front}
 use Rattle.rules.specs.Contract.{Terms}
 use Rattle.rules.specs.FixedTerm.{layer_size, fixed_term, process_of, layout_of}
@@ -184,4 +185,5 @@ module _ {c : Terms} {table map map' : List ℕ} {at : State} {count j : ℕ} (d
     pub filled_map : map_size (frame c) ≤ length map → map' ≡ surrender_map (frame c) table ++ drop (map_size (frame c)) map
     unfolding surrender_map map_size words_of entries table_size fixed_term process_of layout_of
     filled_map room =
-        d.map_is ∙ ap (stored map 0 (word_of (surrendered (frame c) table) (table_size c))) all ∙ stored_front map _ (map_size (frame c)) room
+        d.map_is ∙ ap (stored map 0 (word_of (surrendered (frame c) table) (table_size c))) all
+        ∙ stored_front map _ (map_size (frame c)) room

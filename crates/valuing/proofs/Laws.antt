@@ -32,7 +32,8 @@ use Rattle.input.specs.declared.Returns as inputs
 use Rattle.input.specs.Accepted.{Agreed, disagreed, input_not_read, agree, refuse}
 use Rattle.contract.specs.Reading.{terms_in, turned, taken}
 use Rattle.input.specs.Reading.{input_read}
-use Rattle.laws.specs.AnyOrder.{Reordered, any_order_state, any_order_amount}
+use Rattle.laws.specs.AnyOrder.{Reordered}
+use Rattle.laws.proofs.AnyOrder.{any_order_state, any_order_amount}
 use Rattle.returns.specs.Sorted.{Sorted, ordered_input}
 use Rattle.expect.specs.Expected.{expected, shared_same}
 use Rattle.dates.specs.Back.{at, values_on, shared_expects, Valued, Starting}

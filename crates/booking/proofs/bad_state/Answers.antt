@@ -1,5 +1,4 @@
 -- `booking::bad_state` meets its contract. Assumes nothing.
-use borrow.Author.Rules.{rules}
 use borrow.Author.Tests.{lt-ltb, le-ltb}
 use mathlib.Core.Path.{sym, ◌∙◌}
 use Rattle.booking.proofs.bad_state.Goals as goal

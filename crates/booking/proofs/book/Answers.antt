@@ -1,6 +1,5 @@
 -- `booking::book` meets its contract. Assumes nothing.
 use Prim.Native.Nat.{ℕ}
-use borrow.Author.Rules.{rules}
 use mathlib.Core.List.{List}
 use mathlib.Core.Path.{ap, ap₂, sym, ◌∙◌}
 use Rattle.contract.specs.Accepted.{read_accepted, read_refused}
@@ -16,50 +15,31 @@ use Rattle.booking.proofs.book.Goals as goal
 pub returns-in_default : goal.returns-in_default
 unfolding booking_buffer on_success number_of place_of
 returns-in_default c =
-    let args = c.args in
-    let buffer₀ = args.buffer.now in
-    let bytes₀ = args.bytes.now in
-    let date₀ = args.date in
-    let w₀ = args.w in
-    let a₀ = args.a in
-    let t₀ = args.t in
-    let read = c.read-reading in
-    let told = c.enum_told-1.given.1 in
-    let refusal = read_refused bytes₀ _ (sym read.ensures ∙ ap reading_tells told) in
+    let x = c.args in
+    let told = c.in_default.is in
+    let refusal = read_refused x.bytes.now _ (sym c.read-reading.ensures ∙ ap reading_tells told) in
     let whole =
-    booking_verdict bytes₀ date₀ w₀ a₀ t₀ buffer₀
-    ∙ ap (λ (v : Verdict). and_then v (verdict (amount_checks (terms_of bytes₀) date₀ w₀ a₀ t₀ buffer₀))) refusal in (
-      c.outcome.ensures ∙ ap (λ (r : Reading). outcome_in (reading_tells r)) told ∙ ap outcome_of (sym whole),
-      sym (ap (λ (v : Verdict). on_success v (booking_bytes (terms_of bytes₀) date₀ w₀ a₀ t₀) buffer₀) whole),
-    )
+    booking_verdict x.bytes.now x.date x.w x.a x.t x.buffer.now
+    ∙ ap (λ (v : Verdict). and_then v (verdict (amount_checks (terms_of x.bytes.now) x.date x.w x.a x.t x.buffer.now))) refusal in
+    record {
+      outcome = c.outcome.ensures ∙ ap (λ (r : Reading). outcome_in (reading_tells r)) told ∙ ap outcome_of (sym whole);
+      buffer_after = sym (ap (λ (v : Verdict). on_success v (booking_bytes (terms_of x.bytes.now) x.date x.w x.a x.t) x.buffer.now) whole);
+    }
 
 pub booked-requires : goal.booked-requires
-booked-requires c = (read_accepted c.args.bytes.now _
-    (sym c.read-reading.ensures ∙ ap reading_tells c.reading-1.given.1)).valid
+booked-requires c = (read_accepted c.args.bytes.now _ (sym c.read-reading.ensures ∙ ap reading_tells c.in-Accepted.is)).valid
 
 pub returns : goal.returns
 unfolding booking_buffer
 returns c =
-    let args = c.args in
-    let buffer₀ = args.buffer.now in
-    let bytes₀ = args.bytes.now in
-    let date₀ = args.date in
-    let w₀ = args.w in
-    let a₀ = args.a in
-    let t₀ = args.t in
-    let read = c.read-reading in
-    let reading = c.reading-1 in
-    let booked = c.booked in
-    let x = args in
-    let known = read_accepted x.bytes.now _ (sym read.ensures ∙ ap reading_tells reading.given.1) in
+    let x = c.args in
+    let known = read_accepted x.bytes.now _ (sym c.read-reading.ensures ∙ ap reading_tells c.in-Accepted.is) in
     let whole =
-    booking_verdict bytes₀ date₀ w₀ a₀ t₀ buffer₀
-    ∙ ap (λ (v : Verdict). and_then v (verdict (amount_checks (terms_of bytes₀) date₀ w₀ a₀ t₀ buffer₀))) known.accepts in
-    let terms = known.terms in
-    let same = ap (λ (c : Terms). verdict (amount_checks c x.date x.w x.a x.t x.buffer.now)) terms ∙ sym whole in
-    let bytes = ap (λ (c : Terms). booking_bytes c x.date x.w x.a x.t) terms in
-    let told = booked.ensures in (
-      told.outcome-is ∙ ap outcome_of same,
-      told.buffer-is
-          ∙ ap₂ (λ (v : Verdict) (new : List ℕ). on_success v new x.buffer.now) same bytes,
-    )
+    booking_verdict x.bytes.now x.date x.w x.a x.t x.buffer.now
+    ∙ ap (λ (v : Verdict). and_then v (verdict (amount_checks (terms_of x.bytes.now) x.date x.w x.a x.t x.buffer.now))) known.accepts in
+    let same = ap (λ (c : Terms). verdict (amount_checks c x.date x.w x.a x.t x.buffer.now)) known.terms ∙ sym whole in
+    let bytes = ap (λ (c : Terms). booking_bytes c x.date x.w x.a x.t) known.terms in
+    record {
+      outcome = c.booked.ensures.outcome_is ∙ ap outcome_of same;
+      buffer_after = c.booked.ensures.buffer_is ∙ ap₂ (λ (v : Verdict) (new : List ℕ). on_success v new x.buffer.now) same bytes;
+    }

@@ -1,34 +1,21 @@
 -- `booking::booked` meets its contract. Assumes nothing.
-use Prim.Native.Nat.{ℕ, ◌≤◌}
-use borrow.Author.Rules.{rules}
-use mathlib.Core.List.{◌++◌}
+use Prim.Native.Nat.{ℕ}
+use mathlib.Core.List.{List, ◌++◌}
 use mathlib.Core.Path.{◌≡◌, ap, ap₂, sym, ◌∙◌}
 use native.Mathlib.Omega.{arith}
 use Rattle.contract.specs.Reading.{terms_in, outcome_of}
 use Rattle.laws.specs.Accepted.{success_reports, refusal_keeps, no_place}
 use Rattle.laws.specs.Booking.{Bookable, bookable, bookable_small, amount_accepts, amount_places}
-use Rattle.rules.specs.Contract.{bytes_of, top_most}
+use Rattle.rules.specs.Contract.{Terms, bytes_of}
 use Rattle.rules.specs.Date.{cash, penalty, guarantee_after}
-use Rattle.rules.specs.Refusals.{accepted, verdict, number_of, place_of}
+use Rattle.rules.specs.Refusals.{verdict, number_of, place_of}
 use Rattle.rules.specs.Booking.{amount_checks, booking_bytes}
 use Rattle.booking.proofs.booked.Goals as goal
 
 -- past the checks the booking is accepted
-accepted-by : (c : tie.Else1) → let x = c.args in
-    verdict (amount_checks (terms_in x.c) x.date x.w x.a x.t x.buffer.now) ≡ accepted
-accepted-by c =
-    let args = c.args in
-    let none = sym c.refused_by-number.ensures ∙ c.if-number-ne0.false in
-    amount_accepts (terms_in args.c) args.date args.w args.a args.t args.buffer.now none
-
-able : (c : tie.Else1) → let x = c.args in
-    Bookable (terms_in x.c) x.date x.w x.a x.t x.buffer.now
-able c =
-    let args = c.args in
-    bookable (terms_in args.c) args.date args.w args.a args.t args.buffer.now (accepted-by c)
-
-small : (c : tie.Else1) → let x = c.args in (x.w ≤ top_most) × (x.a ≤ top_most) × (x.t ≤ top_most)
-small c = bookable_small c.requires (able c)
+able : (c : Terms) (date w a t : ℕ) (buffer : List ℕ) {n : ℕ}
+    → n ≡ number_of (verdict (amount_checks c date w a t buffer)) → n ≡ 0 → Bookable c date w a t buffer
+able c date w a t buffer e z = bookable c date w a t buffer (amount_accepts c date w a t buffer (sym e ∙ z))
 
 pub returns-then-number-ne0 : goal.returns-then-number-ne0
 returns-then-number-ne0 c =
@@ -52,21 +39,26 @@ returns-then-number-ne0 c =
 pub rate_on-rate-requires : goal.rate_on-rate-requires
 rate_on-rate-requires c =
     let v = c.requires in
-    (v.penalty, v.step, omega (arith, (able c).date, v.dates))
+    (v.penalty, v.step, omega (arith, (able _ _ _ _ _ _ c.refused_by-number.ensures c.if-number-ne0.false).date, v.dates))
 
 pub cash-cash-requires : goal.cash-cash-requires
-cash-cash-requires c = (c.rate_on-rate.ensures.1, (small c).2)
+cash-cash-requires c =
+    let yes = able _ _ _ _ _ _ c.refused_by-number.ensures c.if-number-ne0.false in
+    (c.rate_on-rate.ensures.1, (bookable_small c.requires yes).2)
 
 pub penalty-penalty-requires : goal.penalty-penalty-requires
-penalty-penalty-requires c = (c.rate_on-rate.ensures.1, (small c).2)
+penalty-penalty-requires c =
+    let yes = able _ _ _ _ _ _ c.refused_by-number.ensures c.if-number-ne0.false in
+    (c.rate_on-rate.ensures.1, (bookable_small c.requires yes).2)
 
 pub guarantee_after-guarantee-requires : goal.guarantee_after-guarantee-requires
 guarantee_after-guarantee-requires c =
-    let s = small c in
-    (s.0, s.1, rw c.free_amount-m.ensures (able c).amount)
+    let yes = able _ _ _ _ _ _ c.refused_by-number.ensures c.if-number-ne0.false in
+    let s = bookable_small c.requires yes in
+    (s.0, s.1, rw c.free_amount-m.ensures yes.amount)
 
 pub fill-requires : goal.fill-requires
-fill-requires c = (able c).sixteen
+fill-requires c = (able _ _ _ _ _ _ c.refused_by-number.ensures c.if-number-ne0.false).sixteen
 
 pub returns : goal.returns
 unfolding booking_bytes number_of place_of
@@ -86,7 +78,8 @@ returns c =
     let bytes : _ ≡ booking_bytes (terms_in x.c) x.date x.w x.a x.t =
     λ i. bytes_of 4 (cash_is i) ++ bytes_of 4 (penalty-is i) ++ bytes_of 2 (balance_is i) ++ bytes_of 2 (guarantee_is i)
     ++ bytes_of 4 0 in
-    let yes_to = accepted-by c in
+    let yes_to = amount_accepts (terms_in x.c) x.date x.w x.a x.t x.buffer.now
+    (sym c.refused_by-number.ensures ∙ c.if-number-ne0.false) in
     record {
       outcome_is = ap outcome_of (sym yes_to);
       buffer_is = c.fill.ensures ∙ bytes ∙ sym (success_reports _ _ yes_to);

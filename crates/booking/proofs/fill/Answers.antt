@@ -1,5 +1,4 @@
 -- `booking::fill` meets its contract. Assumes nothing.
-use borrow.Author.Rules.{rules}
 use lib.Seq.{sets}
 use mathlib.Core.List.{List, ◌++◌}
 use mathlib.Core.Path.{ap, ◌∙◌}

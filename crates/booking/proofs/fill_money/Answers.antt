@@ -1,7 +1,5 @@
 -- `booking::fill_money` meets its contract. Assumes nothing.
-use borrow.Author.Rules.{rules}
 use lib.ListN.{length-set}
-use lib.Seq.{sets}
 use mathlib.Core.Path.{refl}
 use native.Mathlib.Omega.{arith}
 use Rattle.rules.specs.Contract.{bytes_of}

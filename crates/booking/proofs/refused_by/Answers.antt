@@ -1,6 +1,5 @@
 -- `booking::refused_by` meets its contract. Assumes nothing.
 use Prim.Native.Nat.{ℕ}
-use borrow.Author.Rules.{rules}
 use borrow.Author.Tests.{eq-eqb, ne_eqb}
 use mathlib.Core.Path.{sym, ◌∙◌, ap}
 use Rattle.rules.specs.Date.{dynamic, admits}

@@ -1,5 +1,4 @@
 -- `dynamic::decide_block` meets its contract. Assumes nothing.
-use borrow.Author.Rules.{rules}
 use mathlib.Core.Path.{◌∙◌}
 use Prim.Native.Nat.{◌+◌}
 use Rattle.keys.specs.Sums.{sums}

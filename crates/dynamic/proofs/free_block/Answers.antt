@@ -1,12 +1,9 @@
 -- `dynamic::free_block` meets its contract. Assumes nothing.
-use borrow.Author.Rules.{rules}
 use mathlib.Core.Path.{◌≡◌}
 use native.Mathlib.Omega.{arith}
-use Prim.Native.Nat.{◌+◌, ◌-◌, ◌≤◌}
+use Prim.Native.Nat.{◌+◌}
 use Rattle.dynamic.proofs.Free.{free_all, first_copying, first_held}
 use Rattle.proportion.specs.Offers.{held_as}
-use Rattle.proportion.specs.Held.{Held, key_at}
-use Rattle.dynamic.specs.Block.{tried_to}
 use Rattle.keys.specs.Sums.{sum_in}
 use Rattle.dynamic.proofs.free_block.Goals as goal
 
@@ -23,7 +20,7 @@ copy-requires c =
 
 pub overflow_add-end : goal.overflow_add-end
 overflow_add-end c =
-    omega (arith, c.requires.0.layers.level-is, c.requires.0.layers.width)
+    omega (arith, c.requires.0.layers.level_is, c.requires.0.layers.width)
 
 pub loop-t-init : goal.loop-t-init
 loop-t-init c =
@@ -38,7 +35,7 @@ offer_amount-requires c =
 
 pub overflow_step-t : goal.overflow_step-t
 overflow_step-t c =
-    omega (arith, c.requires.0.layers.level-is, c.requires.0.layers.width)
+    omega (arith, c.requires.0.layers.level_is, c.requires.0.layers.width)
 
 pub loop-t-preserved : goal.loop-t-preserved
 loop-t-preserved c = (omega arith, omega arith, c.offer_amount.ensures)

@@ -1,15 +1,14 @@
 -- `dynamic::further_few` meets its contract. Assumes nothing.
-use borrow.Author.Rules.{rules}
 use mathlib.Core.Path.{◌≡◌, ap, ◌∙◌}
 use native.Mathlib.Omega.{arith}
-use Prim.Native.Nat.{ℕ, ◌+◌, ◌-◌, ◌≤◌, min}
+use Prim.Native.Nat.{ℕ, ◌-◌, min}
 use Rattle.dynamic.proofs.Further.{alike_one}
 use Rattle.proportion.specs.Offers.{held_as}
-use Rattle.proportion.specs.Held.{Held, key_at, tried_below}
+use Rattle.proportion.specs.Held.{tried_below}
 use Rattle.dynamic.proofs.further_few.Goals as goal
 
 pub overflow_add-d : goal.overflow_add-d
-overflow_add-d c = omega (arith, c.requires.0.layers.level-is, c.requires.0.layers.width)
+overflow_add-d c = omega (arith, c.requires.0.layers.level_is, c.requires.0.layers.width)
 
 pub loop-j-init : goal.loop-j-init
 loop-j-init c = (omega arith, c.requires.2)

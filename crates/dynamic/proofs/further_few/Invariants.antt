@@ -1,10 +1,5 @@
 -- `dynamic::further_few` meets its contract. Assumes nothing.
-use borrow.Author.Rules.{rules}
-use mathlib.Core.Path.{◌≡◌, ap, ◌∙◌}
-use native.Mathlib.Omega.{arith}
-use Prim.Native.Nat.{ℕ, ◌+◌, ◌-◌, ◌≤◌, min}
-use Rattle.dynamic.proofs.Further.{alike_one}
-use Rattle.proportion.specs.Offers.{held_as}
+use Prim.Native.Nat.{◌-◌, ◌≤◌}
 use Rattle.proportion.specs.Held.{Held, key_at, tried_below}
 use Rattle.dynamic.proofs.further_few.Given as goal
 

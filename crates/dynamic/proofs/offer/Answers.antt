@@ -1,8 +1,6 @@
 -- `dynamic::offer` meets its contract. Assumes nothing.
-use lib.ListN.{get_or}
 use mathlib.Core.Path.{◌≡◌, refl, sym, ◌∙◌}
 use native.Mathlib.Omega.{arith}
-use Prim.Native.Nat.{◌+◌, ◌-◌, ◌≤◌, max}
 use Rattle.proportion.specs.Offers.{held_yet, raised}
 use Rattle.slices.specs.Stored.{stored}
 use Rattle.dynamic.proofs.offer.Goals as goal

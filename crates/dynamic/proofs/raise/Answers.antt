@@ -1,5 +1,4 @@
 -- `dynamic::raise` meets its contract. Assumes nothing.
-use borrow.Author.Rules.{rules}
 use lib.ListN.{set}
 use mathlib.Core.Path.{ap}
 use Prim.Native.Nat.{ℕ}

@@ -1,10 +1,9 @@
 -- `further::better_run` meets its contract. Assumes nothing.
-use Prim.Native.Nat.{ℕ, ◌+◌, ◌-◌, ◌≤◌, max}
-use lib.ListN.{get_or}
+use Prim.Native.Nat.{ℕ, ◌+◌, max}
 use mathlib.Core.Path.{◌≡◌, ap, ap₂, ◌∙◌}
 use native.Mathlib.Omega.{arith}
 use Rattle.slices.specs.Stored.{stored}
-use Rattle.further.proofs.Run.{Run, run_none, run_next, run_out, run_before}
+use Rattle.further.proofs.Run.{run_none, run_next, run_out, run_before}
 use Rattle.further.proofs.better_run.Goals as goal
 
 pub loop-i-init : goal.loop-i-init

@@ -1,5 +1,4 @@
 -- `further::fill_row` meets its contract. Assumes nothing.
-use borrow.Author.Rules.{rules}
 use mathlib.Core.Path.{◌∙◌}
 use native.Mathlib.Omega.{arith}
 use Rattle.keys.specs.Sums.{sums_less}
@@ -11,5 +10,4 @@ first_row-requires c = sums_less c.requires.0 1 (omega arith)
 
 pub returns-then-b-eq0 : goal.returns-then-b-eq0
 returns-then-b-eq0 c =
-    let choice = c in
-    c.first_row.ensures ∙ first_is _ choice.before.before.args.d _ _ choice.if1.true
+    c.first_row.ensures ∙ first_is _ c.args.d _ _ c.if-b-eq0.true

@@ -1,11 +1,10 @@
 -- `further::first_row` meets its contract. Assumes nothing.
-use Prim.Native.Nat.{ℕ, ◌+◌, ◌-◌, ◌*◌, ◌≤◌}
+use Prim.Native.Nat.{ℕ, ◌+◌, ◌*◌}
 use lib.ListN.{get_or}
 use mathlib.Core.Path.{◌≡◌, ap, ◌∙◌}
 use native.Mathlib.Omega.{arith}
 use Rattle.slices.specs.Stored.{stored}
-use Rattle.slices.specs.Rows.{cells}
-use Rattle.further.proofs.Run.{Run, run_none, run_push, run_out}
+use Rattle.further.proofs.Run.{run_none, run_push, run_out}
 use Rattle.further.proofs.first_row.Goals as goal
 
 pub loop-a-init : goal.loop-a-init

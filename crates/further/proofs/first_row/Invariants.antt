@@ -1,11 +1,7 @@
 -- `further::first_row` meets its contract. Assumes nothing.
-use Prim.Native.Nat.{ℕ, ◌+◌, ◌-◌, ◌*◌, ◌≤◌}
-use lib.ListN.{get_or}
-use mathlib.Core.Path.{◌≡◌, ap, ◌∙◌}
-use native.Mathlib.Omega.{arith}
-use Rattle.slices.specs.Stored.{stored}
+use Prim.Native.Nat.{◌-◌, ◌≤◌}
 use Rattle.slices.specs.Rows.{cells}
-use Rattle.further.proofs.Run.{Run, run_none, run_push, run_out}
+use Rattle.further.proofs.Run.{Run}
 use Rattle.further.proofs.first_row.Given as goal
 
 abbrev pub invariant-loop-a : goal.invariant-loop-a

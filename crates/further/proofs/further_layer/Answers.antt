@@ -1,10 +1,10 @@
 -- `further::further_layer` meets its contract. Assumes nothing.
-use Prim.Native.Nat.{ℕ, ◌-◌, ◌*◌, ◌≤◌}
+use Prim.Native.Nat.{ℕ, ◌*◌}
 use lib.ListN.{length}
 use mathlib.Core.Path.{◌≡◌, refl, ap, ◌∙◌}
 use native.Mathlib.Omega.{arith}
 use Rattle.slices.specs.Stored.{stored, stored_none, length_stored}
-use Rattle.further.proofs.Laws.{rows, layer_sums, layer_below, layer_next}
+use Rattle.further.proofs.Laws.{layer_sums, layer_below, layer_next}
 use Rattle.further.proofs.further_layer.Goals as goal
 
 pub loop-b-init : goal.loop-b-init
@@ -19,9 +19,7 @@ fill_row-requires c =
 
 pub loop-b-preserved : goal.loop-b-preserved
 loop-b-preserved c =
-    let turn = c in
-    let start = turn.before.before.before.before in
-    (omega arith, layer_next _ start.requires turn.loop-test.true turn.before.loop.invariant.1 c.fill_row.ensures)
+    (omega arith, layer_next _ c.requires c.loop-b-test.true c.loop-b.invariant.1 c.fill_row.ensures)
 
 pub shape_of-work : goal.shape_of-work
 shape_of-work c = ap length c.loop-b.invariant.1 ∙ length_stored _ _ _ _

@@ -1,10 +1,8 @@
 -- `further::further_layer` meets its contract. Assumes nothing.
-use Prim.Native.Nat.{ℕ, ◌-◌, ◌*◌, ◌≤◌}
-use lib.ListN.{length}
-use mathlib.Core.Path.{◌≡◌, refl, ap, ◌∙◌}
-use native.Mathlib.Omega.{arith}
-use Rattle.slices.specs.Stored.{stored, stored_none, length_stored}
-use Rattle.further.proofs.Laws.{rows, layer_sums, layer_below, layer_next}
+use Prim.Native.Nat.{◌-◌, ◌*◌, ◌≤◌}
+use mathlib.Core.Path.{◌≡◌}
+use Rattle.slices.specs.Stored.{stored}
+use Rattle.further.proofs.Laws.{rows}
 use Rattle.further.proofs.further_layer.Given as goal
 
 abbrev pub invariant-loop-b : goal.invariant-loop-b

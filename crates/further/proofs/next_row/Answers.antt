@@ -1,5 +1,4 @@
 -- `further::next_row` meets its contract. Assumes nothing.
-use borrow.Author.Rules.{rules}
 use Prim.Native.Nat.{◌+◌, ◌-◌}
 use mathlib.Core.Path.{◌≡◌, ap, ◌∙◌}
 use native.Mathlib.Omega.{arith}
@@ -18,19 +17,15 @@ better_run-requires c =
 
 pub better_run-requires-2 : goal.better_run-requires-2
 better_run-requires-2 c =
-    let ran = c in
-    let start = ran.before.before.before.before.before.before in
-    let pre = start.requires in
-    let first = run_joins pre.0 pre.1 pre.2 pre.3 (first_part _ pre.0 pre.2) run_none.is ran.better-run.ensures in
+    let pre = c.requires in
+    let first = run_joins pre.0 pre.1 pre.2 pre.3 (first_part _ pre.0 pre.2) run_none.is c.better_run.ensures in
     run_room pre.0 pre.1 pre.2 pre.3 (rest_part _ pre.0 pre.2) first
 
 pub returns : goal.returns
 returns c =
-    let ran = c in
-    let start = ran.before.before.before.before.before.before in
-    let pre = start.requires in
-    let first = run_joins pre.0 pre.1 pre.2 pre.3 (first_part _ pre.0 pre.2) run_none.is ran.better-run.ensures in
-    let all : 1 + (start.args.d.stride - 1) ≡ start.args.d.stride = omega arith in
+    let pre = c.requires in
+    let first = run_joins pre.0 pre.1 pre.2 pre.3 (first_part _ pre.0 pre.2) run_none.is c.better_run.ensures in
+    let all : 1 + (c.args.d.stride - 1) ≡ c.args.d.stride = omega arith in
     run_joins pre.0 pre.1 pre.2 pre.3 (rest_part _ pre.0 pre.2)
     first c.better_run-2.ensures
     ∙ ap (stored _ _ _) all

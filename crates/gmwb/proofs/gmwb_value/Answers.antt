@@ -8,8 +8,8 @@ use Rattle.gmwb.proofs.gmwb_value.Goals as goal
 pub returns : goal.returns
 returns c =
     let done = c.value-answer.ensures in record {
-      answer_is = told _ _ done.reported.answer-is (to_z-of_z {w = w64} (sfits_of c.struct_told-1.given.1.1.1.0.1));
-      work_is = done.reported.work-is;
+      answer_is = told _ _ done.reported.answer_is (to_z-of_z {w = w64} (sfits_of c.struct_told-1.given.1.1.1.0.1));
+      work_is = done.reported.work_is;
       table_is = done.reported.table_is;
       claim = done.claim;
     }

@@ -8,7 +8,7 @@ use Rattle.gmwb.proofs.gmwb_value_no_table.Goals as goal
 pub returns : goal.returns
 returns c =
     let done = c.value_no_table-alone.ensures in record {
-      answer_is = told _ _ done.answer-is (to_z-of_z {w = w64} (sfits_of c.struct_told-1.given.1.1.1.0.1));
-      work_is = done.work-is;
+      answer_is = told _ _ done.answer_is (to_z-of_z {w = w64} (sfits_of c.struct_told-1.given.1.1.1.0.1));
+      work_is = done.work_is;
       claim = done.claim;
     }

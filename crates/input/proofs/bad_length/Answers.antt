@@ -1,5 +1,4 @@
 -- `input::bad_length` meets its contract. Assumes nothing.
-use borrow.Author.Rules.{rules}
 use mathlib.Core.Path.{sym, ◌∙◌}
 use Rattle.input.proofs.bad_length.Goals as goal
 

@@ -1,5 +1,4 @@
 -- `input::bad_return` meets its contract. Assumes nothing.
-use borrow.Author.Rules.{rules}
 use borrow.Author.Tests.{lt-ltb, le-ltb}
 use mathlib.Core.Path.{ap, sym, ◌∙◌}
 use mathlib.Core.Path.{sym, ◌∙◌}

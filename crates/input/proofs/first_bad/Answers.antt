@@ -1,10 +1,6 @@
 -- `input::first_bad` meets its contract. Assumes nothing.
-use Prim.Native.Nat.{◌-◌}
 use mathlib.Core.Path.{sym, ◌∙◌}
-use native.Mathlib.Omega.{arith}
-use Rattle.decision.specs.Index.{Searched, search_none, search_more, search_hit, search_end}
-use Rattle.rules.specs.Contract.{returns_of}
-use Rattle.rules.specs.Refusals.{bad_return}
+use Rattle.decision.specs.Index.{search_none, search_more, search_hit, search_end}
 use Rattle.input.proofs.first_bad.Goals as goal
 
 pub loop-k-init : goal.loop-k-init

@@ -1,11 +1,10 @@
 -- `input::first_high` meets its contract. Assumes nothing.
-use Prim.Native.Nat.{ℕ, ◌-◌}
 use borrow.Author.Tests.{lt-ltb, le-ltb}
 use mathlib.Core.Path.{ap, sym, ◌∙◌}
 use native.Mathlib.Omega.{arith}
 use lib.Dec.{ltb}
-use Rattle.decision.specs.Index.{Searched, search_none, search_more, search_hit, search_end}
-use Rattle.rules.specs.Contract.{rate_most, rates_of}
+use Rattle.decision.specs.Index.{search_none, search_more, search_hit, search_end}
+use Rattle.rules.specs.Contract.{rate_most}
 use Rattle.input.proofs.first_high.Goals as goal
 
 pub loop-i-init : goal.loop-i-init

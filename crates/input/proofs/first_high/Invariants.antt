@@ -1,10 +1,7 @@
 -- `input::first_high` meets its contract. Assumes nothing.
 use Prim.Native.Nat.{ℕ, ◌-◌}
-use borrow.Author.Tests.{lt-ltb, le-ltb}
-use mathlib.Core.Path.{ap, sym, ◌∙◌}
-use native.Mathlib.Omega.{arith}
 use lib.Dec.{ltb}
-use Rattle.decision.specs.Index.{Searched, search_none, search_more, search_hit, search_end}
+use Rattle.decision.specs.Index.{Searched}
 use Rattle.rules.specs.Contract.{rate_most, rates_of}
 use Rattle.input.proofs.first_high.Given as goal
 

@@ -1,5 +1,4 @@
 -- `input::rate_of` meets its contract. Assumes nothing.
-use borrow.Author.Rules.{rules}
 use Rattle.rules.specs.Contract.{rates_of}
 use Rattle.input.proofs.rate_of.Goals as goal
 

@@ -1,5 +1,4 @@
 -- `input::total_weight` meets its contract. Assumes nothing.
-use Prim.Native.Nat.{◌-◌, ◌*◌, ◌≤◌}
 use mathlib.Core.Path.{◌≡◌, refl, sym}
 use native.Mathlib.Omega.{arith}
 use Rattle.decision.specs.Index.{sum, sum_next}

@@ -1,8 +1,7 @@
 -- `input::total_weight` meets its contract. Assumes nothing.
 use Prim.Native.Nat.{◌-◌, ◌*◌, ◌≤◌}
-use mathlib.Core.Path.{◌≡◌, refl, sym}
-use native.Mathlib.Omega.{arith}
-use Rattle.decision.specs.Index.{sum, sum_next}
+use mathlib.Core.Path.{◌≡◌}
+use Rattle.decision.specs.Index.{sum}
 use Rattle.rules.specs.Contract.{returns_of}
 use Rattle.input.proofs.total_weight.Given as goal
 

@@ -17,7 +17,7 @@ use Rattle.mapping.proofs.value_map.Goals as goal
 
 pub returns-in_default : goal.returns-in_default
 returns-in_default c =
-    let told = c.enum_told-1.given.1 in
+    let told = c.in_default.is in
     let outcome = c.outcome.ensures ∙ ap (λ (r : Agreement). outcome_in (agreement_tells r)) told in
     let refusal = disagreed _ _ _ _ (sym c.check-agreement.ensures ∙ ap agreement_tells told) in
     refused_whole _ _ _ _ _ _ _ (mapping_refused _ _ _ _ _ refusal)
@@ -25,21 +25,21 @@ returns-in_default c =
 
 pub map_size-requires : goal.map_size-requires
 map_size-requires c =
-    (table_lent _ _ _ _ (agreed _ _ _ _ _ (sym c.check-agreement.ensures ∙ ap agreement_tells c.agreement-1.given.1))).first.given.valid.terms
+    (table_lent _ _ _ _ (agreed _ _ _ _ _ (sym c.check-agreement.ensures ∙ ap agreement_tells c.in-Accepted.is))).first.given.valid.terms
 
 pub returns-then-map-map_size : goal.returns-then-map-map_size
 unfolding short
 returns-then-map-map_size c =
-    let told = agreed _ _ _ _ _ (sym c.check-agreement.ensures ∙ ap agreement_tells c.agreement-1.given.1) in
+    let told = agreed _ _ _ _ _ (sym c.check-agreement.ensures ∙ ap agreement_tells c.in-Accepted.is) in
     too_short _ _ _ _ _ told (lt-ltb _ _ (rw c.map_size.ensures at c.if-map-map_size.true)) c.refused-then-map-map_size.ensures
 
 pub valued-answer-requires : goal.valued-answer-requires
 valued-answer-requires c =
-    (table_lent _ _ _ _ (agreed _ _ _ _ _ (sym c.check-agreement.ensures ∙ ap agreement_tells c.agreement-1.given.1))).first
+    (table_lent _ _ _ _ (agreed _ _ _ _ _ (sym c.check-agreement.ensures ∙ ap agreement_tells c.in-Accepted.is))).first
 
 pub fill-count-requires : goal.fill-count-requires
 fill-count-requires c =
-    let given = table_lent _ _ _ _ (agreed _ _ _ _ _ (sym c.check-agreement.ensures ∙ ap agreement_tells c.agreement-1.given.1)) in record {
+    let given = table_lent _ _ _ _ (agreed _ _ _ _ _ (sym c.check-agreement.ensures ∙ ap agreement_tells c.in-Accepted.is)) in record {
       valid = given.first.given.valid.terms;
       entries = omega (arith, given.room_table);
       words = omega (arith, c.map_size.ensures, c.if-map-map_size.false);
@@ -48,6 +48,6 @@ fill-count-requires c =
 pub returns : goal.returns
 unfolding short
 returns c =
-    let told = agreed _ _ _ _ _ (sym c.check-agreement.ensures ∙ ap agreement_tells c.agreement-1.given.1) in
+    let told = agreed _ _ _ _ _ (sym c.check-agreement.ensures ∙ ap agreement_tells c.in-Accepted.is) in
     let fill = c.fill-count.ensures in
-    filled_whole _ _ _ _ _ told (le-ltb _ _ (rw c.map_size.ensures at c.if-map-map_size.false)) c.valued-answer.ensures fill.0 fill.1
+    filled_whole _ _ _ _ _ told (le-ltb _ _ (rw c.map_size.ensures at c.if-map-map_size.false)) c.valued-answer.ensures fill.count fill.map_after

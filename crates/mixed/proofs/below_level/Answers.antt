@@ -2,11 +2,7 @@
 use lib.ListN.{set}
 use mathlib.Core.Path.{◌≡◌, refl, sym, ◌∙◌}
 use native.Mathlib.Omega.{arith}
-use Prim.Native.Nat.{◌+◌, ◌-◌, ◌≤◌}
-use Rattle.keys.specs.Sums.{sums}
-use Rattle.rules.specs.Operations.{behaviour_of}
 use Rattle.slices.specs.Stored.{stored, stored_push}
-use Rattle.worth.specs.Worth.{best_key}
 use Rattle.mixed.proofs.below_level.Goals as goal
 
 pub loop-j-init : goal.loop-j-init

@@ -1,8 +1,6 @@
 -- `mixed::copy_larger` meets its contract. Assumes nothing.
-use lib.ListN.{get_or}
 use mathlib.Core.Path.{◌≡◌, refl, sym, ◌∙◌}
 use native.Mathlib.Omega.{arith}
-use Prim.Native.Nat.{◌+◌, ◌-◌, ◌≤◌, max}
 use Rattle.slices.specs.Stored.{stored, stored_more}
 use Rattle.mixed.proofs.copy_larger.Goals as goal
 

@@ -1,9 +1,8 @@
 -- `mixed::copy_larger` meets its contract. Assumes nothing.
 use lib.ListN.{get_or}
-use mathlib.Core.Path.{◌≡◌, refl, sym, ◌∙◌}
-use native.Mathlib.Omega.{arith}
+use mathlib.Core.Path.{◌≡◌}
 use Prim.Native.Nat.{◌+◌, ◌-◌, ◌≤◌, max}
-use Rattle.slices.specs.Stored.{stored, stored_more}
+use Rattle.slices.specs.Stored.{stored}
 use Rattle.mixed.proofs.copy_larger.Given as goal
 
 abbrev pub invariant-loop-i : goal.invariant-loop-i

@@ -1,5 +1,4 @@
 -- `mixed::decide_block` meets its contract. Assumes nothing.
-use borrow.Author.Rules.{rules}
 use native.Mathlib.Omega.{arith}
 use Rattle.mixed.proofs.Laws.{both_parts}
 use Rattle.mixed.proofs.decide_block.Goals as goal

@@ -1,8 +1,6 @@
 -- `mixed::from_level` meets its contract. Assumes nothing.
-use borrow.Author.Rules.{rules}
 use mathlib.Core.Path.{◌≡◌, refl, ◌∙◌}
 use native.Mathlib.Omega.{arith}
-use Prim.Native.Nat.{◌+◌}
 use Rattle.mixed.proofs.Laws.{rest_room, rest_static, rest_mixed, rest_larger, copying}
 use Rattle.slices.specs.Stored.{stored_eq}
 use Rattle.mixed.proofs.from_level.Goals as goal
@@ -36,12 +34,11 @@ returns-then-w-level c =
     c.key-add.ensures.0 (omega arith) c.if-w-level.true)
 
 pub copy_larger-requires : goal.copy_larger-requires
-copy_larger-requires c =
-    (
-      copying c.requires.1 c.requires.2 c.less.ensures c.less-2.ensures c.place-at.ensures
-          (omega (arith, c.key-add.ensures.1)),
-      c.surrender_key.ensures.1,
-    )
+copy_larger-requires c = (
+  copying c.requires.1 c.requires.2 c.less.ensures c.less-2.ensures c.place-at.ensures
+      (omega (arith, c.key-add.ensures.1)),
+  c.surrender_key.ensures.1,
+)
 
 pub returns : goal.returns
 returns c =

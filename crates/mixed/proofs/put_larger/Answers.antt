@@ -1,5 +1,4 @@
 -- `mixed::put_larger` meets its contract. Assumes nothing.
-use borrow.Author.Rules.{rules}
 use lib.ListN.{set}
 use mathlib.Core.Path.{ap}
 use Prim.Native.Nat.{ℕ}

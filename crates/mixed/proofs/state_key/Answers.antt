@@ -2,7 +2,6 @@
 use Prim.Native.Nat.{◌-◌}
 use mathlib.Core.Path.{refl, ◌∙◌}
 use native.Mathlib.Omega.{arith}
-use borrow.Author.Rules.{rules}
 use Rattle.rules.specs.Date.{free_amount}
 use Rattle.mixed.proofs.Laws.{cell_in, cell_small, static_is, mixed_is, larger_is}
 use Rattle.mixed.proofs.state_key.Goals as goal
@@ -14,21 +13,17 @@ overflow_sub-a c = omega arith
 pub place-at-requires : goal.place-at-requires
 unfolding free_amount
 place-at-requires c =
-    let start = c in
-    let r = cell_in start.requires.1 c.less.result (start.args.a - c.free_amount-m.result) (omega arith) (omega arith) refl in
+    let r = cell_in c.requires.1 c.less.result (c.args.a - c.free_amount-m.result) (omega arith) (omega arith) refl in
     omega arith
 
 pub offset_bounds-work-at : goal.offset_bounds-work-at
 offset_bounds-work-at c =
-    let start = c in
-    let r = cell_in start.requires.1 c.less.result _ (omega arith) (omega arith) c.place-at.ensures in
+    let r = cell_in c.requires.1 c.less.result _ (omega arith) (omega arith) c.place-at.ensures in
     omega arith
 
 pub bounds-work-at : goal.bounds-work-at
 bounds-work-at c =
-    let placed = c in
-    let start = placed.before.before.before.before in
-    cell_in start.requires.1 placed.before.less.result _ (omega arith) (omega arith) placed.place.ensures
+    cell_in c.requires.1 c.less.result _ (omega arith) (omega arith) c.place-at.ensures
 
 pub overflow_mul-m : goal.overflow_mul-m
 unfolding free_amount
@@ -40,42 +35,32 @@ key-requires c = (omega arith, omega arith)
 
 pub overflow_add-stay : goal.overflow_add-stay
 overflow_add-stay c =
-    let placed = c in
-    let start = placed.before.before.before.before in
-    let r = cell_small start.requires.1 placed.before.less.result _ (omega arith) (omega arith) placed.place.ensures in
+    let r = cell_small c.requires.1 c.less.result _ (omega arith) (omega arith) c.place-at.ensures in
     omega arith
 
 pub returns-then-behaviour-eq0 : goal.returns-then-behaviour-eq0
 returns-then-behaviour-eq0 c =
-    let placed = c in
-    let start = placed.before.before.before.before in
-    let m_is = placed.before.before.free-amount.ensures in
-    let x_is = placed.before.less.ensures in
-    static_is _ _ start.requires.1 start.requires.2 m_is x_is placed.place.ensures c.key.ensures.0 c.if-behaviour-eq0.true
+    let m_is = c.free_amount-m.ensures in
+    let x_is = c.less.ensures in
+    static_is _ _ c.requires.1 c.requires.2 m_is x_is c.place-at.ensures c.key.ensures.0 c.if-behaviour-eq0.true
 
 pub returns-then-w-m : goal.returns-then-w-m
 returns-then-w-m c =
-    let placed = c in
-    let start = placed.before.before.before.before in
-    let m_is = placed.before.before.free-amount.ensures in
-    let x_is = placed.before.less.ensures in
+    let m_is = c.free_amount-m.ensures in
+    let x_is = c.less.ensures in
     let key_is = c.key.ensures.0 in
-    mixed_is _ _ start.requires.1 start.requires.2 m_is x_is placed.place.ensures key_is (omega arith) (omega arith)
+    mixed_is _ _ c.requires.1 c.requires.2 m_is x_is c.place-at.ensures key_is (omega arith) (omega arith)
 
 pub larger-requires : goal.larger-requires
 larger-requires c =
-    let placed = c in
-    let start = placed.before.before.before.before in
-    let r = cell_small start.requires.1 placed.before.less.result _ (omega arith) (omega arith) placed.place.ensures in
+    let r = cell_small c.requires.1 c.less.result _ (omega arith) (omega arith) c.place-at.ensures in
     (omega arith, c.surrender_key.ensures.1)
 
 pub returns : goal.returns
 returns c =
-    let placed = c in
-    let start = placed.before.before.before.before in
-    let m_is = placed.before.before.free-amount.ensures in
-    let x_is = placed.before.less.ensures in
+    let m_is = c.free_amount-m.ensures in
+    let x_is = c.less.ensures in
     let key_is = c.key.ensures.0 in
     let surrender_is = c.surrender_key.ensures.0 in
     c.larger.ensures
-    ∙ larger_is _ _ start.requires.1 start.requires.2 m_is x_is placed.place.ensures key_is (omega arith) (omega arith) surrender_is
+    ∙ larger_is _ _ c.requires.1 c.requires.2 m_is x_is c.place-at.ensures key_is (omega arith) (omega arith) surrender_is

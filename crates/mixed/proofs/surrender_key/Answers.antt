@@ -2,21 +2,18 @@
 use Prim.Native.Nat.{ℕ}
 use mathlib.Core.Path.{ap, ◌∙◌}
 use native.Mathlib.Omega.{arith}
-use borrow.Author.Rules.{rules}
 use Rattle.keys.specs.Key.{key}
 use Rattle.mixed.proofs.Laws.{cell_small, key_is}
 use Rattle.mixed.proofs.surrender_key.Goals as goal
 
 pub overflow_add-result : goal.overflow_add-result
 overflow_add-result c =
-    let placed = c in
-    let m = cell_small placed.before.before.requires 0 0 (omega arith) (omega arith) placed.place.ensures in
+    let m = cell_small c.requires 0 0 (omega arith) (omega arith) c.place-at.ensures in
     omega arith
 
 pub returns : goal.returns
 returns c =
-    let start = c in
     let place_is = c.place-at.ensures in
-    let m = cell_small start.requires 0 0 (omega arith) (omega arith) place_is in
-    let k = c.key.ensures.0 ∙ ap (λ (x : ℕ). key x start.args.w) c.cash.ensures.0 in
-    (key_is start.requires 0 0 (omega arith) (omega arith) place_is _ _ k, omega arith)
+    let m = cell_small c.requires 0 0 (omega arith) (omega arith) place_is in
+    let k = c.key.ensures.0 ∙ ap (λ (x : ℕ). key x c.args.w) c.cash.ensures.0 in
+    (key_is c.requires 0 0 (omega arith) (omega arith) place_is _ _ k, omega arith)

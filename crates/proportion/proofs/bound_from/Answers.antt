@@ -1,6 +1,6 @@
 -- `proportion::bound_from` meets its contract. Assumes nothing.
-use Rattle.std.proofs.Common.{◌≡◌, ℕ, ◌+◌, ◌-◌, min, Bool, cond, get_or, sym, refl, ap, ◌∙◌, arith, rules}
-use Rattle.proportion.specs.Share.{least_of, bound_of}
+use Rattle.std.proofs.Common.{ℕ, ◌+◌, ◌-◌, min, Bool, cond, get_or, sym, ap, ◌∙◌, arith}
+use Rattle.proportion.specs.Share.{least_of}
 use Rattle.proportion.proofs.bound_from.Goals as goal
 
 pub least-requires : goal.least-requires
@@ -15,10 +15,10 @@ returns-then-rising c =
     let least : ℕ → ℕ = least_of (λ i. get_or args.best.now (args.low + i) 0) in
     c.least.ensures
     ∙ ap least (c.less.ensures ∙ ap (λ (x : ℕ). x - args.low) c.smaller.ensures)
-    ∙ ap (λ (b : Bool). cond b (least (min args.end (args.low + 8) - args.low)) 0) (sym c.if-rising.taken)
+    ∙ ap (λ (b : Bool). cond b (least (min args.end (args.low + 8) - args.low)) 0) (sym c.if-rising.true)
 
 pub returns : goal.returns
 returns c =
     let args = c.args in
     let least : ℕ → ℕ = least_of (λ i. get_or args.best.now (args.low + i) 0) in
-    ap (λ (b : Bool). cond b (least (min args.end (args.low + 8) - args.low)) 0) (sym c.if-rising.left)
+    ap (λ (b : Bool). cond b (least (min args.end (args.low + 8) - args.low)) 0) (sym c.if-rising.false)

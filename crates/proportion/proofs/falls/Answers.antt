@@ -1,7 +1,6 @@
 -- `proportion::falls` meets its contract. Assumes nothing.
-use Rattle.std.proofs.Common.{◌≡◌, ℕ, ◌+◌, ◌-◌, ◌^◌, ◌<◌, ◌≤◌, get_or, refl, subst, arith}
+use Rattle.std.proofs.Common.{◌≡◌, ℕ, ◌+◌, ◌^◌, ◌<◌, get_or, refl, subst, arith}
 use Rattle.proportion.proofs.Rising.{falls_next}
-use Rattle.proportion.specs.Share.{Ascending}
 use Rattle.proportion.proofs.falls.Goals as goal
 
 pub loop-i-init : goal.loop-i-init

@@ -1,6 +1,5 @@
 -- `proportion::falls` meets its contract. Assumes nothing.
-use Rattle.std.proofs.Common.{◌≡◌, ℕ, ◌+◌, ◌-◌, ◌^◌, ◌<◌, ◌≤◌, get_or, refl, subst, arith}
-use Rattle.proportion.proofs.Rising.{falls_next}
+use Rattle.std.proofs.Common.{◌≡◌, ◌-◌, ◌≤◌}
 use Rattle.proportion.specs.Share.{Ascending}
 use Rattle.proportion.proofs.falls.Given as goal
 

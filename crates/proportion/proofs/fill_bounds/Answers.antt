@@ -1,6 +1,5 @@
 -- `proportion::fill_bounds` meets its contract. Assumes nothing.
-use Rattle.std.proofs.Common.{◌≡◌, ◌+◌, ◌-◌, ◌*◌, ◌≤◌, set, sym, refl, ◌∙◌, arith}
-use Rattle.proportion.specs.Share.{bound_of}
+use Rattle.std.proofs.Common.{◌≡◌, set, sym, refl, ◌∙◌, arith}
 use Rattle.slices.specs.Stored.{stored, stored_push}
 use Rattle.proportion.proofs.fill_bounds.Goals as goal
 

@@ -1,5 +1,5 @@
 -- `proportion::lead` meets its contract. Assumes nothing.
-use Rattle.std.proofs.Common.{ℕ, ◌-◌, ◌*◌, refl, ap, ◌∙◌, arith, rules}
+use Rattle.std.proofs.Common.{ℕ, ◌-◌, ◌*◌, refl, ap, ◌∙◌, arith}
 use Rattle.keys.specs.Key.{key}
 use Rattle.proportion.proofs.lead.Goals as goal
 

@@ -1,6 +1,5 @@
 -- `proportion::least` meets its contract. Assumes nothing.
-use Rattle.std.proofs.Common.{◌≡◌, ℕ, ◌+◌, ◌-◌, ◌≤◌, min, get_or, ap, ◌∙◌, arith, rules}
-use Rattle.proportion.proofs.Bounds.{least_none, least_next}
+use Rattle.std.proofs.Common.{◌≡◌, ◌+◌, ◌-◌, ◌≤◌, get_or}
 use Rattle.proportion.specs.Share.{least_of}
 use Rattle.proportion.proofs.least.Given as goal
 

@@ -1,8 +1,6 @@
 -- `proportion::offer_share` meets its contract. Assumes nothing.
-use Rattle.std.proofs.Common.{◌≡◌, ℕ, ◌+◌, ◌-◌, ◌*◌, ◌/◌, ◌≤◌, max, get_or, set, sym, refl, ap, ◌∙◌, mul-le-mul_right, arith}
+use Rattle.std.proofs.Common.{◌≡◌, ℕ, ◌+◌, ◌/◌, ◌≤◌, max, get_or, sym, refl, ap, ◌∙◌, mul-le-mul_right, arith}
 use Rattle.proportion.specs.Offers.{raised}
-use Rattle.proportion.specs.Held.{raised_to}
-use Rattle.proportion.specs.Share.{left}
 use Rattle.slices.specs.Stored.{stored}
 use Rattle.proportion.proofs.offer_share.Goals as goal
 

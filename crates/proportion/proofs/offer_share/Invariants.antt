@@ -1,9 +1,7 @@
 -- `proportion::offer_share` meets its contract. Assumes nothing.
-use Rattle.std.proofs.Common.{◌≡◌, ℕ, ◌+◌, ◌-◌, ◌*◌, ◌/◌, ◌≤◌, max, get_or, set, sym, refl, ap, ◌∙◌, mul-le-mul_right, arith}
-use Rattle.proportion.specs.Offers.{raised}
+use Rattle.std.proofs.Common.{◌≡◌, ◌+◌, ◌-◌, ◌*◌, ◌≤◌, get_or}
 use Rattle.proportion.specs.Held.{raised_to}
 use Rattle.proportion.specs.Share.{left}
-use Rattle.slices.specs.Stored.{stored}
 use Rattle.proportion.proofs.offer_share.Given as goal
 
 abbrev pub invariant-loop-i : goal.invariant-loop-i

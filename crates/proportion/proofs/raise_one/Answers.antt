@@ -1,5 +1,5 @@
 -- `proportion::raise_one` meets its contract. Assumes nothing.
-use Rattle.std.proofs.Common.{ℕ, set, sym, ap, ◌∙◌, le_of_lt, rules}
+use Rattle.std.proofs.Common.{ℕ, set, sym, ap, ◌∙◌, le_of_lt}
 use lib.Seq.{set-get_or}
 use native.Mathlib.Nat.{max-eq_left, max-eq_right}
 use Rattle.proportion.proofs.raise_one.Goals as goal

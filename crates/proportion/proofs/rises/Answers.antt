@@ -1,5 +1,5 @@
 -- `proportion::rises` meets its contract. Assumes nothing.
-use Rattle.std.proofs.Common.{◌≡◌, ℕ, ◌+◌, ◌-◌, ◌*◌, ◌^◌, ◌<◌, ◌≤◌, T, get_or, sym, refl, subst, arith, eqb→eq, rules}
+use Rattle.std.proofs.Common.{◌≡◌, ℕ, ◌+◌, ◌*◌, ◌^◌, ◌<◌, T, get_or, sym, refl, subst, arith, eqb→eq}
 use Rattle.proportion.proofs.Rising.{rising_none, rising_next, row_ascends, row_rises}
 use Rattle.proportion.specs.Share.{Rising}
 use Rattle.keys.specs.Sums.{sum_in, sum_small}
@@ -29,9 +29,9 @@ falls-requires c =
     let e = c.less-steps.ensures in (
       omega (arith, pre.width),
       λ i l. (
-        omega (arith, pre.level-is),
+        omega (arith, pre.level_is),
         let at : d.base + (x * s + i) ≡ d.base + x * s + i = omega arith in
-            let few = sum_small pre x i taken (omega (arith, pre.level-is)) in
+            let few = sum_small pre x i taken (omega (arith, pre.level_is)) in
             subst (λ (y : ℕ). get_or args.work.now y 0 < 2 ^ 63) at (omega arith),
       ),
     )

@@ -1,8 +1,6 @@
 -- `proportion::rises` meets its contract. Assumes nothing.
-use Rattle.std.proofs.Common.{◌≡◌, ℕ, ◌+◌, ◌-◌, ◌*◌, ◌^◌, ◌<◌, ◌≤◌, T, get_or, sym, refl, subst, arith, eqb→eq, rules}
-use Rattle.proportion.proofs.Rising.{rising_none, rising_next, row_ascends, row_rises}
+use Rattle.std.proofs.Common.{◌≡◌, ◌-◌, ◌*◌, ◌≤◌}
 use Rattle.proportion.specs.Share.{Rising}
-use Rattle.keys.specs.Sums.{sum_in, sum_small}
 use Rattle.slices.specs.Rows.{cells}
 use Rattle.proportion.proofs.rises.Given as goal
 

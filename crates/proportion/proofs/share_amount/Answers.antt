@@ -1,9 +1,9 @@
 -- `proportion::share_amount` meets its contract. Assumes nothing.
-use Rattle.std.proofs.Common.{◌≡◌, ℕ, ◌+◌, ◌-◌, ◌*◌, ◌≤◌, min, length, get_or, sym, refl, ap, ◌∙◌, arith}
+use Rattle.std.proofs.Common.{◌≡◌, ℕ, ◌-◌, ◌*◌, min, length, sym, ap, ◌∙◌, arith}
 use Rattle.proportion.proofs.Bounds.{bounds_all}
 use Rattle.proportion.proofs.Parts.{part_bounded, part_raised, part_running, raised_none}
 use Rattle.proportion.proofs.Share.{way_last, way_passed}
-use Rattle.proportion.specs.Held.{key_at, raised_to}
+use Rattle.proportion.specs.Held.{key_at}
 use Rattle.slices.specs.Stored.{length_stored}
 use Rattle.proportion.proofs.share_amount.Goals as goal
 

@@ -1,10 +1,9 @@
 -- `proportion::share_block` meets its contract. Assumes nothing.
-use Rattle.std.proofs.Common.{◌≡◌, ℕ, ◌+◌, ◌-◌, ◌≤◌, min, sym, refl, ap, ◌∙◌, arith, rules}
-use native.Mathlib.Nat.{max-eq_right}
+use Rattle.std.proofs.Common.{ℕ, min, sym, ap, ◌∙◌, arith}
 use Rattle.proportion.specs.Offers.{held_as}
 use Rattle.proportion.proofs.Amount.{above_from, none_above}
 use Rattle.proportion.specs.Tried.{below_all, below_same}
-use Rattle.proportion.specs.Held.{Held, key_at, tried_below}
+use Rattle.proportion.specs.Held.{tried_below}
 use Rattle.proportion.proofs.share_block.Goals as goal
 
 pub overflow_add-s : goal.overflow_add-s

@@ -1,9 +1,5 @@
 -- `proportion::share_block` meets its contract. Assumes nothing.
-use Rattle.std.proofs.Common.{◌≡◌, ℕ, ◌+◌, ◌-◌, ◌≤◌, min, sym, refl, ap, ◌∙◌, arith, rules}
-use native.Mathlib.Nat.{max-eq_right}
-use Rattle.proportion.specs.Offers.{held_as}
-use Rattle.proportion.proofs.Amount.{above_from, none_above}
-use Rattle.proportion.specs.Tried.{below_all, below_same}
+use Rattle.std.proofs.Common.{◌+◌, ◌-◌, ◌≤◌, min}
 use Rattle.proportion.specs.Held.{Held, key_at, tried_below}
 use Rattle.proportion.proofs.share_block.Given as goal
 

@@ -1,5 +1,5 @@
 -- `proportion::share_few` meets its contract. Assumes nothing.
-use Rattle.std.proofs.Common.{◌≡◌, ◌-◌, sym, arith, rules}
+use Rattle.std.proofs.Common.{◌≡◌, ◌-◌, sym, arith}
 use Rattle.proportion.proofs.Parts.{raised_none}
 use Rattle.proportion.proofs.Share.{way_last, way_sharing, way_raised, way_passed}
 use Rattle.proportion.proofs.share_few.Goals as goal

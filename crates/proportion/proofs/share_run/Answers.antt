@@ -1,5 +1,5 @@
 -- `proportion::share_run` meets its contract. Assumes nothing.
-use Rattle.std.proofs.Common.{◌≡◌, ℕ, ◌+◌, ◌-◌, ◌<◌, ◌≤◌, get_or, sym, refl, ap, ◌∙◌, arith, rules}
+use Rattle.std.proofs.Common.{◌≡◌, ℕ, ◌+◌, ◌<◌, ◌≤◌, sym, refl, ap, ◌∙◌, arith}
 use Rattle.proportion.proofs.Bounds.{bounds_are, bounds_le}
 use Rattle.proportion.specs.Offers.{held_as}
 use Rattle.proportion.proofs.Amount.{amount_tried, held_more, level_free}
@@ -7,8 +7,8 @@ use Rattle.proportion.proofs.Share.{way_room, way_step}
 use Rattle.proportion.proofs.Step.{shared_on, shared_some}
 use Rattle.proportion.proofs.Runs.{run_start, run_end}
 use Rattle.proportion.specs.declared.Run.{Run}
-use Rattle.proportion.specs.Held.{Held, key_at, tried_below}
-use Rattle.proportion.specs.Share.{Running, Shared, tried_run}
+use Rattle.proportion.specs.Held.{tried_below}
+use Rattle.proportion.specs.Share.{Running, tried_run}
 use Rattle.proportion.proofs.share_run.Goals as goal
 
 pub overflow_add-low : goal.overflow_add-low
@@ -33,7 +33,7 @@ lead-to-requires c =
     let upto : d.level ≤ s.w = omega (arith, pre.5) in
     let room = way_room pre.0 upto in
     let step = way_step pre.0 d.level (omega (arith, pre.5)) in
-    (omega arith, step, upto, omega (arith, pre.0.layers.few), pre.0.layers.rate-is, refl)
+    (omega arith, step, upto, omega (arith, pre.0.layers.few), pre.0.layers.rate_is, refl)
 
 pub loop-to-init : goal.loop-to-init
 loop-to-init c =

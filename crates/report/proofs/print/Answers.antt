@@ -28,7 +28,7 @@ returns-then-a-ne0 c =
         (
           w.kept _ (le_refl _),
           (
-            told.reported.work-is
+            told.reported.work_is
                 ∙ work_left_lem bytes₀ list₀ 0 _ _ (omega arith) long long_table
                 ∙ work_kept bytes₀ list₀ no-to static dynamic _,
             (
@@ -73,9 +73,9 @@ returns c =
     let dynamics = valued bytes₀ list₀ 2 _ _ _ _ (omega arith) long₂ room₂ yes_to told₂.reported.answer_is
     told₂.reported.table_is in
     let w = put_then c.value_lines-at.ensures c.all_lines.ensures in
-    let one = told₀.reported.work-is ∙ work_left_lem bytes₀ list₀ 0 _ _ (omega arith) long₀ room₀ in
+    let one = told₀.reported.work_is ∙ work_left_lem bytes₀ list₀ 0 _ _ (omega arith) long₀ room₀ in
     let two =
-    told₁.reported.work-is
+    told₁.reported.work_is
     ∙ work_left_lem bytes₀ list₀ 1 _ _ (omega arith) long₁ room₁
     ∙ ap (work_left bytes₀ list₀ mixed) one
     ∙ work_again bytes₀ list₀ static mixed _ in (
@@ -85,7 +85,7 @@ returns c =
         (
           w.kept _ (le_refl _),
           (
-            told₂.reported.work-is
+            told₂.reported.work_is
                 ∙ work_left_lem bytes₀ list₀ 2 _ _ (omega arith) long₂ room₂
                 ∙ ap (work_left bytes₀ list₀ dynamic) two
                 ∙ work_again bytes₀ list₀ mixed dynamic _,

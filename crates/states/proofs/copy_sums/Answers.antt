@@ -3,7 +3,7 @@ use lib.ListN.{get_or, length}
 use mathlib.Core.Logic.{inr}
 use mathlib.Core.Path.{◌≡◌, refl, sym, ap, ◌∙◌}
 use native.Mathlib.Omega.{arith}
-use Prim.Native.Nat.{◌+◌, ◌-◌, ◌/◌, ◌≤◌}
+use Prim.Native.Nat.{◌+◌, ◌/◌}
 use Rattle.slices.specs.Stored.{stored, stored_more, stored_out, length_stored}
 use Rattle.states.proofs.copy_sums.Goals as goal
 
@@ -16,9 +16,6 @@ offset_bounds-work-at c = omega (arith, ap length c.loop-j.invariant.1 ∙ lengt
 
 pub bounds-work-at : goal.bounds-work-at
 bounds-work-at c = omega (arith, ap length c.loop-j.invariant.1 ∙ length_stored _ _ _ _)
-
-pub overflow_add-work-in-loop-j : goal.overflow_add-work-in-loop-j
-overflow_add-work-in-loop-j c = omega (arith, c.slice_known-1.given (c.args.at + c.loop-j.j))
 
 pub offset_bounds-work-to : goal.offset_bounds-work-to
 offset_bounds-work-to c = omega (arith, ap length c.loop-j.invariant.1 ∙ length_stored _ _ _ _)

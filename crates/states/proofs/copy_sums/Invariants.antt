@@ -1,10 +1,8 @@
 -- `states::copy_sums` meets its contract. Assumes nothing.
-use lib.ListN.{get_or, length}
-use mathlib.Core.Logic.{inr}
-use mathlib.Core.Path.{◌≡◌, refl, sym, ap, ◌∙◌}
-use native.Mathlib.Omega.{arith}
+use lib.ListN.{get_or}
+use mathlib.Core.Path.{◌≡◌}
 use Prim.Native.Nat.{◌+◌, ◌-◌, ◌/◌, ◌≤◌}
-use Rattle.slices.specs.Stored.{stored, stored_more, stored_out, length_stored}
+use Rattle.slices.specs.Stored.{stored}
 use Rattle.states.proofs.copy_sums.Given as goal
 
 abbrev pub invariant-loop-j : goal.invariant-loop-j

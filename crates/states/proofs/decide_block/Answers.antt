@@ -1,5 +1,4 @@
 -- `states::decide_block` meets its contract. Assumes nothing.
-use borrow.Author.Rules.{rules}
 use Rattle.keys.specs.Sums.{sums}
 use Rattle.rules.specs.Operations.{behaviour_of}
 use Rattle.states.proofs.Blocks.{block_decided, key_holds_value, key_holds_amount}

@@ -1,10 +1,9 @@
 -- `states::decide_down` meets its contract. Assumes nothing.
-use lib.ListN.{length}
 use mathlib.Core.Logic.{inl, inr}
 use mathlib.Core.Path.{◌≡◌, refl, ap, sym, ◌∙◌, subst}
 use native.Mathlib.Nat.{le_trans, zero-mul}
 use native.Mathlib.Omega.{arith}
-use Prim.Native.Nat.{ℕ, ◌+◌, ◌-◌, ◌*◌, ◌≤◌}
+use Prim.Native.Nat.{ℕ, ◌-◌, ◌*◌}
 use Rattle.keys.specs.Sums.{sums}
 use Rattle.rules.specs.Operations.{behaviour_of}
 use Rattle.slices.specs.Rows.{rows_before, rows_le}

@@ -1,21 +1,17 @@
 -- `states::decide_down` meets its contract. Assumes nothing.
 use lib.ListN.{length}
-use mathlib.Core.Logic.{inl, inr}
-use mathlib.Core.Path.{◌≡◌, refl, ap, sym, ◌∙◌, subst}
-use native.Mathlib.Nat.{le_trans, zero-mul}
-use native.Mathlib.Omega.{arith}
-use Prim.Native.Nat.{ℕ, ◌+◌, ◌-◌, ◌*◌, ◌≤◌}
+use Prim.Native.Nat.{◌*◌, ◌≤◌}
 use Rattle.keys.specs.Sums.{sums}
 use Rattle.rules.specs.Operations.{behaviour_of}
-use Rattle.slices.specs.Rows.{rows_before, rows_le}
-use Rattle.states.proofs.Blocks.{decided_none, decided_join}
-use Rattle.states.proofs.Layer.{ready_down, ready_kept, sums_left}
 use Rattle.states.specs.Decided.{Decided}
 use Rattle.states.proofs.decide_down.Given as goal
 
 abbrev pub invariant-loop-w : goal.invariant-loop-w
 invariant-loop-w l =
-    (l.w ≤ l.n) × Decided (behaviour_of 2) (sums l.initial.work l.d) l.initial.work l.initial.table l.work l.table l.d (l.w * l.d.stride) (l.n * l.d.stride) × (512 ≤ length l.best)
+    (l.w ≤ l.n)
+    × Decided (behaviour_of 2) (sums l.initial.work l.d) l.initial.work l.initial.table l.work l.table l.d
+    (l.w * l.d.stride) (l.n * l.d.stride)
+    × (512 ≤ length l.best)
 
 abbrev pub decreases-loop-w : goal.decreases-loop-w
 decreases-loop-w l = l.w

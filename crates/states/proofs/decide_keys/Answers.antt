@@ -1,5 +1,4 @@
 -- `states::decide_keys` meets its contract. Assumes nothing.
-use borrow.Author.Rules.{rules}
 use mathlib.Core.Path.{ap, sym, ◌∙◌}
 use Prim.Native.Nat.{◌+◌}
 use Rattle.keys.specs.Sums.{sums}

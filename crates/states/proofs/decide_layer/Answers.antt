@@ -1,5 +1,4 @@
 -- `states::decide_layer` meets its contract. Assumes nothing.
-use borrow.Author.Rules.{rules}
 use native.Mathlib.Omega.{arith}
 use Rattle.states.proofs.Layer.{decided_all, prepared_layers, prepared_row}
 use Rattle.states.proofs.decide_layer.Goals as goal

@@ -1,5 +1,4 @@
 -- `states::decide_next` meets its contract. Assumes nothing.
-use borrow.Author.Rules.{rules}
 use Rattle.rules.specs.Operations.{behaviour_of}
 use Rattle.states.proofs.decide_next.Goals as goal
 

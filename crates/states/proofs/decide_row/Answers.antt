@@ -1,21 +1,17 @@
 -- `states::decide_row` meets its contract. Assumes nothing.
-use lib.ListN.{length}
 use mathlib.Core.Logic.{inl, inr}
 use mathlib.Core.Path.{◌≡◌, refl}
 use native.Mathlib.Omega.{arith}
-use Prim.Native.Nat.{ℕ, ◌+◌, ◌-◌, ◌*◌, ◌≤◌}
-use Rattle.keys.specs.Sums.{sums, row_in}
-use Rattle.rules.specs.Operations.{behaviour_of}
+use Rattle.keys.specs.Sums.{row_in}
 use Rattle.states.proofs.Blocks.{decided_none, decided_join}
 use Rattle.states.proofs.Layer.{ready_kept, sums_left}
-use Rattle.states.specs.Decided.{Decided}
 use Rattle.states.proofs.decide_row.Goals as goal
 
 pub loop-from-init : goal.loop-from-init
 loop-from-init c = (omega arith, decided_none (omega arith), c.requires.1)
 
 pub block_length-n-requires : goal.block_length-n-requires
-block_length-n-requires c = (omega arith, c.requires.0.layers.level-is)
+block_length-n-requires c = (omega arith, c.requires.0.layers.level_is)
 
 pub decide_next-requires : goal.decide_next-requires
 decide_next-requires c =

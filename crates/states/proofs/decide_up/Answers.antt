@@ -1,16 +1,11 @@
 -- `states::decide_up` meets its contract. Assumes nothing.
-use lib.ListN.{length}
 use mathlib.Core.Logic.{inl, inr}
-use mathlib.Core.Path.{◌≡◌, refl, ap, sym, ◌∙◌}
+use mathlib.Core.Path.{◌≡◌, refl, sym}
 use native.Mathlib.Nat.{le_trans, le_of_eq, zero-mul}
 use native.Mathlib.Omega.{arith}
-use Prim.Native.Nat.{ℕ, ◌+◌, ◌-◌, ◌*◌, ◌≤◌}
-use Rattle.keys.specs.Sums.{sums}
-use Rattle.rules.specs.Operations.{behaviour_of}
 use Rattle.slices.specs.Rows.{rows_step, rows_le}
 use Rattle.states.proofs.Blocks.{decided_none, decided_join}
 use Rattle.states.proofs.Layer.{ready_up, sums_left}
-use Rattle.states.specs.Decided.{Decided}
 use Rattle.states.proofs.decide_up.Goals as goal
 
 pub loop-w-init : goal.loop-w-init

@@ -1,9 +1,7 @@
 -- `states::fill_level` meets its contract. Assumes nothing.
-use lib.ListN.{length}
-use mathlib.Core.Path.{◌≡◌, refl, sym, ap, ◌∙◌}
-use native.Mathlib.Omega.{arith}
-use Prim.Native.Nat.{◌+◌, ◌-◌, ◌≤◌}
-use Rattle.slices.specs.Stored.{stored, stored_more, length_stored}
+use mathlib.Core.Path.{◌≡◌}
+use Prim.Native.Nat.{◌-◌, ◌≤◌}
+use Rattle.slices.specs.Stored.{stored}
 use Rattle.states.proofs.fill_level.Given as goal
 
 abbrev pub invariant-loop-j : goal.invariant-loop-j

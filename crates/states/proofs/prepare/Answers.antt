@@ -1,5 +1,4 @@
 -- `states::prepare` meets its contract. Assumes nothing.
-use borrow.Author.Rules.{rules}
 use Rattle.states.proofs.Layer.{prepared_further}
 use Rattle.states.proofs.prepare.Goals as goal
 

@@ -1,6 +1,5 @@
 -- `states::static_block` meets its contract. Assumes nothing.
-use borrow.Author.Rules.{rules}
-use mathlib.Core.Path.{◌≡◌, refl, ap, ◌∙◌}
+use mathlib.Core.Path.{refl, ap, ◌∙◌}
 use native.Mathlib.Omega.{arith}
 use Prim.Native.Nat.{ℕ, ◌+◌, ◌-◌, ◌*◌}
 use Rattle.keys.specs.Sums.{sums}
@@ -22,7 +21,7 @@ copy_sums-requires c =
     let s = c.args.s in
     let at_is = c.place-sums.ensures ∙ ap (λ (x : ℕ). d.base + (x * d.stride + (s.from - d.level))) c.less.ensures in
     let room = static_room c.requires.0 c.requires.1 at_is in
-    (room.0, room.1, omega (arith, c.requires.0.layers.level-is, c.requires.0.layers.width))
+    (room.0, room.1, omega (arith, c.requires.0.layers.level_is, c.requires.0.layers.width))
 
 pub returns : goal.returns
 returns c =

@@ -1,8 +1,7 @@
 -- `states::take_values` meets its contract. Assumes nothing.
-use lib.ListN.{get_or, length}
+use lib.ListN.{length}
 use mathlib.Core.Path.{◌≡◌, refl, sym, ap, ◌∙◌}
 use native.Mathlib.Omega.{arith}
-use Prim.Native.Nat.{◌+◌, ◌-◌, ◌/◌, ◌≤◌}
 use Rattle.slices.specs.Stored.{stored, stored_more, length_stored}
 use Rattle.states.proofs.take_values.Goals as goal
 

@@ -1,9 +1,8 @@
 -- `states::take_values` meets its contract. Assumes nothing.
-use lib.ListN.{get_or, length}
-use mathlib.Core.Path.{◌≡◌, refl, sym, ap, ◌∙◌}
-use native.Mathlib.Omega.{arith}
-use Prim.Native.Nat.{◌+◌, ◌-◌, ◌/◌, ◌≤◌}
-use Rattle.slices.specs.Stored.{stored, stored_more, length_stored}
+use lib.ListN.{get_or}
+use mathlib.Core.Path.{◌≡◌}
+use Prim.Native.Nat.{◌-◌, ◌/◌, ◌≤◌}
+use Rattle.slices.specs.Stored.{stored}
 use Rattle.states.proofs.take_values.Given as goal
 
 abbrev pub invariant-loop-j : goal.invariant-loop-j

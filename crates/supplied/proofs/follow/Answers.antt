@@ -21,34 +21,25 @@ fill_maturity-requires c =
 pub follow_dates-requires : goal.follow_dates-requires
 unfolding layer_size
 follow_dates-requires c =
-    let start = c in
-    let pre = start.requires in
+    let pre = c.requires in
     let sorted = part_sorted c.sort-count.ensures in
-    starting start.args.work.now pre.given sorted pre.room pre.entries pre.none_bad
+    starting c.args.work.now pre.given sorted pre.room pre.entries pre.none_bad
     c.fill_maturity.ensures
 
--- the first layer then holds the table's values of date 1
-valued-first : (c : tie.After-follow-dates)
-    → let args = c.args in
-    First (table_on (terms_in args.c) (returns_of args.list.now) (rates_of args.rates.now) args.table.now 1) (terms_in args.c)
-    args.work.now c.follow_dates.new.0
-unfolding layer_size
-valued-first c =
-    let sorted = part_sorted c.sort-count.ensures in
-    first_from_lem _ c.fill_maturity.ensures
-    (of_the_list _ c.args.table.now sorted.same c.follow_dates.ensures)
-
 pub settle-requires : goal.settle-requires
+unfolding layer_size
 settle-requires c =
-    let start = c in
-    let pre = start.pre in
-    settling pre.given pre.room (valued-first c)
-    (λ w a.
-    table_on_most _ _ start.args.table.now pre.given.valid pre.none_bad 1 w a (omega arith)
-    pre.given.valid.terms.dates_least)
+    let table₀ = c.args.table.now in
+    let pre = c.requires in
+    let sorted = part_sorted c.sort-count.ensures in
+    let valued = first_from_lem _ c.fill_maturity.ensures (of_the_list _ table₀ sorted.same c.follow_dates.ensures) in
+    settling pre.given pre.room valued
+    (λ w a. table_on_most _ _ table₀ pre.given.valid pre.none_bad 1 w a (omega arith) pre.given.valid.terms.dates_least)
 
 pub returns : goal.returns
+unfolding layer_size
 returns c =
     let pre = c.requires in
-    answered_accepted _ _ pre.room (pre.given.valid.rates.rate 0)
-    (valued-first c) c.settle.ensures
+    let sorted = part_sorted c.sort-count.ensures in
+    let valued = first_from_lem _ c.fill_maturity.ensures (of_the_list _ c.args.table.now sorted.same c.follow_dates.ensures) in
+    answered_accepted _ _ pre.room (pre.given.valid.rates.rate 0) valued c.settle.ensures

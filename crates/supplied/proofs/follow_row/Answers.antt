@@ -62,44 +62,20 @@ bounds-layer-i c =
     omega arith
 
 -- the amount that is followed
-amount-is : (c : tie.After-wide16 invariant-loop decreases-loop)
-    → c.wide16-t.result
-    ≡ cells c.args.layer.now 0
-    c.args.d.stride
-    c.args.w
-    c.loop-a.a
-amount-is c =
-    let args = c.args in
-    c.wide16-t.ensures.0
-    ∙ ap (λ (i : ℕ). get_or args.layer.now i 0) (sym (zero-add (args.w * args.d.stride + c.loop-a.a)))
+amount_is : (layer : List ℕ) (stride w a : ℕ) {t : ℕ} → t ≡ get_or layer (w * stride + a) 0 → t ≡ cells layer 0 stride w a
+amount_is layer stride w a e = e ∙ ap (λ (i : ℕ). get_or layer i 0) (sym (zero-add (w * stride + a)))
 
 pub worth-requires : goal.worth-requires
 worth-requires c =
     let args = c.args in
     let pre = c.requires in
     let loop = c.loop-a in
-    let taken = c.loop-a-test.true in (
+    let taken = c.loop-a-test.true in
+    let amount = amount_is args.layer.now args.d.stride args.w loop.a c.wide16-t.ensures.0 in (
       rw loop.invariant.1 (row_layers args.w pre _ loop.a loop.invariant.0),
       taken,
-      le_trans (le_of_eq (amount-is c)) (amount_within args.w pre loop.a taken),
+      le_trans (le_of_eq amount) (amount_within args.w pre loop.a taken),
     )
-
-value-is : (c : tie.After-worth invariant-loop decreases-loop)
-    → c.worth.result
-    ≡ followed_on c.args.d
-    c.args.work.now
-    c.args.layer.now
-    c.args.w
-    c.loop-a.a
-value-is c =
-    let args = c.args in
-    let pre = c.requires in
-    let loop = c.loop-a in
-    let a' = loop.a in
-    let kept = ap (λ (xs : List ℕ). sums xs args.d) loop.invariant.1 ∙ row_sums args.w pre _ a' loop.invariant.0 in
-    c.worth.ensures
-    ∙ ap₂ (λ (e : ℕ → ℕ → ℕ) (t : ℕ). worth_over e args.d.rate (free_amount args.d.level a') args.w a' t) kept
-    (amount-is c)
 
 pub offset_bounds-work-i : goal.offset_bounds-work-i
 offset_bounds-work-i c =
@@ -130,8 +106,15 @@ bounds-work-i c =
 pub loop-a-preserved : goal.loop-a-preserved
 loop-a-preserved c =
     let args = c.args in
+    let pre = c.requires in
     let loop = c.loop-a in
-    (omega arith, (λ i. set (loop.invariant.1 i) (args.w * args.d.stride + loop.a) (value-is c i)) ∙ stored_next _ _ _ _)
+    let a' = loop.a in
+    let kept = ap (λ (xs : List ℕ). sums xs args.d) loop.invariant.1 ∙ row_sums args.w pre _ a' loop.invariant.0 in
+    let value =
+    c.worth.ensures
+    ∙ ap₂ (λ (e : ℕ → ℕ → ℕ) (t : ℕ). worth_over e args.d.rate (free_amount args.d.level a') args.w a' t) kept
+    (amount_is args.layer.now args.d.stride args.w a' c.wide16-t.ensures.0) in
+    (omega arith, (λ i. set (loop.invariant.1 i) (args.w * args.d.stride + a') (value i)) ∙ stored_next _ _ _ _)
 
 pub shape_of-work : goal.shape_of-work
 shape_of-work c = ap length c.loop-a.invariant.1 ∙ length_stored _ _ _ _

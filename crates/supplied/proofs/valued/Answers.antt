@@ -61,35 +61,24 @@ returns-then-bad-c c =
     (sym (ap (λ (x : ℕ). ltb x size) first-bad.ensures) ∙ lt-ltb _ _ c.if-bad-c.true))
     (c.refused-then-bad-c.ensures ∙ ap (λ (x : ℕ). refusal 14 x) first-bad.ensures)
 
--- both slices are long enough, and no entry is bad
-module _ (c : tie.Else2) where
-  abbrev start : tie.Start
-  start = c
-
-  long : (short (2 * layer_size (terms_in start.args.c)) start.args.work.now
-      || short (table_size (terms_in start.args.c)) start.args.table.now)
-      ≡ false
-  long = sym c.too_short.ensures ∙ c.if-too_short.false
-
-  room : (layer_size (terms_in start.args.c) + layer_size (terms_in start.args.c) ≤ length start.args.work.now)
-      × (table_size (terms_in start.args.c) ≤ length start.args.table.now)
-  room = lent_room (terms_in start.args.c) (returns_of start.args.list.now) (rates_of start.args.rates.now)
-      start.args.work.now start.args.table.now long
-
-  none : table_size (terms_in start.args.c)
-      ≤ first (bad_in (terms_in start.args.c) start.args.table.now) (table_size (terms_in start.args.c))
-  unfolding layer_size table_size
-  none = rw (sym c.first_bad-bad.ensures) c.if-bad-c.false
-
 pub follow-requires : goal.follow-requires
+unfolding layer_size table_size
 follow-requires c =
-    let held = c in
-    record { given = (start held).requires; room = (room held).0; entries = (room held).1; none_bad = none held }
+    let args = c.args in
+    let room = lent_room (terms_in args.c) (returns_of args.list.now) (rates_of args.rates.now) args.work.now args.table.now
+    (sym c.too_short.ensures ∙ c.if-too_short.false) in record {
+      given = c.requires;
+      room = room.0;
+      entries = room.1;
+      none_bad = rw (sym c.first_bad-bad.ensures) c.if-bad-c.false;
+    }
 
 pub returns : goal.returns
+unfolding layer_size table_size
 returns c =
-    let held = c in
-    let args = (start held).args in
+    let args = c.args in
+    let none : table_size (terms_in args.c) ≤ first (bad_in (terms_in args.c) args.table.now) (table_size (terms_in args.c)) =
+    rw (sym c.first_bad-bad.ensures) c.if-bad-c.false in
     answered_by (table_accepted (terms_in args.c) (returns_of args.list.now) (rates_of args.rates.now) args.work.now
-    args.table.now (long held) (le-ltb _ _ (none held)))
+    args.table.now (sym c.too_short.ensures ∙ c.if-too_short.false) (le-ltb _ _ none))
     c.follow.ensures

@@ -1,10 +1,7 @@
 -- `supplied::worth` meets its contract. Assumes nothing.
-use Prim.Native.Nat.{ℕ, ◌+◌, ◌/◌, ◌≤◌, ◌<◌}
-use borrow.Author.Rules.{rules}
-use lib.ListN.{length, get_or}
-use mathlib.Core.Path.{◌≡◌, ap, ap₂, ◌∙◌}
+use Rattle.std.proofs.Common.{List, ℕ, ◌+◌, ◌/◌, ◌≤◌, ◌≡◌, get_or, arith, ap, ap₂, ◌∙◌}
 use native.Mathlib.Nat.{le_trans, le_of_eq, sub-le}
-use native.Mathlib.Omega.{arith}
+use Rattle.keys.specs.declared.Date.{Date}
 use Rattle.keys.specs.Sums.{sums}
 use Rattle.laws.specs.Date.{guarantee_le}
 use Rattle.rules.specs.Date.{cash, balance_after, guarantee_after}
@@ -12,57 +9,47 @@ use Rattle.worth.specs.Worth.{worth_over}
 use Rattle.supplied.proofs.Laws.{sum_within, sum_most_lem, amount_most_lem}
 use Rattle.supplied.proofs.worth.Goals as goal
 
-left : (c : tie.After-balance-after)
-    → (c.balance_after.result ≤ c.args.w)
-    × (c.guarantee_after-g.result ≤ c.args.a)
+-- what is left of the account and of the guarantee
+balance_left : {b : ℕ} (w t : ℕ) → b ≡ balance_after w t → b ≤ w
 unfolding balance_after
-left c =
-    let args = c.args in
-    let g = guarantee_le c.free_amount-m.result args.w args.a args.t in
-    let balance = le_of_eq c.balance_after.ensures in
-    let guarantee = le_of_eq c.guarantee_after-g.ensures in
-    (le_trans balance (sub-le _ _), le_trans guarantee (le_trans g (sub-le _ _)))
+balance_left w t e = le_trans (le_of_eq e) (sub-le _ _)
+
+guarantee_left : {g : ℕ} (m w a t : ℕ) → g ≡ guarantee_after m w a t → g ≤ a
+guarantee_left m w a t e = le_trans (le_of_eq e) (le_trans (guarantee_le m w a t) (sub-le _ _))
 
 pub place-at-requires : goal.place-at-requires
 place-at-requires c =
-    let pre = c.requires in
-    let p = sum_within _ pre.0 pre.1 _ _ (left c).0 (left c).1 in
+    let args = c.args in
+    let p = sum_within _ c.requires.0 c.requires.1 _ _ (balance_left args.w args.t c.balance_after.ensures)
+    (guarantee_left c.free_amount-m.result args.w args.a args.t c.guarantee_after-g.ensures) in
     omega arith
-
-at-within : (c : tie.After-place) → c.place-at.result < length c.args.work.now
-at-within c =
-    let pre = c.requires in
-    let p = sum_within _ pre.0 pre.1 _ _ (left c).0 (left c).1 in
-    rw c.place-at.ensures p
 
 pub cash-requires : goal.cash-requires
 cash-requires c =
     let pre = c.requires in
-    (pre.0.rate-is, amount_most_lem _ pre.0 pre.1 _ pre.2)
+    (pre.0.rate_is, amount_most_lem _ pre.0 pre.1 _ pre.2)
 
 pub offset_bounds-work-at : goal.offset_bounds-work-at
-offset_bounds-work-at c = let p = at-within c in omega arith
+offset_bounds-work-at c =
+    let args = c.args in
+    let p = sum_within _ c.requires.0 c.requires.1 _ _ (balance_left args.w args.t c.balance_after.ensures)
+    (guarantee_left c.free_amount-m.result args.w args.a args.t c.guarantee_after-g.ensures) in
+    omega (arith, c.place-at.ensures)
 
 pub bounds-work-at : goal.bounds-work-at
-bounds-work-at c = at-within c
-
--- the discounted sum that is read
-sum_is : (c : tie.After-wide)
-    → c.wide.result
-    ≡ sums c.args.work.now
-    c.args.d
-    c.balance_after.result
-    c.guarantee_after-g.result
-sum_is c =
+bounds-work-at c =
     let args = c.args in
-    c.wide.ensures ∙ ap (λ (i : ℕ). get_or args.work.now i 0 / 8192) c.place-at.ensures
+    let p = sum_within _ c.requires.0 c.requires.1 _ _ (balance_left args.w args.t c.balance_after.ensures)
+    (guarantee_left c.free_amount-m.result args.w args.a args.t c.guarantee_after-g.ensures) in
+    rw c.place-at.ensures p
 
 pub overflow_add-result : goal.overflow_add-result
 overflow_add-result c =
-    let pre = c.requires in
-    let l = left c in
-    let s = sum_most_lem _ pre.0 pre.1 _ _ l.0 l.1 in
-    omega (arith, sum_is c, c.cash.ensures.1)
+    let args = c.args in
+    let s = sum_most_lem _ c.requires.0 c.requires.1 _ _ (balance_left args.w args.t c.balance_after.ensures)
+    (guarantee_left c.free_amount-m.result args.w args.a args.t c.guarantee_after-g.ensures) in
+    let sum_is = c.wide.ensures ∙ ap (λ (i : ℕ). get_or args.work.now i 0 / 8192) c.place-at.ensures in
+    omega (arith, s, sum_is, c.cash.ensures.1)
 
 pub returns : goal.returns
 unfolding worth_over
@@ -72,5 +59,5 @@ returns c =
     let cash_is = c.cash.ensures.0 ∙ ap (λ (m : ℕ). cash args.d.rate m args.t) free in
     let after_free = ap (λ (m : ℕ). guarantee_after m args.w args.a args.t) free in
     let guarantee_is = c.guarantee_after-g.ensures ∙ after_free in
-    let balance_is = c.balance_after.ensures in
-    ap₂ (λ (x y : ℕ). x + y) cash_is (sum_is c ∙ ap₂ (sums args.work.now args.d) balance_is guarantee_is)
+    let sum_is = c.wide.ensures ∙ ap (λ (i : ℕ). get_or args.work.now i 0 / 8192) c.place-at.ensures in
+    ap₂ (λ (x y : ℕ). x + y) cash_is (sum_is ∙ ap₂ (sums args.work.now args.d) c.balance_after.ensures guarantee_is)

@@ -1,11 +1,9 @@
 -- `surrender::each` meets its contract. Assumes nothing.
-use Prim.Native.Nat.{ℕ, ◌+◌, ◌-◌, ◌*◌, ◌≤◌}
+use Prim.Native.Nat.{◌≤◌}
 use lib.ListN.{length}
-use mathlib.Core.Path.{◌≡◌, ap, ap₂, sym, ◌∙◌}
-use native.Mathlib.Omega.{arith}
-use Rattle.decision.specs.Bits.{bit_le}
+use mathlib.Core.Path.{◌≡◌}
 use Rattle.surrender.specs.Mapped.{draws}
-use Rattle.surrender.proofs.Bits.{above, above_none, above_next, above_all, above_fits}
+use Rattle.surrender.proofs.Bits.{above}
 use Rattle.surrender.proofs.each.Given as goal
 
 abbrev pub invariant-loop-k : goal.invariant-loop-k

@@ -1,6 +1,5 @@
 -- `surrender::map_size` meets its contract. Assumes nothing.
 use Prim.Native.Nat.{ℕ, ◌+◌, ◌/◌}
-use borrow.Author.Rules.{rules}
 use mathlib.Core.Path.{ap}
 use Rattle.decision.specs.Bits.{words_for}
 use Rattle.rules.specs.Map.{map_size}

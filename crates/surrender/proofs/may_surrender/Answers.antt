@@ -1,5 +1,4 @@
 -- `surrender::may_surrender` meets its contract. Assumes nothing.
-use borrow.Author.Rules.{rules}
 use native.Mathlib.Omega.{arith}
 use Rattle.rules.specs.Date.{free_amount}
 use Rattle.surrender.proofs.may_surrender.Goals as goal

@@ -1,16 +1,10 @@
 -- `surrender::ones` meets its contract. Assumes nothing.
-use mathlib.Core.Path.{◌≡◌}
 use native.Mathlib.Omega.{arith}
-use lib.Count as Count
-use Rattle.decision.specs.Bits.{ones}
 use Rattle.surrender.proofs.Bits.{ones_le, ones_same}
 use Rattle.surrender.proofs.ones.Goals as goal
 
-same : (c : tie.Start) → Count.ones c.args.word ≡ ones c.args.word
-same c = ones_same c.args.word c.ranges.word.fits
-
 pub overflow_cast-result : goal.overflow_cast-result
-overflow_cast-result c = let e = same c in let l = ones_le c.args.word in omega arith
+overflow_cast-result c = let e = ones_same c.args.word c.ranges.word.fits in let l = ones_le c.args.word in omega arith
 
 pub returns : goal.returns
-returns c = let e = same c in let l = ones_le c.args.word in (e, omega arith)
+returns c = let e = ones_same c.args.word c.ranges.word.fits in let l = ones_le c.args.word in (e, omega arith)

@@ -1,5 +1,4 @@
 -- `surrender::step` meets its contract. Assumes nothing.
-use borrow.Author.Rules.{rules}
 use native.Mathlib.Omega.{arith}
 use Rattle.contract.specs.Reading.{terms_in}
 use Rattle.surrender.proofs.States.{next_same, next_row, next_layer}

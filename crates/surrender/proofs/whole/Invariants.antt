@@ -1,11 +1,9 @@
 -- `surrender::whole` meets its contract. Assumes nothing.
-use Prim.Native.Nat.{◌+◌, ◌-◌, ◌≤◌}
+use Prim.Native.Nat.{◌-◌, ◌≤◌}
 use lib.ListN.{length}
-use mathlib.Core.Path.{◌≡◌, refl, ap, ap₂, sym, ◌∙◌}
-use native.Mathlib.Omega.{arith}
+use mathlib.Core.Path.{◌≡◌}
 use Rattle.decision.specs.Bits.{set_bits}
 use Rattle.surrender.specs.Mapped.{draws}
-use Rattle.surrender.proofs.Bits.{set_none, set_next, set_most}
 use Rattle.surrender.proofs.whole.Given as goal
 
 abbrev pub invariant-loop-k : goal.invariant-loop-k

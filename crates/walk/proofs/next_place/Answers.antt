@@ -1,4 +1,5 @@
 -- `walk::next_place` meets its contract. Assumes nothing.
+use Rattle.std.proofs.Common.{List}
 use Prim.Native.Nat.{ℕ, suc, ◌*◌}
 use borrow.Author.Rules.{rules}
 use lib.ListN.{get_or}
@@ -12,10 +13,10 @@ use Rattle.walk.specs.Walked.{Met}
 use Rattle.walk.proofs.Laws.{next_met, factor_small}
 use Rattle.walk.proofs.next_place.Goals as goal
 
-factor-is : (c : tie.After-word) → c.word-factor.result ≡ (returns_of (start c).args.list.now).factor
-    (get_or (start c).args.path.now (start c).args.i 0)
+-- the factor that was read is that of the return
+factor_is : (list : List ℕ) {w j j' : ℕ} → w ≡ word list (4 * j') → j' ≡ j → w ≡ (returns_of list).factor j
 unfolding returns_of
-factor-is c = c.word-factor.ensures.0 ∙ ap (λ (k : ℕ). word (start c).args.list.now (4 * k)) c.wide16.ensures.0
+factor_is list e f = e ∙ ap (λ (k : ℕ). word list (4 * k)) f
 
 pub bounds-path-i : goal.bounds-path-i
 bounds-path-i c = omega (
@@ -36,7 +37,7 @@ arrive-next-requires c =
     let pre = c.requires in (
       pre.0.valid,
       le_trans (le_of_eq c.balance_after-balance.ensures) (le_trans (sub-le _ _) pre.1.account),
-      le_trans (le_of_eq (factor-is c)) (factor_small pre.0 (start c).args.i pre.3),
+      le_trans (le_of_eq (factor_is c.args.list.now c.word-factor.ensures.0 c.wide16.ensures.0)) (factor_small pre.0 c.args.i pre.3),
     )
 
 pub returns : goal.returns
@@ -45,7 +46,7 @@ returns c =
     let pre = c.requires in
     let at = Met (terms_in args.c) (returns_of args.list.now) args.table.now args.path.now (suc args.i) in
     let balance = c.balance_after-balance.ensures in
-    let factor = factor-is c in
+    let factor = factor_is args.list.now c.word-factor.ensures.0 c.wide16.ensures.0 in
     let account = c.arrive-next.ensures.0 ∙ ap₂ (next_account args.c.fee args.c.top) balance factor in
     let paid = c.arrive-next.ensures.1 ∙ ap₂ (excess_paid args.c.fee args.c.top) balance factor in
     let m_is = c.free_amount-m.ensures in

@@ -16,7 +16,8 @@ use Rattle.rules.specs.Facts.{fee_order, check_numbers, no_table_order}
 use Rattle.laws.specs.Accepted.{Valid, ValidInput, AllPass, all_pass, passes, Positive, zero_accepts, and_then, verdict_append}
 use Rattle.laws.specs.Accepted.{then_accepted, then_refused, then_earlier, then_later, input_valid, apart, absent, refused_iff}
 use Rattle.laws.specs.ThirdDemand.{product_claim}
-use Rattle.laws.specs.Fee.{Sought, fee_sought_lem, no_fee, fee_value, smallest_fee}
+use Rattle.laws.specs.Fee.{Sought, fee_value, smallest_fee}
+use Rattle.laws.proofs.FeeSought.{fee_sought_lem, no_fee}
 use Rattle.laws.specs.Terms.{with_fee, read_policy, under_is}
 use Rattle.rules.specs.Policy.{policy_of}
 use Rattle.rules.specs.Date.{Behaviour}

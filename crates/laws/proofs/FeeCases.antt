@@ -15,7 +15,8 @@ use Rattle.rules.specs.ByList.{listed_term}
 use Rattle.rules.proofs.ByList.{listed_contract}
 use Rattle.rules.proofs.Cases.{P, returns_p}
 use Rattle.laws.specs.Date.{or_elim}
-use Rattle.laws.specs.Fee.{fee_is, fee_none, fee_value, smallest_fee}
+use Rattle.laws.specs.Fee.{fee_value, smallest_fee}
+use Rattle.laws.proofs.FeeSought.{fee_is, fee_none}
 
 pub record FeeRow : Type 0 where
   pub behaviour : Behaviour

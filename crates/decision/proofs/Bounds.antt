@@ -6,7 +6,8 @@ use Rattle.std.proofs.Common.{sym, le_of_eq, le_refl}
 use Prim.Native.Nat.{ℕ, zero, suc, ◌+◌, ◌-◌, ◌*◌, ◌≤◌, ◌<◌}
 use Rattle.std.proofs.Math.Nat.{le_trans, add-le-add}
 use native.Mathlib.Omega.{arith}
-use Rattle.decision.specs.Choice.{smallest_best, best_is}
+use Rattle.decision.specs.Choice.{smallest_best}
+use Rattle.decision.proofs.Choice.{best_is}
 use Rattle.decision.specs.Process.{Process, Rule, Table, reached, worth, value_over, table_over, left, value, table_value}
 use Rattle.decision.specs.Process.{start_value, start_table_value, Decides, Open, Closed}
 

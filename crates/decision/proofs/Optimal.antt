@@ -9,7 +9,8 @@ use Rattle.std.proofs.Math.Nat.{le_trans, le_refl, add-le-add, sub_self}
 use native.Mathlib.Omega.{arith}
 use Rattle.std.proofs.Math.Dec.{T}
 use Rattle.std.proofs.Math.ListN.{length-append}
-use Rattle.decision.specs.Choice.{largest, smallest_best, le_largest, Best, best_is, best_unique}
+use Rattle.decision.specs.Choice.{largest, smallest_best, Best}
+use Rattle.decision.proofs.Choice.{le_largest, best_is, best_unique}
 use Rattle.decision.specs.Process.{Process, Rule, Strategy, Table, reached, worth, value_over, table_over, left, value}
 use Rattle.decision.specs.Process.{recorded, table_value, start_value, start_table_value, earned_over, KeepsOver, earned, Keeps}
 use Rattle.decision.specs.Process.{start_earned, StartKeeps, met, start_met, follow, start_follow, Decides, Attained, Averaging}

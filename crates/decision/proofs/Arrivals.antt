@@ -5,7 +5,7 @@ use Rattle.std.specs.Prelude.{◌≡◌, ℕ, suc, ◌+◌, ◌<◌}
 use Rattle.std.proofs.Math.Path.{refl}
 use Rattle.std.proofs.Common.{ap₂, ◌∙◌}
 use Rattle.decision.specs.Process.{Process, Table, reached, met, start_met, Averaging}
-use Rattle.decision.specs.Optimal.{by_list_eq}
+use Rattle.decision.proofs.Optimal.{by_list_eq}
 use Rattle.decision.specs.Means.{SameMeans}
 
 -- the process that pays otherwise on arrival and is the same in all else

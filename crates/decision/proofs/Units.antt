@@ -4,7 +4,8 @@ use Rattle.std.specs.Prelude.{◌≡◌, T}
 use Rattle.std.proofs.Common.{sym, le_trans, le_of_eq, add-le-add, mul-add}
 use Rattle.std.proofs.Math.Path.{subst}
 use Prim.Native.Nat.{ℕ, zero, suc, ◌+◌, ◌-◌, ◌*◌, ◌≤◌}
-use Rattle.decision.specs.Choice.{smallest_best, best_is, le_largest}
+use Rattle.decision.specs.Choice.{smallest_best}
+use Rattle.decision.proofs.Choice.{best_is, le_largest}
 use Rattle.decision.specs.Process.{Process, Rule, reached, worth, value_over, left, value, start_value, Averaging, Open}
 
 module _ {S H : Type 0} (k : ℕ) (P Q : Process S H) (a b : Rule S) where

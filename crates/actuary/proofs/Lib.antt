@@ -1,0 +1,2 @@
+-- What the definitions of specs/ come to.
+pub mod InForce

@@ -1,9 +1,0 @@
--- `input::Agreement::outcome` meets its contract. Assumes nothing.
-use borrow.Author.Rules.{rules}
-use Rattle.input.proofs.Agreement.outcome.Goals as goal
-
-pub returns-in-Accepted : goal.returns-in-Accepted
-returns-in-Accepted c = rw c.enum_told-1.given.1
-
-pub returns-in-Refused : goal.returns-in-Refused
-returns-in-Refused c = rw c.agreement-1.given.1
