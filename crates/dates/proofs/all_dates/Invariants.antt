@@ -9,7 +9,9 @@ use Rattle.dates.proofs.all_dates.Given as goal
 
 abbrev pub invariant-loop-i : goal.invariant-loop-i
 invariant-loop-i l =
-    (l.i < l.c.dates) × Valued (behaviour_of l.behaviour) (terms_in l.c) (in_order l.order) (rates_of l.rates) l.initial.work l.initial.table l.work l.table l.i
+    (l.i < l.c.dates)
+    × Valued (behaviour_of l.behaviour) (terms_in l.c) (in_order l.order) (rates_of l.rates) l.initial.work l.initial.table
+    l.work l.table l.i
 
 abbrev pub decreases-loop-i : goal.decreases-loop-i
 decreases-loop-i l = l.i

@@ -39,7 +39,8 @@ bounds-work-account c =
 
 pub death_payment-payment-requires : goal.death_payment-payment-requires
 death_payment-payment-requires c =
-    let valid = c.requires.0.first.layers.valid in (le_trans (account _ _ _ _ c.next_account-account.ensures) valid.top, le_trans valid.premium valid.top)
+    let valid = c.requires.0.first.layers.valid in
+    (le_trans (account _ _ _ _ c.next_account-account.ensures) valid.top, le_trans valid.premium valid.top)
 
 pub death_share-requires : goal.death_share-requires
 death_share-requires c =
