@@ -11,8 +11,8 @@ use Rattle.laws.specs.Accepted.{ValidInput}
 use Rattle.laws.specs.Date.{share_excess, shared}
 use Rattle.laws.specs.ByList.{mean_by_account_same}
 use Rattle.laws.specs.Bounds.{state_most, state_value_le}
-use Rattle.rules.specs.FixedTerm.{State, free_in, admissible_in, rate_in, cash_in, after_in, value_with, held_by_account, process_of, layer_size}
-use Rattle.rules.specs.FixedTerm.{fixed_term}
+use Rattle.rules.specs.FixedTerm.{State, free_in, admissible_in, rate_in, cash_in, after_in, value_with, held_by_account, process_of}
+use Rattle.rules.specs.FixedTerm.{layer_size, fixed_term}
 use Rattle.returns.specs.Sorted.{OrderedInput}
 use Rattle.expect.specs.Expected.{expected}
 use Rattle.worth.specs.Worth.{worth_over, best_value, best_amount, value_same, amount_same}

@@ -2,7 +2,7 @@
 use mathlib.Core.Bool.{Bool, true, false, cond}
 use mathlib.Core.List.{List, ◌++◌}
 use mathlib.Core.Logic.{inl, inr, ◌⊎◌}
-use mathlib.Core.Path.{◌≡◌, refl, ap, ap₂, sym, ◌∙◌, subst}
+use mathlib.Core.Path.{◌≡◌, refl, ap, sym, ◌∙◌, subst}
 use Prim.Native.Nat.{ℕ, zero, suc, ◌+◌, ◌-◌, ◌*◌, ◌/◌, ◌%◌, ◌≤◌, ◌<◌}
 use native.Mathlib.Nat.{mod-lt, div-add-mod', div-lt_iff_lt-mul, zero-add}
 use native.Mathlib.Omega.{arith}
@@ -188,7 +188,8 @@ module _ (x : Input) (behaviour : ℕ) (work : List ℕ) where
     pub check_behaviour : ltb 2 behaviour ≡ true → turned 10 0 ≡ no_table_agreed x behaviour work
     check_behaviour e = refuse _ _ _ 10 0 (behaviour_refused p behaviour work known.accepts e)
 
-    pub check_work : ltb 2 behaviour ≡ false → short (2 * layer_size (terms_in c)) work ≡ true → turned 11 0 ≡ no_table_agreed x behaviour work
+    pub check_work : ltb 2 behaviour ≡ false → short (2 * layer_size (terms_in c)) work ≡ true
+        → turned 11 0 ≡ no_table_agreed x behaviour work
     check_work e f = refuse _ _ _ 11 0 (work_refused p behaviour work known.accepts e (same_room true f))
 
     pub check_passed : ltb 2 behaviour ≡ false → short (2 * layer_size (terms_in c)) work ≡ false

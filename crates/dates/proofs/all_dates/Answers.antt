@@ -1,18 +1,7 @@
 -- `dates::all_dates` meets its contract. Assumes nothing.
-use borrow.Author.Rules.{rules}
-use mathlib.Core.Path.{◌≡◌}
 use native.Mathlib.Omega.{arith}
-use Prim.Native.Nat.{◌<◌}
-use Rattle.contract.specs.Reading.{terms_in}
 use Rattle.dates.proofs.Laws.{dating, valued_before, valued_none}
-use Rattle.dates.specs.Back.{Valued}
-use Rattle.returns.specs.Sorted.{in_order}
-use Rattle.rules.specs.Contract.{rates_of}
-use Rattle.rules.specs.Operations.{behaviour_of}
 use Rattle.dates.proofs.all_dates.Goals as goal
-
-pub overflow_sub-i : goal.overflow_sub-i
-overflow_sub-i c = omega (arith, c.requires.given.valid.terms.dates_least)
 
 pub loop-i-init : goal.loop-i-init
 loop-i-init c =
@@ -35,12 +24,3 @@ loop-i-preserved c =
       valued_before pre loop.invariant.1 part c.loop-i-test.true loop.invariant.0
           one-date.new.work one-date.new.table one-date.ensures,
     )
-
-pub shape_of-work : goal.shape_of-work
-shape_of-work c = c.loop-i.invariant.1.long
-
-pub shape_of-table : goal.shape_of-table
-shape_of-table c = c.loop-i.invariant.1.long_table
-
-pub returns : goal.returns
-returns c = let e : c.loop-i.i ≡ 0 = omega arith in rw e at c.loop-i.invariant.1

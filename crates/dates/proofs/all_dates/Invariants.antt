@@ -1,10 +1,6 @@
 -- `dates::all_dates` meets its contract. Assumes nothing.
-use borrow.Author.Rules.{rules}
-use mathlib.Core.Path.{◌≡◌}
-use native.Mathlib.Omega.{arith}
 use Prim.Native.Nat.{◌<◌}
 use Rattle.contract.specs.Reading.{terms_in}
-use Rattle.dates.proofs.Laws.{dating, valued_before, valued_none}
 use Rattle.dates.specs.Back.{Valued}
 use Rattle.returns.specs.Sorted.{in_order}
 use Rattle.rules.specs.Contract.{rates_of}
@@ -13,7 +9,9 @@ use Rattle.dates.proofs.all_dates.Given as goal
 
 abbrev pub invariant-loop-i : goal.invariant-loop-i
 invariant-loop-i l =
-    (l.i < l.c.dates) × Valued (behaviour_of l.behaviour) (terms_in l.c) (in_order l.order) (rates_of l.rates) l.initial.work l.initial.table l.work l.table l.i
+    (l.i < l.c.dates)
+    × Valued (behaviour_of l.behaviour) (terms_in l.c) (in_order l.order) (rates_of l.rates) l.initial.work l.initial.table
+    l.work l.table l.i
 
 abbrev pub decreases-loop-i : goal.decreases-loop-i
 decreases-loop-i l = l.i

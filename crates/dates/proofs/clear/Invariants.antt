@@ -1,9 +1,7 @@
 -- `dates::clear` meets its contract. Assumes nothing.
-use Prim.Native.Nat.{◌+◌, ◌-◌, ◌≤◌}
-use lib.ListN.{length, set}
-use mathlib.Core.Path.{◌≡◌, refl, ap, ◌∙◌}
-use native.Mathlib.Omega.{arith}
-use Rattle.slices.specs.Stored.{stored, stored_next, length_stored}
+use Prim.Native.Nat.{◌-◌, ◌≤◌}
+use mathlib.Core.Path.{◌≡◌}
+use Rattle.slices.specs.Stored.{stored}
 use Rattle.dates.proofs.clear.Given as goal
 
 abbrev pub invariant-loop-i : goal.invariant-loop-i

@@ -1,12 +1,9 @@
 -- `dates::fill_maturity` meets its contract. Assumes nothing.
-use Prim.Native.Nat.{ℕ, ◌+◌, ◌-◌, ◌*◌, ◌≤◌}
-use lib.ListN.{length}
-use mathlib.Core.List.{List}
-use mathlib.Core.Path.{◌≡◌, refl, ap, ◌∙◌}
-use native.Mathlib.Omega.{arith}
+use Prim.Native.Nat.{◌-◌, ◌*◌, ◌≤◌}
+use mathlib.Core.Path.{◌≡◌}
 use Rattle.rules.specs.Date.{maturity_value}
-use Rattle.slices.specs.Rows.{flat, row_next, rows_le, rows_step}
-use Rattle.slices.specs.Stored.{stored, stored_none, length_stored}
+use Rattle.slices.specs.Rows.{flat}
+use Rattle.slices.specs.Stored.{stored}
 use Rattle.dates.proofs.fill_maturity.Given as goal
 
 abbrev pub invariant-loop-w : goal.invariant-loop-w

@@ -1,10 +1,8 @@
 -- `dates::maturity_row` meets its contract. Assumes nothing.
-use Prim.Native.Nat.{◌+◌, ◌-◌, ◌*◌, ◌≤◌}
-use lib.ListN.{length, set}
-use mathlib.Core.Path.{◌≡◌, refl, ap, ◌∙◌}
-use native.Mathlib.Omega.{arith}
+use Prim.Native.Nat.{◌-◌, ◌≤◌}
+use mathlib.Core.Path.{◌≡◌}
 use Rattle.rules.specs.Date.{maturity_value}
-use Rattle.slices.specs.Stored.{stored, stored_next, length_stored}
+use Rattle.slices.specs.Stored.{stored}
 use Rattle.dates.proofs.maturity_row.Given as goal
 
 abbrev pub invariant-loop-a : goal.invariant-loop-a

@@ -1,5 +1,4 @@
 -- `dates::one_date` meets its contract. Assumes nothing.
-use borrow.Author.Rules.{rules}
 use Rattle.rules.specs.Contract.{rates_of}
 use Rattle.dates.proofs.Laws.{dated}
 use Rattle.dates.proofs.one_date.Goals as goal

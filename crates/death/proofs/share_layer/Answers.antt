@@ -1,11 +1,10 @@
 -- `death::share_layer` meets its contract. Assumes nothing.
 use Prim.Native.Nat.{ℕ, ◌*◌}
-use lib.ListN.{length}
-use mathlib.Core.Path.{◌≡◌, ap, ◌∙◌}
+use mathlib.Core.Path.{ap, ◌∙◌}
 use native.Mathlib.Omega.{arith}
 use Rattle.laws.specs.Date.{shared}
 use Rattle.slices.specs.Rows.{cells}
-use Rattle.slices.specs.Stored.{stored, stored_none, length_stored}
+use Rattle.slices.specs.Stored.{stored, stored_none}
 use Rattle.death.proofs.Laws.{row_of, share_step, shared_none}
 use Rattle.death.proofs.share_layer.Goals as goal
 
@@ -15,9 +14,6 @@ returns-then-rate-eq0 c =
     c.args in shared_none args.work.now args.rate args.stride args.n c.requires.room
     c.if-rate-eq0.true
 
-pub halves-d-requires : goal.halves-d-requires
-halves-d-requires c = (omega (arith, c.if-rate-eq0.false), c.requires.rate_is)
-
 pub loop-w-init : goal.loop-w-init
 loop-w-init c = (omega arith, stored_none _ _ _ _)
 
@@ -26,9 +22,6 @@ share_row-requires c =
     let loop = c.loop-w in
     let told = c.halves-d.ensures in
     rw told.0 (row_of c.requires loop.w c.loop-w-test.true _ loop.invariant.1 told.1)
-
-pub overflow_step-w : goal.overflow_step-w
-overflow_step-w c = omega (arith, c.requires.few)
 
 pub loop-w-preserved : goal.loop-w-preserved
 loop-w-preserved c =
@@ -42,11 +35,3 @@ loop-w-preserved c =
           ∙ by-rate
           ∙ share_step _ _ _ _ c.requires loop.w c.loop-w-test.true loop.work loop.invariant.1,
     )
-
-pub shape_of-work : goal.shape_of-work
-shape_of-work c = ap length c.loop-w.invariant.1 ∙ length_stored _ _ _ _
-
-pub returns : goal.returns
-returns c =
-    let e : c.loop-w.w ≡ c.args.n = omega arith in
-    c.loop-w.invariant.1 ∙ ap (stored _ _ _) (ap (λ (k : ℕ). k * c.args.stride) e)

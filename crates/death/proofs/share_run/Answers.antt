@@ -1,8 +1,7 @@
 -- `death::share_run` meets its contract. Assumes nothing.
-use Rattle.std.proofs.Common.{ℕ, ◌+◌, ◌-◌, ◌*◌, ◌/◌, ◌≤◌, ◌≡◌, refl, ap, ◌∙◌, arith}
-use Rattle.std.proofs.Math.Nat.{le_trans, le_of_eq, mul-le-mul}
+use Rattle.std.proofs.Common.{ℕ, ◌+◌, ◌-◌, ◌*◌, ◌/◌, refl, ap, ◌∙◌, arith}
+use Rattle.std.proofs.Math.Nat.{le_trans, le_of_eq}
 use Rattle.slices.specs.Stored.{stored, stored_more}
-use Rattle.rules.specs.Contract.{top_most}
 use Rattle.death.proofs.Laws.{entry_kept}
 use Rattle.death.proofs.share_run.Goals as goal
 
@@ -10,27 +9,12 @@ pub loop-j-init : goal.loop-j-init
 unfolding stored
 loop-j-init c = (omega arith, refl)
 
--- so many steps are few
-pub overflow_mul-work : goal.overflow_mul-work
-overflow_mul-work c =
-    let few : c.loop-j.j ≤ top_most + 1 = omega (arith, c.requires.few) in omega (arith, mul-le-mul c.requires.step_small few)
-
-pub overflow_add-work : goal.overflow_add-work
-overflow_add-work c =
-    let few : c.loop-j.j ≤ top_most + 1 = omega (arith, c.requires.few) in
-    omega (arith, mul-le-mul c.requires.step_small few, c.requires.paid_small)
-
 pub left-requires : goal.left-requires
 left-requires c =
     let pre = c.requires in (
       pre.halves,
       le_trans (le_of_eq (entry_kept _ c.args.from c.loop-j.j _ c.loop-j.invariant.1)) (pre.small c.loop-j.j c.loop-j-test.true),
     )
-
-pub overflow_add-work-in-loop-j : goal.overflow_add-work-in-loop-j
-overflow_add-work-in-loop-j c =
-    let few : c.loop-j.j ≤ top_most + 1 = omega (arith, c.requires.few) in
-    omega (arith, mul-le-mul c.requires.step_small few, c.requires.paid_small, c.left.ensures.1)
 
 pub loop-j-preserved : goal.loop-j-preserved
 loop-j-preserved c =
@@ -43,6 +27,3 @@ loop-j-preserved c =
       stored_more args.work.now args.from _ loop.j loop.invariant.1
           (ap (λ (x : ℕ). args.paid + args.step * loop.j + x) is),
     )
-
-pub returns : goal.returns
-returns c = let e : c.loop-j.j ≡ c.args.n = omega arith in c.loop-j.invariant.1 ∙ ap (stored _ _ _) e

@@ -1,17 +1,13 @@
 -- `expect::add_all` meets its contract. Assumes nothing.
-use Prim.Native.Nat.{ℕ, ◌+◌, ◌-◌, ◌%◌, ◌≤◌, ◌<◌}
-use mathlib.Core.Path.{◌≡◌, refl, subst}
+use Prim.Native.Nat.{ℕ, ◌+◌, ◌%◌, ◌≤◌, ◌<◌}
+use mathlib.Core.Path.{◌≡◌}
 use native.Mathlib.Omega.{arith}
 use Rattle.decision.specs.Index.{sum_append}
-use Rattle.expect.specs.Expected.{Summed}
 use Rattle.expect.proofs.Laws.{run_part, summed_adding, summed_more}
 use Rattle.expect.proofs.add_all.Goals as goal
 
 pub set_eight-requires : goal.set_eight-requires
 set_eight-requires c = let pre = c.requires in (run_part pre.0 8 pre.1.some, pre.2, pre.3)
-
-pub loop-k-init : goal.loop-k-init
-loop-k-init c = (c.requires.1.some, refl, c.set_eight.ensures)
 
 -- eight more are left
 left : (k count : ℕ) → k < count → k % 8 ≡ 0 → count % 8 ≡ 0 → k + 8 ≤ count
@@ -21,11 +17,8 @@ pub add_eight-requires : goal.add_eight-requires
 add_eight-requires c =
     let pre = c.requires in
     let loop = c.loop-k in
-    (run_part pre.0 (loop.k + 8) (left _ _ c.loop-k-test.true loop.invariant.1 pre.1.whole), summed_adding pre.0 loop.invariant.2 pre.3 loop.invariant.0)
-
-pub overflow_add-k : goal.overflow_add-k
-overflow_add-k c =
-    omega (arith, left _ _ c.loop-k-test.true c.loop-k.invariant.1 c.requires.1.whole, c.requires.0.few)
+    let fits = left _ _ c.loop-k-test.true loop.invariant.1 pre.1.whole in
+    (run_part pre.0 (loop.k + 8) fits, summed_adding pre.0 loop.invariant.2 pre.3 loop.invariant.0)
 
 pub loop-k-preserved : goal.loop-k-preserved
 loop-k-preserved c =
@@ -36,12 +29,3 @@ loop-k-preserved c =
       omega (arith, loop.invariant.1),
       summed_more (k + 8) _ loop.invariant.2 c.add_eight.ensures run.short (λ j. sum_append _ k 8),
     )
-
-pub returns : goal.returns
-returns c =
-    let args = c.args in
-    let loop = c.loop-k in
-    let e : loop.k ≡ args.average.count = omega (arith, c.loop-k-test.false) in
-    let over =
-    Summed args.work.now args.starts.now args.weights.now loop.sums args.average.paid args.from args.n in
-    subst over e loop.invariant.2

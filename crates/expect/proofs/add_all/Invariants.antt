@@ -1,10 +1,7 @@
 -- `expect::add_all` meets its contract. Assumes nothing.
-use Prim.Native.Nat.{◌+◌, ◌-◌, ◌%◌, ◌≤◌}
-use mathlib.Core.Path.{◌≡◌, refl, subst}
-use native.Mathlib.Omega.{arith}
-use Rattle.decision.specs.Index.{sum_append}
+use Prim.Native.Nat.{◌-◌, ◌%◌, ◌≤◌}
+use mathlib.Core.Path.{◌≡◌}
 use Rattle.expect.specs.Expected.{Summed}
-use Rattle.expect.proofs.Laws.{run_part, summed_adding, summed_more}
 use Rattle.expect.proofs.add_all.Given as goal
 
 abbrev pub invariant-loop-k : goal.invariant-loop-k

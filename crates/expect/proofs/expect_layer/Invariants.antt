@@ -1,16 +1,12 @@
 -- `expect::expect_layer` meets its contract. Assumes nothing.
-use Prim.Native.Nat.{ℕ, ◌+◌, ◌*◌, ◌-◌, ◌≤◌}
+use Prim.Native.Nat.{◌*◌, ◌-◌, ◌≤◌}
 use lib.ListN.{length}
-use mathlib.Core.Path.{◌≡◌, refl, ap, sym, ◌∙◌}
-use native.Mathlib.Nat.{le_trans, le_of_eq}
-use native.Mathlib.Omega.{arith}
+use mathlib.Core.Path.{◌≡◌}
 use Rattle.contract.specs.Reading.{terms_in}
-use Rattle.expect.specs.Expected.{expected, scaled, Balance}
+use Rattle.expect.specs.Expected.{expected, scaled}
 use Rattle.returns.specs.Sorted.{in_order}
-use Rattle.rules.specs.FixedTerm.{layer_size}
 use Rattle.slices.specs.Rows.{cells, flat}
-use Rattle.slices.specs.Stored.{stored, stored_eq, stored_none, length_stored}
-use Rattle.expect.proofs.Laws.{layer_balance, row_room, balance_row, balance_cells, expect_step}
+use Rattle.slices.specs.Stored.{stored}
 use Rattle.expect.proofs.expect_layer.Given as goal
 
 abbrev pub invariant-loop-balance : goal.invariant-loop-balance

@@ -1,14 +1,12 @@
 -- `expect::expect_row` meets its contract. Assumes nothing.
-use Prim.Native.Nat.{ℕ, ◌+◌, ◌*◌, ◌-◌, ◌≤◌}
-use borrow.Author.Rules.{rules}
-use lib.ListN.{length}
+use Prim.Native.Nat.{ℕ, ◌+◌, ◌*◌}
 use mathlib.Core.List.{List}
-use mathlib.Core.Path.{◌≡◌, refl, sym, ap, ◌∙◌}
+use mathlib.Core.Path.{refl, ap, ◌∙◌}
 use native.Mathlib.Omega.{arith}
 use Rattle.decision.specs.Index.{sum}
 use Rattle.expect.specs.Expected.{term}
 use Rattle.rules.specs.Date.{discounted}
-use Rattle.slices.specs.Stored.{stored, length_stored, stored_join}
+use Rattle.slices.specs.Stored.{stored, stored_join}
 use Rattle.expect.proofs.Laws.{row_part, row_sum}
 use Rattle.expect.proofs.expect_row.Goals as goal
 
@@ -23,15 +21,6 @@ expect_run-requires c =
     let e = c.smaller-n.ensures in
     let row = c.requires.0 in
     (row_part row loop.work _ _ (loop.from + n) loop.invariant.1 (omega arith), omega arith, loop.invariant.2)
-
-pub overflow_add-from : goal.overflow_add-from
-overflow_add-from c =
-    let row = c.requires.0 in
-    let e = c.smaller-n.ensures in
-    omega (arith, row.room)
-
-pub loop-from-smaller : goal.loop-from-smaller
-loop-from-smaller c = let e = c.smaller-n.ensures in omega arith
 
 pub loop-from-preserved : goal.loop-from-preserved
 loop-from-preserved c =
@@ -51,11 +40,3 @@ loop-from-preserved c =
           ∙ stored_join y.work.now y.to _ _ from n (λ j l. ap value (row_sum pre _ from (from + j) (omega arith))),
       expect-run.ensures.1,
     )
-
-pub shape_of-work : goal.shape_of-work
-shape_of-work c = ap length c.loop-from.invariant.1 ∙ length_stored _ _ _ _
-
-pub returns : goal.returns
-returns c =
-    let e : c.loop-from.from ≡ c.args.stride = omega arith in
-    (rw (sym e) c.loop-from.invariant.1, c.loop-from.invariant.2)

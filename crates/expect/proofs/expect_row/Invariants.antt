@@ -1,15 +1,11 @@
 -- `expect::expect_row` meets its contract. Assumes nothing.
-use Prim.Native.Nat.{ℕ, ◌+◌, ◌*◌, ◌-◌, ◌≤◌}
-use borrow.Author.Rules.{rules}
+use Prim.Native.Nat.{◌+◌, ◌*◌, ◌-◌, ◌≤◌}
 use lib.ListN.{length}
-use mathlib.Core.List.{List}
-use mathlib.Core.Path.{◌≡◌, refl, sym, ap, ◌∙◌}
-use native.Mathlib.Omega.{arith}
+use mathlib.Core.Path.{◌≡◌}
 use Rattle.decision.specs.Index.{sum}
 use Rattle.expect.specs.Expected.{term}
 use Rattle.rules.specs.Date.{discounted}
-use Rattle.slices.specs.Stored.{stored, length_stored, stored_join}
-use Rattle.expect.proofs.Laws.{row_part, row_sum}
+use Rattle.slices.specs.Stored.{stored}
 use Rattle.expect.proofs.expect_row.Given as goal
 
 abbrev pub invariant-loop-from : goal.invariant-loop-from

@@ -1,18 +1,11 @@
 -- `expect::expect_run` meets its contract. Assumes nothing.
 use Prim.Native.Nat.{ℕ, ◌+◌, ◌*◌}
-use borrow.Author.Rules.{rules}
 use mathlib.Core.Path.{ap, ◌∙◌}
 use native.Mathlib.Omega.{arith}
 use Rattle.rules.specs.Date.{discounted}
 use Rattle.slices.specs.Stored.{stored_eq}
-use Rattle.expect.proofs.Laws.{row_run, row_sum_le}
+use Rattle.expect.proofs.Laws.{row_sum_le}
 use Rattle.expect.proofs.expect_run.Goals as goal
-
-pub add_all-requires : goal.add_all-requires
-add_all-requires c =
-    let start = c in
-    let row = start.requires.0 in
-    (row_run start.args.p.from start.args.p.n row start.requires.1, row.eights, start.requires.2, row.paid_small)
 
 pub store_sums-requires : goal.store_sums-requires
 store_sums-requires c =

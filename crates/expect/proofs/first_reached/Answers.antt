@@ -1,6 +1,5 @@
 -- `expect::first_reached` meets its contract. Assumes nothing.
 use Rattle.std.proofs.Common.{ℕ, ◌≤◌, ◌≡◌}
-use borrow.Author.Rules.{rules}
 use native.Mathlib.Nat.{le_trans}
 use native.Mathlib.Omega.{arith}
 use Rattle.laws.specs.Date.{account_le}
@@ -40,7 +39,8 @@ bounds-work-account c =
 
 pub death_payment-payment-requires : goal.death_payment-payment-requires
 death_payment-payment-requires c =
-    let valid = c.requires.0.first.layers.valid in (le_trans (account _ _ _ _ c.next_account-account.ensures) valid.top, le_trans valid.premium valid.top)
+    let valid = c.requires.0.first.layers.valid in
+    (le_trans (account _ _ _ _ c.next_account-account.ensures) valid.top, le_trans valid.premium valid.top)
 
 pub death_share-requires : goal.death_share-requires
 death_share-requires c =

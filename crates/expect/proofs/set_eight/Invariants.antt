@@ -1,13 +1,9 @@
 -- `expect::set_eight` meets its contract. Assumes nothing.
-use Prim.Native.Nat.{ℕ, ◌+◌, ◌-◌, ◌≤◌}
-use lib.ListN.{set}
-use mathlib.Core.Path.{◌≡◌, refl, ap, sym, ◌∙◌}
-use native.Mathlib.Nat.{zero-add}
-use native.Mathlib.Omega.{arith}
+use Prim.Native.Nat.{◌+◌, ◌-◌, ◌≤◌}
+use mathlib.Core.Path.{◌≡◌}
 use Rattle.decision.specs.Index.{sum}
 use Rattle.expect.specs.Expected.{term}
-use Rattle.slices.specs.Stored.{stored, stored_push}
-use Rattle.expect.proofs.Laws.{summed}
+use Rattle.slices.specs.Stored.{stored}
 use Rattle.expect.proofs.set_eight.Given as goal
 
 abbrev pub invariant-loop-j : goal.invariant-loop-j

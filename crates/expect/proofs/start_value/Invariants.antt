@@ -1,19 +1,14 @@
 -- `expect::start_value` meets its contract. Assumes nothing.
-use Prim.Native.Nat.{ℕ, ◌+◌, ◌*◌, ◌-◌, ◌≤◌, ◌<◌}
+use Prim.Native.Nat.{ℕ, ◌+◌, ◌*◌, ◌-◌, ◌≤◌}
 use mathlib.Core.List.{List}
-use mathlib.Core.Path.{◌≡◌, refl, ap, ap₂, sym, ◌∙◌}
-use native.Mathlib.Nat.{le_trans, mul-le-mul, mul-le-mul_right}
-use native.Mathlib.Omega.{arith}
-use Rattle.decision.specs.Index.{sum, sum_next}
+use mathlib.Core.Path.{◌≡◌}
+use Rattle.decision.specs.Index.{sum}
 use Rattle.laws.specs.Bounds.{entry_most}
 use Rattle.laws.specs.Date.{shared}
 use Rattle.rules.specs.Contract.{Terms, returns_of, weight_most}
-use Rattle.rules.specs.Date.{discounted}
-use Rattle.rules.specs.FixedTerm.{mean_by_list}
 use Rattle.contract.specs.Reading.{terms_in}
 use Rattle.slices.specs.Rows.{cells}
-use Rattle.expect.specs.Expected.{reached_from, expected_listed}
-use Rattle.expect.proofs.Laws.{start_le, return_in, return_number, weight_is, weight_small}
+use Rattle.expect.specs.Expected.{reached_from}
 use Rattle.expect.proofs.start_value.Given as goal
 
 -- what the sum is over

@@ -1,11 +1,9 @@
 -- `expect::store_sums` meets its contract. Assumes nothing.
-use lib.Dec.{T, leb→le}
-use lib.ListN.{length, get_or}
-use mathlib.Core.Path.{◌≡◌, refl, sym, ap, ◌∙◌, subst}
-use native.Mathlib.Omega.{arith}
-use Prim.Native.Nat.{◌+◌, ◌*◌, ◌-◌, ◌≤◌}
+use lib.ListN.{get_or}
+use mathlib.Core.Path.{◌≡◌}
+use Prim.Native.Nat.{◌*◌, ◌-◌, ◌≤◌}
 use Rattle.rules.specs.Date.{discounted}
-use Rattle.slices.specs.Stored.{stored, length_stored, stored_more}
+use Rattle.slices.specs.Stored.{stored}
 use Rattle.expect.proofs.store_sums.Given as goal
 
 abbrev pub invariant-loop-j : goal.invariant-loop-j

@@ -1,5 +1,4 @@
 -- `valuing::check` meets its contract. Assumes nothing.
-use borrow.Author.Rules.{rules}
 use borrow.Author.Tests.{lt-ltb, le-ltb}
 use mathlib.Core.Path.{sym, ◌∙◌}
 use Rattle.input.specs.Accepted.{agreed}

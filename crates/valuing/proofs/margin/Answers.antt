@@ -1,6 +1,5 @@
 -- `valuing::margin` meets its contract. Assumes nothing.
 use Prim.Native.Nat.{◌*◌, ◌^◌}
-use borrow.Author.Rules.{rules}
 use borrow.Author.Rules.{sfits_of}
 use mir.Facts.{to_z_pos, to_z-of_z}
 use mir.Syntax.{w64}

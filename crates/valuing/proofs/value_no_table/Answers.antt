@@ -1,5 +1,4 @@
 -- `valuing::value_no_table` meets its contract. Assumes nothing.
-use borrow.Author.Rules.{rules}
 use mathlib.Core.Path.{sym, ap, ◌∙◌}
 use Rattle.input.specs.Accepted.{agreed, disagreed}
 use Rattle.contract.specs.Reading.{outcome_in}

@@ -1,5 +1,4 @@
 -- `valuing::valued` meets its contract. Assumes nothing.
-use borrow.Author.Rules.{rules}
 use native.Mathlib.Omega.{arith}
 use Rattle.rules.specs.FixedTerm.{layer_size}
 use Rattle.returns.specs.Sorted.{part_sorted}
