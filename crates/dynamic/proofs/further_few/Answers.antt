@@ -1,10 +1,7 @@
 -- `dynamic::further_few` meets its contract. Assumes nothing.
-use mathlib.Core.Path.{◌≡◌, ap, ◌∙◌}
-use native.Mathlib.Omega.{arith}
+use mathlib.Core.Path.{ap, ◌∙◌}
 use Prim.Native.Nat.{ℕ, ◌-◌, min}
 use Rattle.dynamic.proofs.Further.{alike_one}
-use Rattle.proportion.specs.Offers.{held_as}
-use Rattle.proportion.specs.Held.{tried_below}
 use Rattle.dynamic.proofs.further_few.Goals as goal
 
 pub further_run-requires : goal.further_run-requires

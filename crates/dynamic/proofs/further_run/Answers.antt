@@ -2,7 +2,7 @@
 use mathlib.Core.Path.{ap}
 use native.Mathlib.Omega.{arith}
 use Prim.Native.Nat.{ℕ, ◌+◌, ◌-◌, ◌*◌}
-use Rattle.dynamic.proofs.Further.{further_room, further_offering, further_offered}
+use Rattle.dynamic.proofs.Further.{further_offering, further_offered}
 use Rattle.dynamic.proofs.further_run.Goals as goal
 
 pub offer-requires : goal.offer-requires
