@@ -1,7 +1,7 @@
 -- `dynamic::further_block` meets its contract. Assumes nothing.
-use mathlib.Core.Path.{◌≡◌, ap, refl, ◌∙◌}
+use mathlib.Core.Path.{ap, refl, ◌∙◌}
 use native.Mathlib.Omega.{arith}
-use Prim.Native.Nat.{ℕ, ◌+◌, ◌-◌, min}
+use Prim.Native.Nat.{ℕ, min}
 use Rattle.dynamic.proofs.Further.{alike_level, few_level, few_all}
 use Rattle.proportion.specs.Offers.{held_as}
 use Rattle.proportion.specs.Held.{tried_below}
@@ -15,13 +15,6 @@ further_run-requires c =
     let low_is = c.less-low.ensures in
     let alike = alike_level args.d args.s _ _ low_is end_is c.if-low-end.true in
     (pre.0, pre.1, alike, held_as _ c.further_few.ensures (λ j l. few_level args.d args.s refl low_is (omega arith) j))
-
-pub returns-then-low-end : goal.returns-then-low-end
-returns-then-low-end c =
-    let args = c.args in
-    let end_is = c.smaller-end.ensures ∙ ap (min args.s.n) c.less.ensures in
-    let all : c.less-low.result + (c.smaller-end.result - c.less-low.result) ≡ c.smaller-end.result = omega arith in
-    held_as _ c.further_run.ensures (λ j l. ap (λ (x : ℕ). tried_below args.d args.s x j) (all ∙ end_is))
 
 pub returns-else-low-end : goal.returns-else-low-end
 returns-else-low-end c =

@@ -2,16 +2,8 @@
 use mathlib.Core.Path.{ap}
 use native.Mathlib.Omega.{arith}
 use Prim.Native.Nat.{ℕ, ◌+◌, ◌-◌, ◌*◌}
-use Rattle.dynamic.proofs.Further.{further_room, further_offering, further_offered}
+use Rattle.dynamic.proofs.Further.{further_offering, further_offered}
 use Rattle.dynamic.proofs.further_run.Goals as goal
-
-pub overflow_mul-at : goal.overflow_mul-at
-overflow_mul-at c =
-    omega (arith, further_room c.requires.0 c.requires.2, c.requires.0.layers.room)
-
-pub overflow_add-at : goal.overflow_add-at
-overflow_add-at c =
-    omega (arith, further_room c.requires.0 c.requires.2, c.requires.0.layers.room, c.less.ensures)
 
 pub offer-requires : goal.offer-requires
 offer-requires c =

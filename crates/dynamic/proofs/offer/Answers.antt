@@ -1,5 +1,5 @@
 -- `dynamic::offer` meets its contract. Assumes nothing.
-use mathlib.Core.Path.{◌≡◌, refl, sym, ◌∙◌}
+use mathlib.Core.Path.{refl, ◌∙◌}
 use native.Mathlib.Omega.{arith}
 use Rattle.proportion.specs.Offers.{held_yet, raised}
 use Rattle.slices.specs.Stored.{stored}
@@ -19,6 +19,3 @@ raise-requires c =
 
 pub loop-i-preserved : goal.loop-i-preserved
 loop-i-preserved c = (omega arith, c.raise.ensures ∙ raised _ _ _ _ c.loop-i.invariant.1 _ refl)
-
-pub returns : goal.returns
-returns c = let e : c.loop-i.i ≡ c.args.n = omega arith in rw (sym e) c.loop-i.invariant.1

@@ -2,15 +2,8 @@
 use mathlib.Core.Path.{ap, ap₂, ◌∙◌}
 use native.Mathlib.Omega.{arith}
 use Prim.Native.Nat.{ℕ, ◌+◌, ◌*◌, min}
-use Rattle.dynamic.proofs.Free.{free_room, free_offering, free_offered}
+use Rattle.dynamic.proofs.Free.{free_offering, free_offered}
 use Rattle.dynamic.proofs.offer_amount.Goals as goal
-
-pub place-at-requires : goal.place-at-requires
-place-at-requires c =
-    let d = c.args.d in
-    let low_is = c.smaller-low.ensures ∙ ap (min c.args.s.n) c.less.ensures in
-    let at_is = ap₂ (λ (x y : ℕ). d.base + (x * d.stride + y)) c.less-2.ensures c.less-3.ensures in
-    omega (arith, free_room c.requires.0 c.requires.1 low_is)
 
 pub offer-requires : goal.offer-requires
 offer-requires c =

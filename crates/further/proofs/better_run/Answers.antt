@@ -1,8 +1,7 @@
 -- `further::better_run` meets its contract. Assumes nothing.
 use Prim.Native.Nat.{ℕ, ◌+◌, max}
-use mathlib.Core.Path.{◌≡◌, ap, ap₂, ◌∙◌}
+use mathlib.Core.Path.{ap₂, ◌∙◌}
 use native.Mathlib.Omega.{arith}
-use Rattle.slices.specs.Stored.{stored}
 use Rattle.further.proofs.Run.{run_none, run_next, run_out, run_before}
 use Rattle.further.proofs.better_run.Goals as goal
 
@@ -42,11 +41,3 @@ loop-i-preserved c =
     let from_is = run_before loop.invariant.1 (start.args.from + loop.i) (omega arith) in
     let v = c.larger.ensures ∙ ap₂ (λ (x y : ℕ). max (x + start.args.rest) (y + start.args.step)) stay_is from_is in
     (omega arith, run_next loop.invariant.1 _ v)
-
-pub shape_of-work : goal.shape_of-work
-shape_of-work c = c.loop-i.invariant.1.long
-
-pub returns : goal.returns
-returns c =
-    let e : c.loop-i.i ≡ c.args.n = omega arith in
-    c.loop-i.invariant.1.is ∙ ap (stored _ _ _) e

@@ -3,7 +3,6 @@ use Prim.Native.Nat.{ℕ, ◌+◌, ◌*◌}
 use lib.ListN.{get_or}
 use mathlib.Core.Path.{◌≡◌, ap, ◌∙◌}
 use native.Mathlib.Omega.{arith}
-use Rattle.slices.specs.Stored.{stored}
 use Rattle.further.proofs.Run.{run_none, run_push, run_out}
 use Rattle.further.proofs.first_row.Goals as goal
 
@@ -18,11 +17,3 @@ loop-a-preserved c =
     let z : args.d.base + a ≡ args.d.base + (0 * args.d.stride + a) = omega arith in
     let read = run_out loop.invariant.1 (args.d.base + a) (omega arith) ∙ ap (λ (j : ℕ). get_or args.work.now j 0) z in
     (omega arith, run_push loop.invariant.1 _ read)
-
-pub shape_of-work : goal.shape_of-work
-shape_of-work c = c.loop-a.invariant.1.long
-
-pub returns : goal.returns
-returns c =
-    let e : c.loop-a.a ≡ c.args.d.stride = omega arith in
-    c.loop-a.invariant.1.is ∙ ap (stored _ _ _) e

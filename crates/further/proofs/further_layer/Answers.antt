@@ -1,9 +1,7 @@
 -- `further::further_layer` meets its contract. Assumes nothing.
-use Prim.Native.Nat.{ℕ, ◌*◌}
-use lib.ListN.{length}
-use mathlib.Core.Path.{◌≡◌, refl, ap, ◌∙◌}
+use mathlib.Core.Path.{refl}
 use native.Mathlib.Omega.{arith}
-use Rattle.slices.specs.Stored.{stored, stored_none, length_stored}
+use Rattle.slices.specs.Stored.{stored_none}
 use Rattle.further.proofs.Laws.{layer_sums, layer_below, layer_next}
 use Rattle.further.proofs.further_layer.Goals as goal
 
@@ -20,11 +18,3 @@ fill_row-requires c =
 pub loop-b-preserved : goal.loop-b-preserved
 loop-b-preserved c =
     (omega arith, layer_next _ c.requires c.loop-b-test.true c.loop-b.invariant.1 c.fill_row.ensures)
-
-pub shape_of-work : goal.shape_of-work
-shape_of-work c = ap length c.loop-b.invariant.1 ∙ length_stored _ _ _ _
-
-pub returns : goal.returns
-returns c =
-    let e : c.loop-b.b ≡ c.args.n = omega arith in
-    c.loop-b.invariant.1 ∙ ap (stored _ _ _) (ap (λ (b : ℕ). b * c.args.d.stride) e)

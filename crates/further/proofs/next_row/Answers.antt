@@ -4,11 +4,8 @@ use mathlib.Core.Path.{◌≡◌, ap, ◌∙◌}
 use native.Mathlib.Omega.{arith}
 use Rattle.slices.specs.Stored.{stored}
 use Rattle.further.proofs.Run.{run_none}
-use Rattle.further.proofs.Laws.{row_below, first_part, rest_part, run_room, run_joins}
+use Rattle.further.proofs.Laws.{first_part, rest_part, run_room, run_joins}
 use Rattle.further.proofs.next_row.Goals as goal
-
-pub overflow_sub-from : goal.overflow_sub-from
-overflow_sub-from c = let pre = c.requires in row_below _ pre.0 pre.2
 
 pub better_run-requires : goal.better_run-requires
 better_run-requires c =

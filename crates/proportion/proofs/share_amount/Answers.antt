@@ -1,19 +1,11 @@
 -- `proportion::share_amount` meets its contract. Assumes nothing.
-use Rattle.std.proofs.Common.{◌≡◌, ℕ, ◌-◌, ◌*◌, min, length, sym, ap, ◌∙◌, arith}
+use Rattle.std.proofs.Common.{ℕ, length, sym, ap, ◌∙◌, arith}
 use Rattle.proportion.proofs.Bounds.{bounds_all}
 use Rattle.proportion.proofs.Parts.{part_bounded, part_raised, part_running, raised_none}
 use Rattle.proportion.proofs.Share.{way_last, way_passed}
 use Rattle.proportion.specs.Held.{key_at}
 use Rattle.slices.specs.Stored.{length_stored}
 use Rattle.proportion.proofs.share_amount.Goals as goal
-
-pub overflow_add-s : goal.overflow_add-s
-overflow_add-s c =
-    let pre = c.requires in
-    omega (arith, pre.0.columns, pre.0.layers.width, pre.1.within)
-
-pub overflow_sub-s : goal.overflow_sub-s
-overflow_sub-s c = omega (arith, c.requires.2)
 
 pub offered-requires : goal.offered-requires
 offered-requires c =
@@ -22,11 +14,6 @@ offered-requires c =
 
 pub loop-p-init : goal.loop-p-init
 loop-p-init c = (omega arith, sym (raised_none _ _ _ (omega arith)))
-
-pub part-requires : goal.part-requires
-part-requires c =
-    let pre = c.requires in
-    (omega arith, omega (arith, pre.0.short, pre.1.within, pre.2))
 
 pub share_few-requires : goal.share_few-requires
 share_few-requires c =
@@ -52,12 +39,6 @@ loop-p-preserved c =
       part_raised args.r c.part.result c.loop-p.p told.0 told.1 keys _ c.loop-p.invariant.1
           c.share_few.ensures,
     )
-
-pub returns-after-loop-p : goal.returns-after-loop-p
-returns-after-loop-p c =
-    let r = c.args.r in
-    let all : min (8 * c.loop-p.p) (r.end - r.low) ≡ r.end - r.low = omega (arith, c.requires.3.few) in
-    rw (sym all) c.loop-p.invariant.1
 
 pub returns-else-r-offered : goal.returns-else-r-offered
 returns-else-r-offered c =

@@ -1,39 +1,14 @@
 -- `proportion::share_run` meets its contract. Assumes nothing.
-use Rattle.std.proofs.Common.{◌≡◌, ℕ, ◌+◌, ◌<◌, ◌≤◌, sym, refl, ap, ◌∙◌, arith}
+use Rattle.std.proofs.Common.{◌≡◌, ℕ, ◌+◌, ◌<◌, sym, ap, ◌∙◌, arith}
 use Rattle.proportion.proofs.Bounds.{bounds_are, bounds_le}
 use Rattle.proportion.specs.Offers.{held_as}
 use Rattle.proportion.proofs.Amount.{amount_tried, held_more, level_free}
-use Rattle.proportion.proofs.Share.{way_room, way_step}
 use Rattle.proportion.proofs.Step.{shared_on, shared_some}
 use Rattle.proportion.proofs.Runs.{run_start, run_end}
 use Rattle.proportion.specs.declared.Run.{Run}
 use Rattle.proportion.specs.Held.{tried_below}
 use Rattle.proportion.specs.Share.{Running, tried_run}
 use Rattle.proportion.proofs.share_run.Goals as goal
-
-pub overflow_add-low : goal.overflow_add-low
-overflow_add-low c = omega (arith, c.requires.0.short)
-
-pub fill_bounds-requires : goal.fill_bounds-requires
-fill_bounds-requires c =
-    let pre = c.requires in
-    (omega (arith, pre.0.short), omega (arith, c.smaller-end.ensures, pre.0.short))
-
-pub overflow_add-inverse : goal.overflow_add-inverse
-overflow_add-inverse c = omega (arith, c.requires.0.layers.few)
-
-pub nonzero_div-inverse : goal.nonzero_div-inverse
-nonzero_div-inverse c = omega (arith, c.requires.5)
-
-pub lead-to-requires : goal.lead-to-requires
-lead-to-requires c =
-    let pre = c.requires in
-    let d = c.args.d in
-    let s = c.args.s in
-    let upto : d.level ≤ s.w = omega (arith, pre.5) in
-    let room = way_room pre.0 upto in
-    let step = way_step pre.0 d.level (omega (arith, pre.5)) in
-    (omega arith, step, upto, omega (arith, pre.0.layers.few), pre.0.layers.rate_is, refl)
 
 pub loop-to-init : goal.loop-to-init
 loop-to-init c =
@@ -72,9 +47,6 @@ share_amount-requires c =
       shared_on pre.0 inv.2 inv.0 c.loop-to-test.true c.step_on-to.ensures,
       inv.3.long,
     )
-
-pub loop-to-smaller : goal.loop-to-smaller
-loop-to-smaller c = omega (arith, c.step_on-to.ensures.0)
 
 pub loop-to-preserved : goal.loop-to-preserved
 loop-to-preserved c =
