@@ -13,7 +13,7 @@ use Rattle.decision.specs.Index.{first, none_found, get_d_drop}
 use Rattle.decision.proofs.Later.{Continues, value_later, recorded_later, table_value_later, lookup_later, layers_later}
 use Rattle.decision.specs.Process.{table_value}
 use Rattle.decision.specs.Layers.{entry, lookup, layer, layers}
-use Rattle.rules.specs.Contract.{Input, Terms, Returns, Rates, word, record_bytes, terms_of, returns_of, rates_of, rate_bytes, dates_most}
+use Rattle.rules.specs.Contract.{Input, Terms, Returns, Rates, word, terms_of, returns_of, rates_of, rate_bytes, dates_most}
 use Rattle.rules.specs.Contract.{rate_most}
 use Rattle.rules.specs.Date.{Behaviour, rate_on, cash}
 use Rattle.rules.specs.Product.{Product, state_value, recorded_amount, value_layer, amount_layers, supplied_layer}

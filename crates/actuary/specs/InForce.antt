@@ -1,29 +1,13 @@
 -- A CONTRACT IN FORCE: on date i the record, shortened by the dates behind it, is worth what is left. Assumes nothing.
-use Rattle.std.proofs.Math.Bool.{Bool, false}
-use Rattle.std.specs.Prelude.{not, List, ◌++◌, ◌≡◌, refl, T, eqb, get_or}
-use Rattle.std.proofs.Math.Path.{ap}
-use Rattle.std.proofs.Common.{ap₂, ◌∙◌, le_trans, sub-le, add-zero, T_not}
-use Prim.Native.Nat.{ℕ, suc, ◌+◌, ◌-◌, ◌*◌, ◌≤◌, ◌<◌}
-use Rattle.std.proofs.Math.Nat.{add-mul}
-use native.Mathlib.Omega.{arith}
-use Rattle.std.proofs.Math.Dec.{ltb, eqb→eq, eqb_refl, not_T}
-use borrow.Author.Tests.{le-ltb}
-use Rattle.std.proofs.Math.ListN.{length, drop, length-drop}
-use Rattle.decision.specs.Index.{first, none_found, get_d_drop}
-use Rattle.decision.proofs.Later.{Continues, value_later, recorded_later, table_value_later, lookup_later, layers_later}
+use Rattle.std.specs.Prelude.{List, ◌≡◌}
+use Prim.Native.Nat.{ℕ, suc, ◌+◌, ◌-◌, ◌*◌}
+use Rattle.std.proofs.Math.ListN.{length, drop}
 use Rattle.decision.specs.Process.{table_value}
-use Rattle.decision.specs.Layers.{entry, lookup, layer, layers}
-use Rattle.rules.specs.Contract.{Input, Terms, Returns, Rates, word, record_bytes, terms_of, returns_of, rates_of, rate_bytes, dates_most}
-use Rattle.rules.specs.Contract.{rate_most}
-use Rattle.rules.specs.Date.{Behaviour, rate_on, cash}
+use Rattle.decision.specs.Layers.{lookup, layer}
+use Rattle.rules.specs.Contract.{Input, Terms, Rates, record_bytes, terms_of, rate_bytes}
+use Rattle.rules.specs.Date.{Behaviour}
 use Rattle.rules.specs.Product.{Product, state_value, recorded_amount, value_layer, amount_layers, supplied_layer}
-use Rattle.rules.specs.FixedTerm.{State, Held, free_in, admissible_in, rate_in, cash_in, after_in, value_with, held_by_account, process_of}
-use Rattle.rules.specs.FixedTerm.{mean_by_account, by_account, weight_to, excess_most, layer_size, layout_of, fixed_term}
-use Rattle.rules.specs.Refusals.{accepted, verdict, outside, terms_checks, record_checks, list_checks, rates_checks, check_each, input_checks}
-use Rattle.rules.specs.Policy.{policy_of}
-use Rattle.laws.specs.Accepted.{ValidInput, input_valid, input_both, AllPass, all_pass, passes, then_earlier, then_later, then_accepted}
-use Rattle.laws.specs.Accepted.{not_not}
-use Rattle.laws.specs.FixedTerm.{size_some}
+use Rattle.rules.specs.FixedTerm.{State, Held, rate_in}
 
 -- the terms from date i on: the dates that are left, and the penalty rate of date i to begin with
 abbrev pub terms_from : ℕ → Terms → Terms

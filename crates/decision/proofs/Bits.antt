@@ -1,12 +1,12 @@
 -- Bits by an index, in words of 64 with the lowest bit first. Assumes nothing.
-use Rattle.std.specs.Prelude.{Bool, true, false, cond, List, ◌++◌, ◌≡◌, get_or, replicate}
+use Rattle.std.specs.Prelude.{Bool, true, false, List, ◌++◌, ◌≡◌, replicate}
 use Rattle.std.proofs.Math.Path.{ap, sym, fun_ext}
 use Rattle.std.proofs.Common.{ap₂, ◌∙◌, add_assoc, mul_assoc, mul-add, mul_left_comm, pow-suc}
 use Prim.Native.Nat.{ℕ, zero, suc, ◌+◌, ◌-◌, ◌*◌, ◌/◌, ◌%◌, ◌^◌, ◌≤◌, ◌<◌, min}
 use Rattle.std.proofs.Math.Nat.{add-zero, pow-succ', two-pow-succ, pow-le-pow_right, div-div-eq-div-mul, div-eq_of_lt}
 use Rattle.std.proofs.Math.Decide.{dec_le}
 use native.Mathlib.Omega.{arith}
-use Rattle.decision.specs.Index.{sum, tabulate, sum_eq, sum_append, sum_zeros, tabulate_zeros, get_d_tabulate}
+use Rattle.decision.specs.Index.{sum, sum_eq, sum_append, sum_zeros, tabulate_zeros, get_d_tabulate}
 use Rattle.decision.specs.Bits.{bit, from_bits, words_for, bits_in, word_of, words_of, set_bits, bit_of, bit_at, ones}
 
 -- ---- a number and its bits

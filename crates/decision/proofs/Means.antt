@@ -5,7 +5,7 @@ use Rattle.std.proofs.Common.{◌∙◌}
 use Prim.Native.Nat.{ℕ, zero, suc, ◌+◌, ◌-◌}
 use Rattle.decision.specs.Choice.{largest, smallest_best}
 use Rattle.decision.proofs.Choice.{largest_eq, smallest_best_eq}
-use Rattle.decision.specs.Process.{Process, Rule, Table, reached, worth, value_over, table_over, left, value, recorded}
+use Rattle.decision.specs.Process.{Process, Rule, Table, worth, value_over, table_over, left, value, recorded}
 use Rattle.decision.specs.Process.{table_value, start_value, start_table_value}
 use Rattle.decision.specs.Means.{SameMeans}
 

@@ -1,12 +1,7 @@
 -- Bits by an index, in words of 64 with the lowest bit first. Assumes nothing.
-use Rattle.std.specs.Prelude.{Bool, true, false, cond, List, ◌++◌, ◌≡◌, get_or, replicate}
-use Rattle.std.proofs.Math.Path.{ap, sym, fun_ext}
-use Rattle.std.proofs.Common.{ap₂, ◌∙◌, add_assoc, mul_assoc, mul-add, mul_left_comm, pow-suc}
-use Prim.Native.Nat.{ℕ, zero, suc, ◌+◌, ◌-◌, ◌*◌, ◌/◌, ◌%◌, ◌^◌, ◌≤◌, ◌<◌, min}
-use Rattle.std.proofs.Math.Nat.{add-zero, pow-succ', two-pow-succ, pow-le-pow_right, div-div-eq-div-mul, div-eq_of_lt}
-use Rattle.std.proofs.Math.Decide.{dec_le}
-use native.Mathlib.Omega.{arith}
-use Rattle.decision.specs.Index.{sum, tabulate, sum_eq, sum_append, sum_zeros, tabulate_zeros, get_d_tabulate}
+use Rattle.std.specs.Prelude.{Bool, cond, List, get_or}
+use Prim.Native.Nat.{ℕ, ◌+◌, ◌-◌, ◌*◌, ◌/◌, ◌%◌, ◌^◌, min}
+use Rattle.decision.specs.Index.{sum, tabulate}
 
 -- 1 for a bit that is set, 0 for one that is clear
 unfoldable pub bit : Bool → ℕ

@@ -1,11 +1,9 @@
 -- The largest worth among the amounts from 0 to a limit that pass a test, and the smallest amount that has it.
 -- Assumes nothing.
-use Rattle.std.specs.Prelude.{Bool, true, false, cond, ◌&&◌, ◌⊎◌, ◌≢◌, ◌≡◌, refl, ℕ, zero, suc, ◌-◌, max, ◌≤◌, ◌<◌, T, eqb}
-use Rattle.std.proofs.Common.{inl, inr, ap, sym, ◌∙◌, subst, zero-le, le_of_eq, le_trans, le_refl, le_antisymm, arith, eqb→eq}
-use Rattle.std.proofs.Math.Decide.{dec_le}
-use Rattle.std.proofs.Math.Nat.{le_step, le-max_left, le-max_right, le-suc_iff}
+use Rattle.std.specs.Prelude.{Bool, true, false, cond, ◌&&◌, ◌≡◌, refl, ℕ, zero, suc, max, ◌≤◌, ◌<◌, T, eqb}
+use Rattle.std.proofs.Common.{subst}
 use Rattle.std.proofs.Math.Dec.{eqb_refl}
-use Rattle.decision.specs.Index.{first, first_from, First, first_is, first_least, first_eq}
+use Rattle.decision.specs.Index.{first, first_from}
 
 -- both tests, taken apart and put together
 pub and_left : (a b : Bool) → T (a && b) → T a

@@ -1,11 +1,7 @@
 -- The values of a process hang on its means, not on how they are summed. Assumes nothing.
 use Rattle.std.specs.Prelude.{◌≡◌}
-use Rattle.std.proofs.Math.Path.{ap, ap₂}
-use Rattle.std.proofs.Common.{◌∙◌}
-use Prim.Native.Nat.{ℕ, zero, suc, ◌+◌, ◌-◌}
-use Rattle.decision.specs.Choice.{largest, smallest_best}
-use Rattle.decision.specs.Process.{Process, Rule, Table, reached, worth, value_over, table_over, left, value, recorded}
-use Rattle.decision.specs.Process.{table_value, start_value, start_table_value}
+use Prim.Native.Nat.{ℕ}
+use Rattle.decision.specs.Process.{Process, reached}
 
 -- the process with another mean, and the same in all else
 abbrev pub averaging : {S H : Type 0} → (ℕ → H → (S → ℕ) → ℕ) → Process S H → Process S H

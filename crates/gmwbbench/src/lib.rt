@@ -1,4 +1,6 @@
 // The call for the benchmark: a valuation with no table. It is no part of the library for C hosts.
+#![tactic(auto)]
+
 ghost use Rattle.gmwbbench.specs.Told.{NoTableTold};
 
 #[unsafe(no_mangle)]

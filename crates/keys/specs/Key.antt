@@ -1,6 +1,6 @@
 -- A value and an amount as one number: the larger key is the larger value and, at a tie, the smaller amount. Assumes nothing.
 use Rattle.std.specs.Prelude.{◌≡◌, ℕ, ◌+◌, ◌-◌, ◌*◌, ◌/◌, ◌%◌, ◌<◌, ◌≤◌, Bool, T, ◌⊎◌}
-use Rattle.std.proofs.Common.{inl, inr, ap, ap₂, sym, ◌∙◌, le_trans, le_of_eq, le_antisymm, mul-le-mul_right, arith}
+use Rattle.std.proofs.Common.{inl, inr, ap, sym, le_trans, le_of_eq, le_antisymm, arith}
 use Rattle.std.proofs.Math.Decide.{dec_le}
 use Rattle.decision.specs.Choice.{largest, smallest_best, Best}
 use Rattle.decision.proofs.Choice.{best_is}

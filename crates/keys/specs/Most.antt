@@ -1,6 +1,6 @@
 -- The largest of f 0 to f (n - 1): what a search that takes one number after the other holds. Assumes nothing.
-use Rattle.std.specs.Prelude.{◌≡◌, ℕ, zero, suc, ◌+◌, ◌-◌, ◌<◌, ◌≤◌, max, refl}
-use Rattle.std.proofs.Common.{ap, ap₂, sym, ◌∙◌, add-zero, add-suc, le_refl, le_trans, add-one, arith}
+use Rattle.std.specs.Prelude.{◌≡◌, ℕ, zero, suc, ◌+◌, ◌<◌, ◌≤◌, max, refl}
+use Rattle.std.proofs.Common.{ap₂, sym, ◌∙◌, add-zero, add-suc, le_refl, le_trans, add-one, arith}
 use Rattle.std.proofs.Math.Nat.{le-max_left, le-max_right, max-eq_left}
 use Rattle.std.proofs.Math.Decide.{dec_le}
 

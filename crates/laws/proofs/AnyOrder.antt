@@ -1,5 +1,5 @@
 -- The order of the returns changes no value and no recorded amount. Assumes nothing.
-use Rattle.std.specs.Prelude.{Bool, true, false, cond, ◌&&◌, List, ◌≡◌, refl, ℕ, suc, ◌+◌, ◌*◌, ◌≤◌, ◌<◌, max, T, eqb}
+use Rattle.std.specs.Prelude.{Bool, true, false, cond, List, ◌≡◌, refl, ℕ, suc, ◌+◌, ◌*◌, ◌≤◌, ◌<◌, max, T}
 use Rattle.std.proofs.Math.Path.{ap, sym, fun_ext}
 use Rattle.std.proofs.Common.{◌∙◌, le_trans, one-mul, arith, leb→le, le→leb}
 use Rattle.std.proofs.Math.Nat.{le-max_left, le-max_right}

@@ -1,25 +1,14 @@
 -- Request (vi): what the search for a fee finds. Assumes nothing.
-use Rattle.std.specs.Prelude.{Bool, ◌⊎◌, ◌↔◌, ◌≡◌, refl, ℕ, ◌+◌, ◌-◌, ◌≤◌, ◌<◌, T, leb}
-use Rattle.std.proofs.Common.{inl, inr, sym, le_refl, le_of_eq, sub-le}
-use Rattle.std.proofs.Math.Path.{subst}
+use Rattle.std.specs.Prelude.{◌⊎◌, ◌↔◌, ◌≡◌, ℕ, ◌+◌, ◌-◌, ◌≤◌, ◌<◌, T, leb}
+use Rattle.std.proofs.Common.{inl, inr}
 use Rattle.std.proofs.Math.Nat.{le_trans}
 use native.Mathlib.Omega.{arith}
 use Rattle.std.proofs.Math.Dec.{leb→le, le→leb, nleb→lt, not_T}
-use Rattle.decision.specs.Index.{first, first_is, is_first, none_found, false_is}
-use Rattle.decision.proofs.Compare.{Matched, value_less, start_less}
+use Rattle.decision.specs.Index.{first_is, is_first, none_found, false_is}
 use Rattle.decision.specs.Bisection.{Lasting}
 use Rattle.rules.specs.Contract.{Terms, Returns, Rates, rate_most}
-use Rattle.rules.specs.Date.{Behaviour, static, mixed, dynamic, free_amount, admits, rate_on, cash, guarantee_after}
-use Rattle.rules.specs.Product.{state_value, contract_value}
-use Rattle.rules.specs.FixedTerm.{State, Held, free_in, admissible_in, rate_in, cash_in, after_in, reach_by, paid_by, death_by, mean_by_list}
-use Rattle.rules.specs.FixedTerm.{held_by_list, process_of, fixed_term}
+use Rattle.rules.specs.Date.{Behaviour}
 use Rattle.rules.specs.Fee.{fee_sought}
-use Rattle.laws.specs.Terms.{start_held, with_fee}
-use Rattle.laws.specs.Date.{dynamic_is, share_mono}
-use Rattle.laws.specs.FixedTerm.{mean_mono, averages, opened}
-use Rattle.laws.specs.Rising.{account_rises, excess_rises, excess_paid_rises, maturity_rises, death_rises, free_rises}
-use Rattle.laws.specs.Rising.{dynamic_rises, cash_rises, balance_rises, guarantee_rises, answered, Answers, mixed_answers}
-use Rattle.laws.specs.Rising.{static_answers}
 use Rattle.laws.specs.Fee.{Sought, fee_value, meets, smallest_fee}
 use Rattle.laws.proofs.Fee.{value_falls_with_fee}
 

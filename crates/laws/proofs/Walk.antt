@@ -1,29 +1,16 @@
 -- What an accepted walk conserves. Assumes nothing.
-use Rattle.std.specs.Prelude.{List, ◌++◌, [], ◌∷◌, Bool, not, ◌||◌, ◌↔◌, ◌≡◌, leb, eqb, get_or, length, take}
-use Rattle.std.proofs.Math.Bool.{true, false}
-use Rattle.std.proofs.Math.Path.{refl, ap, subst}
-use Rattle.std.proofs.Common.{sym, ◌∙◌, le_trans, zero-add, sub-le, arith, take-suc, length-take-le}
-use Prim.Native.Nat.{ℕ, zero, suc, ◌+◌, ◌-◌, ◌*◌, ◌≤◌, ◌<◌}
-use Rattle.std.proofs.Math.Nat.{le_refl, min-le_right}
-use Rattle.std.proofs.Math.Dec.{T, ltb, eqb→eq, eqb_refl, nltb→le}
-use Rattle.decision.specs.Index.{sum, first, all_fail}
-use Rattle.decision.specs.Process.{met, start_met}
-use Rattle.decision.specs.Layers.{lookup}
-use Rattle.decision.proofs.Optimal.{Steps, start_met_steps}
-use Rattle.rules.specs.Contract.{Terms, Returns, zero_rates, terms_of, returns_of, factor_most}
-use Rattle.rules.specs.Date.{dynamic, free_amount, balance_after}
-use Rattle.rules.specs.Product.{Product, entries, bad_date, walk_state, walk_amount, walk_held, walk_paid}
-use Rattle.rules.specs.FixedTerm.{State, InRange, free_in, admissible_in, after_in, reach_by, paid_by, process_of, layout_of, fixed_term}
-use Rattle.rules.specs.Refusals.{check_each, Verdict, accepted, refused, verdict, short, record_checks, list_checks, Check, terms_checks}
-use Rattle.rules.specs.Refusals.{check}
-use Rattle.rules.specs.Operations.{Policy, walk_checks}
+use Rattle.std.specs.Prelude.{List, ◌++◌, ◌≡◌, eqb, length}
+use Rattle.std.proofs.Common.{arith}
+use Prim.Native.Nat.{ℕ, suc, ◌+◌, ◌≤◌, ◌<◌}
+use Rattle.std.proofs.Math.Dec.{eqb→eq}
+use Rattle.decision.specs.Index.{sum}
+use Rattle.rules.specs.Contract.{terms_of, returns_of}
+use Rattle.rules.specs.Product.{walk_state, walk_amount}
+use Rattle.rules.specs.FixedTerm.{free_in, process_of, fixed_term}
+use Rattle.rules.specs.Refusals.{accepted, verdict, record_checks, list_checks}
+use Rattle.rules.specs.Operations.{walk_checks}
 use Rattle.rules.specs.Policy.{living_policy}
-use Rattle.laws.specs.Terms.{start_held, living_term, table_size, read_policy}
-use Rattle.laws.specs.Accepted.{Valid, AllPass, all_pass, pass_right, nor_left, nor_right, not_not, then_refused, then_earlier}
-use Rattle.laws.specs.Accepted.{apart, first_iff, second_iff, absent}
-use Rattle.laws.specs.Date.{guarantee_free, excess_paid_le}
-use Rattle.laws.specs.FixedTerm.{reached_in_range, after_falls}
-use Rattle.rules.specs.Facts.{check_numbers}
+use Rattle.laws.specs.Accepted.{AllPass, all_pass, pass_right, not_not}
 use Rattle.laws.specs.Walk.{walk_conserves}
 
 -- .. of a walk that is accepted, on every date up to maturity

@@ -1,25 +1,11 @@
 -- Two contracts compared: the one in a unit k times as fine, and with no larger fee, is worth at least k times as much. The fee alone
 -- is k = 1 (laws/Fee), the unit alone one fee (actuary/Unit). Assumes nothing.
-use Rattle.std.specs.Prelude.{◌≡◌, refl, ℕ, ◌*◌, ◌≤◌, ◌<◌}
-use Rattle.std.proofs.Math.Path.{ap}
-use Rattle.std.proofs.Common.{sym, ◌∙◌, subst, le_of_eq, sub-le}
-use Rattle.std.proofs.Math.Nat.{le_refl, le_trans}
-use Rattle.std.proofs.Math.Dec.{T}
-use Rattle.decision.proofs.Units.{Matched, value_less, start_less}
-use Rattle.rules.specs.Contract.{Terms, Returns, Rates, rate_most}
-use Rattle.rules.specs.Date.{Behaviour, static, mixed, dynamic, free_amount, admits, rate_on, cash, guarantee_after}
-use Rattle.rules.specs.Product.{state_value, contract_value}
-use Rattle.rules.specs.FixedTerm.{State, Held, free_in, admissible_in, rate_in, cash_in, after_in, reach_by, paid_by, death_by, mean_by_list}
-use Rattle.rules.specs.FixedTerm.{held_by_list, process_of, fixed_term}
-use Rattle.laws.specs.Date.{dynamic_is, static_mixed, share_mono}
-use Rattle.laws.specs.FixedTerm.{mean_mono, averages, opened}
-use Rattle.laws.specs.Terms.{with_fee}
-use Rattle.laws.specs.Rising.{account_rises, excess_rises, excess_paid_rises, maturity_rises, death_rises, free_rises}
-use Rattle.laws.specs.Rising.{dynamic_rises, cash_rises, balance_rises, guarantee_rises, answered, Answers, mixed_answers}
-use Rattle.laws.specs.Rising.{static_answers}
-use Rattle.laws.specs.Scaled.{account_scales, excess_scales, excess_paid_scales, maturity_scales, death_scales, share_scales}
-use Rattle.laws.specs.Scaled.{mean_scales, free_scales, cash_scales, balance_scales, admits_scales, guarantee_scales}
-use Rattle.laws.specs.Scaled.{mixed_guarantee_scales}
+use Rattle.std.specs.Prelude.{◌≡◌, refl, ℕ, ◌*◌, ◌≤◌}
+use Rattle.std.proofs.Common.{le_of_eq}
+use Rattle.std.proofs.Math.Nat.{le_refl}
+use Rattle.rules.specs.Contract.{Terms}
+use Rattle.rules.specs.Date.{Behaviour, static, mixed, dynamic}
+use Rattle.rules.specs.FixedTerm.{State, Held}
 
 -- the guarantees that are compared: under static and mixed withdrawals one and the same, under dynamic ones also a larger one. A
 -- static holder of more guarantee has to withdraw more, and may be worth less.

@@ -2,7 +2,7 @@
 -- the behaviour does not matter. Assumes nothing.
 use Rattle.std.specs.Prelude.{List, ◌≡◌, refl, ℕ, zero, suc, ◌+◌, ◌*◌, get_or, replicate}
 use Rattle.std.proofs.Common.{ap, ◌∙◌, arith}
-use Rattle.decision.specs.Process.{reached, start_value, start_table_value}
+use Rattle.decision.specs.Process.{reached}
 use Rattle.rules.specs.Contract.{Terms, Returns, Rates, word, terms_of, returns_of, rate_bytes, rates_of}
 use Rattle.rules.specs.Date.{Behaviour, death_payment, death_share}
 use Rattle.rules.specs.Product.{Product, state_value, contract_value, value_layer, amount_layers, supplied_value, supplied_layer}

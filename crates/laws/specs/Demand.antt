@@ -1,5 +1,5 @@
 -- The third demand, proved once for every product that is sound. Assumes nothing.
-use Rattle.std.specs.Prelude.{List, ◌++◌, ◌≡◌, ℕ, ◌-◌, ◌≤◌, T}
+use Rattle.std.specs.Prelude.{List, ◌++◌, ◌≡◌, ℕ, ◌≤◌, T}
 use Rattle.std.proofs.Common.{arith}
 use Rattle.decision.specs.Process.{Averaging, Open, Closed, Decides, Attained}
 use Rattle.decision.proofs.Optimal.{attained, wider, start_wider}

@@ -13,7 +13,7 @@ use Rattle.decision.specs.Layers.{lookup, layers, entry, entry_within, entry_sta
 use Rattle.rules.specs.Contract.{Terms, Returns, Rates, terms_of, returns_of, rates_of, Input}
 use Rattle.rules.specs.Date.{static, surrenders, admits}
 use Rattle.rules.specs.Product.{recorded_amount, amount_layers, Product, entries}
-use Rattle.rules.specs.FixedTerm.{State, InRange, free_in, admissible_in, process_of, layer_size, layout_of, fixed_term, Held, surrender_in}
+use Rattle.rules.specs.FixedTerm.{State, free_in, admissible_in, process_of, layer_size, layout_of, fixed_term, Held, surrender_in}
 use Rattle.rules.specs.Refusals.{Verdict, accepted, refused, verdict, on_success, short, number_of}
 use Rattle.rules.specs.Operations.{behaviour_number, behaviour_of, valuing_checks, Policy, valued_answer, valued_table, valued_work, filled}
 use Rattle.rules.specs.Map.{surrendered, surrender_map, surrender_count, map_size, mapping_checks, map_after, count_after}

@@ -19,7 +19,7 @@ use Rattle.rules.specs.Refusals.{check}
 use Rattle.rules.specs.Operations.{Policy, walk_checks}
 use Rattle.rules.specs.Policy.{living_policy}
 use Rattle.laws.specs.Terms.{start_held, living_term, table_size, read_policy}
-use Rattle.laws.specs.Accepted.{Valid, AllPass, all_pass, pass_right, nor_left, nor_right, not_not, then_refused, then_earlier}
+use Rattle.laws.specs.Accepted.{Valid, AllPass, nor_left, nor_right, not_not, then_refused, then_earlier}
 use Rattle.laws.specs.Accepted.{apart, first_iff, second_iff, absent}
 use Rattle.laws.specs.Date.{guarantee_free, excess_paid_le}
 use Rattle.laws.specs.FixedTerm.{reached_in_range, after_falls}

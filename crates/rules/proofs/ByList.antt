@@ -1,15 +1,14 @@
 -- Document 02, request (vii): a sum by account is the sum by list, for every list, so the contract is the one whose means are summed
 -- return by return. Assumes nothing.
-use Rattle.std.specs.Prelude.{◌≡◌, refl, ℕ, suc, ◌*◌}
-use Rattle.std.proofs.Common.{ap, ◌∙◌, arith}
+use Rattle.std.specs.Prelude.{◌≡◌, ℕ, suc, ◌*◌}
+use Rattle.std.proofs.Common.{ap, arith}
 use Rattle.std.proofs.Math.Nat.{min-le_left}
 use Rattle.decision.specs.Index.{sum}
 use Rattle.decision.specs.Groups.{le_most, sum_by_keys}
 use Rattle.decision.specs.Process.{reached}
-use Rattle.decision.specs.Means.{averaging, listed}
+use Rattle.decision.specs.Means.{averaging}
 use Rattle.rules.specs.Contract.{Terms, Returns, Rates}
 use Rattle.rules.specs.Date.{lifted_account, next_account, excess, excess_paid, discounted}
-use Rattle.rules.specs.Product.{Product}
 use Rattle.rules.specs.FixedTerm.{State, Held, admissible_in, surrender_in, reach_by, paid_by, death_by, mean_by_list, held_by_list}
 use Rattle.rules.specs.FixedTerm.{weight_to, excess_most, by_account, mean_by_account, value_with, held_by_account, process_of, layout_of}
 use Rattle.rules.specs.FixedTerm.{fixed_term}

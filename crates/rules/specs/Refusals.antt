@@ -1,6 +1,6 @@
 -- Document 01, 'What an office is told': checks, their order, and what a refusal gives. Sentences marked (i), (v) are of
 -- document 02, by its requests. Assumes nothing.
-use Rattle.std.specs.Prelude.{Bool, true, false, cond, not, ◌||◌, List, [], ◌∷◌, ◌++◌, ℕ, ◌+◌, ◌*◌, ◌%◌, ltb, eqb, length}
+use Rattle.std.specs.Prelude.{Bool, cond, not, ◌||◌, List, [], ◌∷◌, ◌++◌, ℕ, ◌+◌, ◌*◌, ◌%◌, ltb, eqb, length}
 use Rattle.decision.specs.Index.{sum, first}
 use Rattle.rules.specs.Contract.{Input, Terms, Returns, record_bytes, terms_of, top_most, dates_most, rate_most, discount_most}
 use Rattle.rules.specs.Contract.{return_bytes, returns_of, returns_most, factor_most, weight_most, weight_total, rate_bytes, rates_of}

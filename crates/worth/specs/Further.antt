@@ -1,12 +1,12 @@
 -- The best of withdrawing further, one unit after the other, where account and guarantee both fall by each: found by one step
 -- from the best of the balance below. What is left of the balance stands for the amount: the more is left, the less was
 -- withdrawn. Assumes nothing.
-use Rattle.std.specs.Prelude.{List, ◌≡◌, refl, ℕ, zero, suc, ◌+◌, ◌-◌, ◌*◌, ◌≤◌, ◌<◌, max, get_or}
+use Rattle.std.specs.Prelude.{List, ◌≡◌, refl, ℕ, zero, suc, ◌+◌, ◌-◌, ◌*◌, ◌≤◌, ◌<◌, max}
 use Rattle.std.proofs.Common.{ap, ap₂, sym, ◌∙◌, arith}
 use Rattle.std.proofs.Math.Nat.{sub-zero}
 use Rattle.slices.specs.Rows.{cells}
 use Rattle.keys.specs.declared.Date.{Date}
-use Rattle.keys.specs.Most.{most, most_join, most_shift, most_eq}
+use Rattle.keys.specs.Most.{most, most_join, most_shift}
 
 -- withdrawing s further from balance b and guarantee a, each unit worth a step; e gives the sums
 abbrev pub further : (ℕ → ℕ → ℕ) → ℕ → ℕ → ℕ → ℕ → ℕ

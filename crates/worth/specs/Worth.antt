@@ -1,5 +1,5 @@
 -- The value and the recorded amount of a state, over the discounted sums e of balance and guarantee. Assumes nothing.
-use Rattle.std.specs.Prelude.{List, ◌≡◌, ℕ, ◌+◌, ◌-◌, ◌*◌, ◌≤◌, ◌<◌, length, get_or}
+use Rattle.std.specs.Prelude.{List, ◌≡◌, ℕ, ◌+◌, ◌*◌, ◌≤◌, ◌<◌, length, get_or}
 use Rattle.std.proofs.Common.{ap, le_trans, sub-le, add-le-add}
 use Rattle.decision.specs.Choice.{largest, smallest_best}
 use Rattle.decision.proofs.Choice.{largest_eq, smallest_best_eq}

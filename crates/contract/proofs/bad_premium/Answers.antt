@@ -1,5 +1,4 @@
 -- `contract::bad_premium` meets its contract. Assumes nothing.
-use borrow.Author.Rules.{rules}
 use borrow.Author.Tests.{lt-ltb, le-ltb}
 use Rattle.contract.proofs.bad_premium.Goals as goal
 

@@ -1,5 +1,4 @@
 -- `contract::word` meets its contract. Assumes nothing.
-use borrow.Author.Rules.{rules}
 use native.Mathlib.Omega.{arith}
 use Rattle.rules.specs.Contract.{word}
 use Rattle.contract.proofs.word.Goals as goal

@@ -1,5 +1,4 @@
 -- `date::admits_dynamic` meets its contract. Assumes nothing.
-use borrow.Author.Rules.{rules}
 use lib.Dec.{leb}
 use mathlib.Core.Path.{ap}
 use Rattle.rules.specs.Date.{admits}

@@ -1,5 +1,4 @@
 -- `date::balance_after` meets its contract. Assumes nothing.
-use borrow.Author.Rules.{rules}
 use Rattle.rules.specs.Date.{balance_after}
 use Rattle.date.proofs.balance_after.Goals as goal
 

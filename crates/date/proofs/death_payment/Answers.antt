@@ -1,5 +1,4 @@
 -- `date::death_payment` meets its contract. Assumes nothing.
-use borrow.Author.Rules.{rules}
 use native.Mathlib.Omega.{arith}
 use Rattle.rules.specs.Date.{maturity_value, death_payment}
 use Rattle.date.proofs.death_payment.Goals as goal

@@ -1,5 +1,4 @@
 -- `date::free_amount` meets its contract. Assumes nothing.
-use borrow.Author.Rules.{rules}
 use Rattle.rules.specs.Date.{free_amount}
 use Rattle.date.proofs.free_amount.Goals as goal
 

@@ -1,5 +1,4 @@
 -- `date::largest_amount` meets its contract. Assumes nothing.
-use borrow.Author.Rules.{rules}
 use Rattle.rules.specs.Date.{largest_amount}
 use Rattle.date.proofs.largest_amount.Goals as goal
 

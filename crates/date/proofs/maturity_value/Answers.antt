@@ -1,6 +1,5 @@
 -- `date::maturity_value` meets its contract. Assumes nothing.
 use Prim.Native.Nat.{ℕ, ◌*◌}
-use borrow.Author.Rules.{rules}
 use mathlib.Core.Path.{ap}
 use native.Mathlib.Omega.{arith}
 use Rattle.rules.specs.Date.{maturity_value}

@@ -1,6 +1,5 @@
 -- `date::next_account` meets its contract. Assumes nothing.
 use Prim.Native.Nat.{min}
-use borrow.Author.Rules.{rules}
 use mathlib.Core.Path.{ap, ◌∙◌}
 use Rattle.rules.specs.Date.{next_account}
 use Rattle.date.proofs.next_account.Goals as goal

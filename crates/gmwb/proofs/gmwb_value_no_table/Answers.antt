@@ -1,5 +1,5 @@
 -- `gmwb::gmwb_value_no_table` meets its contract. Assumes nothing.
-use borrow.Author.Rules.{rules, sfits_of}
+use borrow.Author.Rules.{sfits_of}
 use mir.Facts.{to_z-of_z}
 use mir.Syntax.{w64}
 use Rattle.gmwb.proofs.Laws.{told}

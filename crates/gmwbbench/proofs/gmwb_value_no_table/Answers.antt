@@ -1,5 +1,4 @@
 -- `gmwbbench::gmwb_value_no_table` meets its contract. Assumes nothing.
-use borrow.Author.Rules.{rules}
 use mathlib.Core.Path.{ap}
 use Rattle.valuing.specs.declared.Answer.{Answer}
 use Rattle.gmwbbench.proofs.gmwb_value_no_table.Goals as goal

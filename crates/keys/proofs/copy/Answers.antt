@@ -1,5 +1,5 @@
 -- `keys::copy` meets its contract. Assumes nothing.
-use Rattle.std.proofs.Common.{◌≡◌, ◌+◌, ◌-◌, ◌≤◌, get_or, sym, refl, ◌∙◌, arith}
+use Rattle.std.proofs.Common.{◌≡◌, sym, refl, ◌∙◌, arith}
 use Rattle.slices.specs.Stored.{stored, stored_more}
 use Rattle.keys.proofs.copy.Goals as goal
 

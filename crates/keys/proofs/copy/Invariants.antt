@@ -1,6 +1,6 @@
 -- `keys::copy` meets its contract. Assumes nothing.
-use Rattle.std.proofs.Common.{◌≡◌, ◌+◌, ◌-◌, ◌≤◌, get_or, sym, refl, ◌∙◌, arith}
-use Rattle.slices.specs.Stored.{stored, stored_more}
+use Rattle.std.proofs.Common.{◌≡◌, ◌+◌, ◌-◌, ◌≤◌, get_or}
+use Rattle.slices.specs.Stored.{stored}
 use Rattle.keys.proofs.copy.Given as goal
 
 abbrev pub invariant-loop-i : goal.invariant-loop-i

@@ -1,5 +1,5 @@
 -- `keys::key` meets its contract. Assumes nothing.
-use Rattle.std.proofs.Common.{refl, arith, rules}
+use Rattle.std.proofs.Common.{refl, arith}
 use Rattle.keys.specs.Key.{key}
 use Rattle.keys.proofs.key.Goals as goal
 

@@ -1,5 +1,4 @@
 -- `contract::Contract::layer_size` meets its contract. Assumes nothing.
-use borrow.Author.Rules.{rules}
 use mathlib.Core.Path.{refl}
 use native.Mathlib.Omega.{arith}
 use Rattle.rules.specs.FixedTerm.{layer_size}

@@ -1,5 +1,4 @@
 -- `contract::Contract::read` meets its contract. Assumes nothing.
-use borrow.Author.Rules.{rules}
 use borrow.Author.Tests.{eq-eqb, ne_eqb}
 use mathlib.Core.Path.{◌≡◌, ap, ◌∙◌}
 use Rattle.contract.specs.Reading.{record_read, taken_by}
