@@ -6,10 +6,6 @@ use Rattle.rules.specs.Operations.{behaviour_of}
 use Rattle.worth.specs.Worth.{best_key}
 use Rattle.states.proofs.decide_keys.Goals as goal
 
-pub decide_block-requires : goal.decide_block-requires
-decide_block-requires c =
-    (c.requires.0.span, c.requires.0.row c.if-behaviour-eq2.true, c.requires.1)
-
 pub returns-then-behaviour-eq2 : goal.returns-then-behaviour-eq2
 unfolding behaviour_of
 returns-then-behaviour-eq2 c =
