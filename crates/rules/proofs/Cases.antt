@@ -360,7 +360,7 @@ unfolding sum first first_from largest smallest_best reached worth value_over va
 death_cases = rw tell_listed refl
 
 -- ---- document 02 (vi): contract P; Q, whose record has a fee; a contract of one unit. Fees further from 0, and a value that no fee
--- gives: crates/laws/specs/FeeCases.antt
+-- gives: crates/laws/proofs/FeeCases.antt
 pub tiny : Terms
 tiny = record { premium = 1; level = 1; top = 1; dates = 1; fee = 0; penalty = 0; discount = 1000000; step = 0; spare = 0 }
 
