@@ -1,5 +1,5 @@
 -- The lines of the returns, as the tables hold their amounts. Assumes nothing.
-use Rattle.std.specs.Prelude.{List, [], ◌∷◌, ◌++◌, ◌≡◌, ℕ, ◌+◌, ◌-◌, ◌*◌, ◌≤◌, ◌<◌, length, get_or, replicate}
+use Rattle.std.specs.Prelude.{List, [], ◌∷◌, ◌++◌, ◌≡◌, ℕ, ◌+◌, ◌-◌, ◌*◌, ◌≤◌, ◌<◌, length, get_or}
 use Rattle.std.proofs.Common.{ap, sym, ◌∙◌, le_trans, le_of_eq, one-mul, mul-le-mul, mul-le-mul_right, arith}
 use Rattle.decision.specs.Layers.{two_digits}
 use Rattle.rules.specs.Contract.{word, Terms, terms_of, Returns, returns_of, top_most, factor_most}

@@ -1,6 +1,5 @@
 -- `report::all_lines` meets its contract. Assumes nothing.
 use Prim.Native.Nat.{ℕ, ◌*◌}
-use borrow.Author.Rules.{rules}
 use mathlib.Core.Path.{ap, ap₂, sym, ◌∙◌}
 use native.Mathlib.Omega.{arith}
 use Rattle.input.specs.Accepted.{both_read_lem, disagreed}
@@ -15,9 +14,9 @@ use Rattle.report.proofs.all_lines.Goals as goal
 pub returns-in_default : goal.returns-in_default
 returns-in_default c =
     let args = c.args in
-    absurd (not_both c.requires.0.accepts
+    absurd (not_both c.requires.filled.accepts
     (disagreed _ args.bytes.now args.list.now _ (sym c.read-agreement.ensures ∙ ap agreement_tells
-    c.enum_told-1.given.1)))
+    c.in_default.is)))
 
 pub returns-then-c-lt2 : goal.returns-then-c-lt2
 unfolding lines_of
@@ -26,7 +25,7 @@ returns-then-c-lt2 c =
     let bytes₀ = args.bytes.now in
     let list₀ = args.list.now in
     let known = both_read_lem bytes₀ list₀ _ _ (sym c.read-agreement.ensures
-    ∙ ap agreement_tells c.agreement-1.given.1) in
+    ∙ ap agreement_tells c.in-Accepted.is) in
     put_eq (ap (lines_of (table_line (terms_of bytes₀) (returns_of list₀) args.statics.now args.mixeds.now
     args.dynamics.now)) (sym (no_lines known c.if-c-lt2.true))) (put_none _ _ _)
 
@@ -36,21 +35,23 @@ return_lines-requires c =
     let pre = c.requires in
     let known = both_read_lem args.bytes.now args.list.now _ _
     (sym c.read-agreement.ensures
-    ∙ ap agreement_tells c.agreement-1.given.1) in
-    (tabled known c.if-c-lt2.false pre.0, omega (arith, pre.1, known.count, known.returns.count))
+    ∙ ap agreement_tells c.in-Accepted.is) in
+    record {
+      tabled = tabled known c.if-c-lt2.false pre.filled;
+      room = omega (arith, pre.room, known.count, known.returns.count);
+    }
 
 pub returns : goal.returns
 returns c =
     let args =
     c.args in
     let list₀ = args.list.now in
-    let agreement = c.agreement-1 in
     let known =
     both_read_lem args.bytes.now list₀ _ _
     (sym c.read-agreement.ensures ∙ ap agreement_tells
-    agreement.given.1) in
+    c.in-Accepted.is) in
     put_eq (ap₂ (λ (t : Terms) (n : ℕ). lines_of (table_line t (returns_of list₀) args.statics.now args.mixeds.now
     args.dynamics.now) n) known.terms (known.count
     ∙ sym (some_lines known c.if-c-lt2.false)))
-    (put_most {m = 126 * agreement.given.0.1.0.count} (omega (arith, known.count, known.returns.count))
+    (put_most {m = 126 * c.in-Accepted.returns.count} (omega (arith, known.count, known.returns.count))
     c.return_lines.ensures)

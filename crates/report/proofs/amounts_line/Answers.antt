@@ -1,5 +1,4 @@
 -- `report::amounts_line` meets its contract. Assumes nothing.
-use borrow.Author.Rules.{rules}
 use Rattle.report.specs.Text.{put_then}
 use Rattle.rules.specs.Printed.{decimal, line, numbered}
 use Rattle.report.proofs.amounts_line.Goals as goal

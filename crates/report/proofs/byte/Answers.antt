@@ -1,5 +1,4 @@
 -- `report::byte` meets its contract. Assumes nothing.
-use borrow.Author.Rules.{rules}
 use Rattle.report.specs.Text.{put_byte}
 use Rattle.report.proofs.byte.Goals as goal
 

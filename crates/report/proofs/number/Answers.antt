@@ -1,5 +1,4 @@
 -- `report::number` meets its contract. Assumes nothing.
-use borrow.Author.Rules.{rules}
 use Rattle.report.specs.Text.{put_then}
 use Rattle.rules.specs.Printed.{decimal}
 use Rattle.report.proofs.number.Goals as goal

@@ -1,5 +1,4 @@
 -- `report::print` meets its contract. Assumes nothing.
-use borrow.Author.Rules.{rules}
 use mathlib.Core.Path.{ap, ◌∙◌}
 use native.Mathlib.Nat.{le_refl}
 use native.Mathlib.Omega.{arith}
@@ -16,29 +15,24 @@ unfolding behaviour_of
 returns-then-a-ne0 c =
     let bytes₀ = c.args.bytes.now in
     let list₀ = c.args.list.now in
-    let long = c.value-arg-2-1.given.0.1 in
-    let long_table = c.value-arg-3-1.given.0.1 in
+    let long = c.told-work in
+    let long_table = c.told-statics in
     let told = rw (zeros_lent bytes₀ c.rates_length-n.ensures) at c.value-a.ensures in
     let taken = c.if-a-ne0.true in
     let w = c.refusal.ensures in
-    let no-to = refuses bytes₀ list₀ _ _ _ long long_table told.reported.answer_is taken in (
-      w.holds ∙ refused_printed bytes₀ list₀ _ _ _ long long_table told.reported.answer_is taken,
-      (
-        put_counts w (omega (arith, c.refusal.auto.0, c.refusal-arg-1.given.0.1)),
-        (
-          w.kept _ (le_refl _),
-          (
-            told.reported.work_is
-                ∙ work_left_lem bytes₀ list₀ 0 _ _ (omega arith) long long_table
-                ∙ work_kept bytes₀ list₀ no-to static dynamic _,
-            (
-              told.reported.table_is ∙ table_left_lem bytes₀ list₀ 0 _ _ (omega arith) long long_table,
-              (table_kept bytes₀ list₀ no-to mixed _, table_kept bytes₀ list₀ no-to dynamic _),
-            ),
-          ),
-        ),
-      ),
-    )
+    let no-to = refuses bytes₀ list₀ _ _ _ long long_table told.reported.answer_is taken in
+    record {
+      text = w.holds ∙ refused_printed bytes₀ list₀ _ _ _ long long_table told.reported.answer_is taken;
+      counts = put_counts w (omega (arith, c.refusal.auto.out));
+      rest = w.kept _ (le_refl _);
+      work_after =
+          told.reported.work_is
+          ∙ work_left_lem bytes₀ list₀ 0 _ _ (omega arith) long long_table
+          ∙ work_kept bytes₀ list₀ no-to static dynamic _;
+      statics_after = told.reported.table_is ∙ table_left_lem bytes₀ list₀ 0 _ _ (omega arith) long long_table;
+      mixeds_after = table_kept bytes₀ list₀ no-to mixed _;
+      dynamics_after = table_kept bytes₀ list₀ no-to dynamic _;
+    }
 
 pub all_lines-requires : goal.all_lines-requires
 all_lines-requires c =
@@ -46,11 +40,12 @@ all_lines-requires c =
     let list₀ = c.args.list.now in
     let told = rw (zeros_lent bytes₀ c.rates_length-n.ensures) at c.value-a.ensures in
     let yes_to =
-    program_accepts bytes₀ list₀ _ _ _ c.value-arg-2-1.given.0.1 c.value-arg-3-1.given.0.1 told.reported.answer_is
-    c.if-a-ne0.false in (
-      all_filled bytes₀ list₀ yes_to c.all_lines-arg-2-1.given.0 c.all_lines-arg-4-1.given.0 c.all_lines-arg-6-1.given.0,
-      omega (arith, c.value_lines-at.ensures.within, c.all_lines-arg-7-1.given.0.1),
-    )
+    program_accepts bytes₀ list₀ _ _ _ c.told-work c.told-statics told.reported.answer_is
+    c.if-a-ne0.false in
+    record {
+      filled = all_filled bytes₀ list₀ yes_to (omega arith) (omega arith) (omega arith);
+      room = omega (arith, c.value_lines-at.ensures.within);
+    }
 
 pub returns : goal.returns
 unfolding behaviour_of
@@ -58,14 +53,14 @@ returns c =
     let bytes₀ = c.args.bytes.now in
     let list₀ = c.args.list.now in
     let zeros = zeros_lent bytes₀ c.rates_length-n.ensures in
-    let long₀ = c.value-arg-2-1.given.0.1 in
-    let room₀ = c.value-arg-3-1.given.0.1 in
+    let long₀ = c.told-work in
+    let room₀ = c.told-statics in
     let told₀ = rw zeros at c.value-a.ensures in
-    let long₁ = c.value-arg-5-1.given.0.1 in
-    let room₁ = c.value-arg-6-1.given.0.1 in
+    let long₁ = c.value-a.auto.work ∙ c.told-work in
+    let room₁ = c.told-mixeds in
     let told₁ = rw zeros at c.value-b.ensures in
-    let long₂ = c.value-arg-8-1.given.0.1 in
-    let room₂ = c.value-arg-9-1.given.0.1 in
+    let long₂ = c.value-b.auto.work ∙ c.value-a.auto.work ∙ c.told-work in
+    let room₂ = c.told-dynamics in
     let told₂ = rw zeros at c.value-d.ensures in
     let yes_to = program_accepts bytes₀ list₀ _ _ _ long₀ room₀ told₀.reported.answer_is c.if-a-ne0.false in
     let statics = valued bytes₀ list₀ 0 _ _ _ _ (omega arith) long₀ room₀ yes_to told₀.reported.answer_is told₀.reported.table_is in
@@ -78,25 +73,17 @@ returns c =
     told₁.reported.work_is
     ∙ work_left_lem bytes₀ list₀ 1 _ _ (omega arith) long₁ room₁
     ∙ ap (work_left bytes₀ list₀ mixed) one
-    ∙ work_again bytes₀ list₀ static mixed _ in (
-      w.holds ∙ accepted_printed bytes₀ list₀ statics mixeds dynamics yes_to,
-      (
-        put_counts w (omega (arith, c.all_lines.auto.1.1.1.1.1.0, c.all_lines-arg-7-1.given.0.1)),
-        (
-          w.kept _ (le_refl _),
-          (
-            told₂.reported.work_is
-                ∙ work_left_lem bytes₀ list₀ 2 _ _ (omega arith) long₂ room₂
-                ∙ ap (work_left bytes₀ list₀ dynamic) two
-                ∙ work_again bytes₀ list₀ mixed dynamic _,
-            (
-              told₀.reported.table_is ∙ table_left_lem bytes₀ list₀ 0 _ _ (omega arith) long₀ room₀,
-              (
-                told₁.reported.table_is ∙ table_left_lem bytes₀ list₀ 1 _ _ (omega arith) long₁ room₁,
-                told₂.reported.table_is ∙ table_left_lem bytes₀ list₀ 2 _ _ (omega arith) long₂ room₂,
-              ),
-            ),
-          ),
-        ),
-      ),
-    )
+    ∙ work_again bytes₀ list₀ static mixed _ in
+    record {
+      text = w.holds ∙ accepted_printed bytes₀ list₀ statics mixeds dynamics yes_to;
+      counts = put_counts w (omega (arith, c.all_lines.auto.out));
+      rest = w.kept _ (le_refl _);
+      work_after =
+          told₂.reported.work_is
+          ∙ work_left_lem bytes₀ list₀ 2 _ _ (omega arith) long₂ room₂
+          ∙ ap (work_left bytes₀ list₀ dynamic) two
+          ∙ work_again bytes₀ list₀ mixed dynamic _;
+      statics_after = told₀.reported.table_is ∙ table_left_lem bytes₀ list₀ 0 _ _ (omega arith) long₀ room₀;
+      mixeds_after = told₁.reported.table_is ∙ table_left_lem bytes₀ list₀ 1 _ _ (omega arith) long₁ room₁;
+      dynamics_after = told₂.reported.table_is ∙ table_left_lem bytes₀ list₀ 2 _ _ (omega arith) long₂ room₂;
+    }

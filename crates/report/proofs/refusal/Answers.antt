@@ -1,12 +1,7 @@
 -- `report::refusal` meets its contract. Assumes nothing.
-use borrow.Author.Rules.{rules}
 use Rattle.report.specs.Text.{put_then}
 use Rattle.rules.specs.Printed.{line, numbered, refused_word}
 use Rattle.report.proofs.refusal.Goals as goal
-
--- UNMATCHED
-slice-aggregate-word : tie.Need-slice-aggregate-word
-slice-aggregate-word c = search rules
 
 pub returns : goal.returns
 unfolding line numbered refused_word

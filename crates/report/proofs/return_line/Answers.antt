@@ -1,5 +1,4 @@
 -- `report::return_line` meets its contract. Assumes nothing.
-use borrow.Author.Rules.{rules}
 use mathlib.Core.Path.{ap, ◌∙◌}
 use native.Mathlib.Omega.{arith}
 use Rattle.laws.specs.Date.{account_le}
@@ -11,15 +10,15 @@ use Rattle.report.proofs.return_line.Goals as goal
 pub next_account-account-requires : goal.next_account-account-requires
 next_account-account-requires c =
     let pre = c.requires in
-    let f = factor_le pre.0.counted pre.1.0 in
-    (pre.0.valid.fee, omega (arith, pre.0.valid.top, pre.0.valid.premium), omega (arith, f, c.word-factor.ensures.0))
+    let f = factor_le pre.tabled.counted pre.room.0 in
+    (pre.tabled.valid.fee, omega (arith, pre.tabled.valid.top, pre.tabled.valid.premium), omega (arith, f, c.word-factor.ensures.0))
 
 pub overflow_mul-entry : goal.overflow_mul-entry
 overflow_mul-entry c =
     let args = c.args in
     let pre = c.requires in
     let word = c.word-factor in
-    let e = row_small pre.0.valid c.next_account-account.result
+    let e = row_small pre.tabled.valid c.next_account-account.result
     (omega (
       arith,
       c.next_account-account.ensures,
@@ -34,9 +33,9 @@ overflow_add-entry-2 c =
     let pre = c.requires in
     let word = c.word-factor in
     let next-account = c.next_account-account in
-    let e = row_small pre.0.valid next-account.result
+    let e = row_small pre.tabled.valid next-account.result
     (omega (arith, next-account.ensures, account_le args.c.fee args.c.top args.c.premium word.result)) in
-    omega (arith, e, pre.0.valid.top, pre.0.valid.premium)
+    omega (arith, e, pre.tabled.valid.top, pre.tabled.valid.premium)
 
 pub amount-a-requires : goal.amount-a-requires
 amount-a-requires c =
@@ -44,9 +43,9 @@ amount-a-requires c =
     let pre = c.requires in
     let word = c.word-factor in
     let next-account = c.next_account-account in
-    let e = entry_within pre.0.valid next-account.result
+    let e = entry_within pre.tabled.valid next-account.result
     (omega (arith, next-account.ensures, account_le args.c.fee args.c.top args.c.premium word.result)) in
-    omega (arith, e, pre.0.static_layer)
+    omega (arith, e, pre.tabled.static_layer)
 
 pub amount-b-requires : goal.amount-b-requires
 amount-b-requires c =
@@ -54,9 +53,9 @@ amount-b-requires c =
     let pre = c.requires in
     let word = c.word-factor in
     let next-account = c.next_account-account in
-    let e = entry_within pre.0.valid next-account.result
+    let e = entry_within pre.tabled.valid next-account.result
     (omega (arith, next-account.ensures, account_le args.c.fee args.c.top args.c.premium word.result)) in
-    omega (arith, e, pre.0.mixed_layer)
+    omega (arith, e, pre.tabled.mixed_layer)
 
 pub amount-d-requires : goal.amount-d-requires
 amount-d-requires c =
@@ -64,9 +63,9 @@ amount-d-requires c =
     let pre = c.requires in
     let word = c.word-factor in
     let next-account = c.next_account-account in
-    let e = entry_within pre.0.valid next-account.result
+    let e = entry_within pre.tabled.valid next-account.result
     (omega (arith, next-account.ensures, account_le args.c.fee args.c.top args.c.premium word.result)) in
-    omega (arith, e, pre.0.dynamic_layer)
+    omega (arith, e, pre.tabled.dynamic_layer)
 
 pub returns : goal.returns
 returns c =

@@ -1,12 +1,10 @@
 -- `report::return_lines` meets its contract. Assumes nothing.
-use Prim.Native.Nat.{◌-◌, ◌*◌, ◌≤◌}
-use borrow.Author.Rules.{rules}
-use lib.ListN.{length}
+use Prim.Native.Nat.{◌*◌}
 use mathlib.Core.Path.{◌≡◌, refl, ap, ◌∙◌}
 use native.Mathlib.Omega.{arith}
 use Rattle.contract.specs.Reading.{terms_in}
 use Rattle.report.specs.Tables.{table_line}
-use Rattle.report.specs.Text.{Put, put_none, put_eq, put_most, put_line}
+use Rattle.report.specs.Text.{put_none, put_eq, put_most, put_line}
 use Rattle.rules.specs.Contract.{returns_of}
 use Rattle.rules.specs.Printed.{lines_of}
 use Rattle.report.proofs.return_lines.Goals as goal
@@ -19,7 +17,10 @@ pub return_line-next-requires : goal.return_line-next-requires
 return_line-next-requires c =
     let pre = c.requires in
     let loop = c.loop-k in
-    (pre.0, (c.loop-k-test.true, omega (arith, pre.1, loop.invariant.2.within, loop.invariant.1, c.loop-k-test.true)))
+    record {
+      tabled = pre.tabled;
+      room = (c.loop-k-test.true, omega (arith, pre.room, loop.invariant.2.within, loop.invariant.1, c.loop-k-test.true));
+    }
 
 pub loop-k-smaller : goal.loop-k-smaller
 loop-k-smaller c = omega (arith, c.loop-k-test.true)
@@ -31,7 +32,7 @@ loop-k-preserved c =
     let loop-test = c.loop-k-test in
     let return_line_lem = c.return_line-next in (
       omega (arith, loop-test.true),
-      return_line_lem.auto.1.1.1.1.1.1.1.0 ∙ loop.invariant.1,
+      return_line_lem.auto.out ∙ loop.invariant.1,
       put_line (table_line (terms_in args.c) (returns_of args.list.now) args.statics.now args.mixeds.now
           args.dynamics.now) loop.invariant.2 return_line_lem.ensures,
     )

@@ -1,12 +1,10 @@
 -- `report::return_lines` meets its contract. Assumes nothing.
 use Prim.Native.Nat.{◌-◌, ◌*◌, ◌≤◌}
-use borrow.Author.Rules.{rules}
 use lib.ListN.{length}
-use mathlib.Core.Path.{◌≡◌, refl, ap, ◌∙◌}
-use native.Mathlib.Omega.{arith}
+use mathlib.Core.Path.{◌≡◌}
 use Rattle.contract.specs.Reading.{terms_in}
 use Rattle.report.specs.Tables.{table_line}
-use Rattle.report.specs.Text.{Put, put_none, put_eq, put_most, put_line}
+use Rattle.report.specs.Text.{Put}
 use Rattle.rules.specs.Contract.{returns_of}
 use Rattle.rules.specs.Printed.{lines_of}
 use Rattle.report.proofs.return_lines.Given as goal

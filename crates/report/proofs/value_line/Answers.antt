@@ -1,5 +1,4 @@
 -- `report::value_line` meets its contract. Assumes nothing.
-use borrow.Author.Rules.{rules}
 use Rattle.report.specs.Text.{put_then}
 use Rattle.rules.specs.Printed.{line, numbered}
 use Rattle.report.proofs.value_line.Goals as goal

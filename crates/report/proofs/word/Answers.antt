@@ -1,12 +1,11 @@
 -- `report::word` meets its contract. Assumes nothing.
-use Prim.Native.Nat.{ℕ, ◌-◌, ◌≤◌}
-use borrow.Author.Rules.{rules}
+use Prim.Native.Nat.{ℕ}
 use lib.ListN.{length, take}
 use lib.Seq.{take-length}
 use mathlib.Core.Path.{◌≡◌, ap, ◌∙◌}
 use mathlib.Core.Path.{refl}
 use native.Mathlib.Omega.{arith}
-use Rattle.report.specs.Text.{Put, put_none, put_next, put_eq, put_most}
+use Rattle.report.specs.Text.{put_none, put_next, put_eq, put_most}
 use Rattle.report.proofs.word.Goals as goal
 
 pub loop-i-init : goal.loop-i-init
@@ -34,7 +33,7 @@ loop-i-preserved c =
     let loop-test = c.loop-i-test in
     let byte = c.byte-next in (
       omega (arith, loop-test.true),
-      byte.auto.0 ∙ loop.invariant.1,
+      byte.auto.out ∙ loop.invariant.1,
       put_next args.text.now loop-test.true loop.invariant.2
           byte.ensures,
     )

@@ -1,12 +1,8 @@
 -- `report::word` meets its contract. Assumes nothing.
-use Prim.Native.Nat.{ℕ, ◌-◌, ◌≤◌}
-use borrow.Author.Rules.{rules}
+use Prim.Native.Nat.{◌-◌, ◌≤◌}
 use lib.ListN.{length, take}
-use lib.Seq.{take-length}
-use mathlib.Core.Path.{◌≡◌, ap, ◌∙◌}
-use mathlib.Core.Path.{refl}
-use native.Mathlib.Omega.{arith}
-use Rattle.report.specs.Text.{Put, put_none, put_next, put_eq, put_most}
+use mathlib.Core.Path.{◌≡◌}
+use Rattle.report.specs.Text.{Put}
 use Rattle.report.proofs.word.Given as goal
 
 abbrev pub invariant-loop-i : goal.invariant-loop-i
