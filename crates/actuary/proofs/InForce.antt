@@ -19,7 +19,8 @@ use Rattle.rules.specs.Date.{Behaviour, rate_on, cash}
 use Rattle.rules.specs.Product.{Product, state_value, recorded_amount, value_layer, amount_layers, supplied_layer}
 use Rattle.rules.specs.FixedTerm.{State, Held, free_in, admissible_in, rate_in, cash_in, after_in, value_with, held_by_account, process_of}
 use Rattle.rules.specs.FixedTerm.{mean_by_account, by_account, weight_to, excess_most, layer_size, layout_of, fixed_term}
-use Rattle.rules.specs.Refusals.{accepted, verdict, outside, terms_checks, record_checks, list_checks, rates_checks, check_each, input_checks}
+use Rattle.rules.specs.Refusals.{accepted, verdict, outside, terms_checks, record_checks, list_checks, rates_checks, check_each}
+use Rattle.rules.specs.Refusals.{input_checks}
 use Rattle.rules.specs.Policy.{policy_of}
 use Rattle.laws.specs.Accepted.{ValidInput, input_valid, input_both, AllPass, all_pass, passes, then_earlier, then_later, then_accepted}
 use Rattle.laws.specs.Accepted.{not_not}

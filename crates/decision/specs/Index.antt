@@ -1,6 +1,8 @@
 -- Functions of an index: their sum, their list, and the first index that passes a test. Assumes nothing.
-use Rattle.std.specs.Prelude.{Bool, true, false, List, [], ◌∷◌, ◌++◌, ◌≡◌, refl, ℕ, zero, suc, ◌+◌, ◌-◌, ◌*◌, ◌≤◌, ◌<◌, T, get_or, length, replicate, drop}
-use Rattle.std.proofs.Common.{ap, ap₂, sym, subst, ◌∙◌, le_refl, le_trans, le_of_eq, add-le-add, mul-le-mul_left, add-zero, zero-add, suc-add, add-one, arith}
+use Rattle.std.specs.Prelude.{Bool, true, false, List, [], ◌∷◌, ◌++◌, ◌≡◌, refl, ℕ, zero, suc, ◌+◌, ◌-◌, ◌*◌, ◌≤◌, ◌<◌, T, get_or, length}
+use Rattle.std.specs.Prelude.{replicate, drop}
+use Rattle.std.proofs.Common.{ap, ap₂, sym, subst, ◌∙◌, le_refl, le_trans, le_of_eq, add-le-add, mul-le-mul_left, add-zero, zero-add}
+use Rattle.std.proofs.Common.{suc-add, add-one, arith}
 use Rattle.std.proofs.Math.Decide.{dec_le}
 
 -- f 0 + f 1 + .. + f (n - 1)

@@ -13,7 +13,8 @@ use Rattle.decision.specs.Layers.{lookup}
 use Rattle.rules.specs.Contract.{Terms, Returns, Rates, factor_most, weight_most, rate_most}
 use Rattle.rules.specs.Date.{Behaviour, next_account, excess, discounted}
 use Rattle.rules.specs.Product.{state_value, recorded_amount, contract_value, supplied_value}
-use Rattle.rules.specs.FixedTerm.{State, Held, admissible_in, mean_by_account, value_with, held_by_account, process_of, layout_of, fixed_term}
+use Rattle.rules.specs.FixedTerm.{State, Held, admissible_in, mean_by_account, value_with, held_by_account, process_of, layout_of}
+use Rattle.rules.specs.FixedTerm.{fixed_term}
 use Rattle.rules.proofs.ByList.{by_account_is_by_list}
 use Rattle.rules.specs.Fee.{fee_sought}
 use Rattle.laws.specs.Terms.{with_fee}
@@ -74,7 +75,8 @@ module _ {rs us : Returns} (same : Reordered rs us) where
       }
 
   -- the sums by account, and so the means
-  reordered_mean : (c : Terms) (ds : Rates) (i : ℕ) (h : Held) (v : State → ℕ) → held_by_account c rs ds i h v ≡ held_by_account c us ds i h v
+  reordered_mean : (c : Terms) (ds : Rates) (i : ℕ) (h : Held) (v : State → ℕ)
+      → held_by_account c rs ds i h v ≡ held_by_account c us ds i h v
   unfolding held_by_account mean_by_account
   reordered_mean c ds i h v =
       let f = value_with ds i h.guarantee v in
@@ -103,7 +105,8 @@ module _ {rs us : Returns} (same : Reordered rs us) where
     unfolding contract_value fixed_term
     any_order_value b = start_same same_means (admissible_in c b)
 
-    pub any_order_state : (b : Behaviour) (i : ℕ) (s : State) → state_value (fixed_term c rs ds) b i s ≡ state_value (fixed_term c us ds) b i s
+    pub any_order_state : (b : Behaviour) (i : ℕ) (s : State)
+        → state_value (fixed_term c rs ds) b i s ≡ state_value (fixed_term c us ds) b i s
     unfolding state_value fixed_term
     any_order_state b i s = value_same same_means (admissible_in c b) i s tt
 

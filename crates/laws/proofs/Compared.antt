@@ -9,7 +9,8 @@ use Rattle.decision.proofs.Units.{Matched, value_less, start_less}
 use Rattle.rules.specs.Contract.{Terms, Returns, Rates, rate_most}
 use Rattle.rules.specs.Date.{Behaviour, static, mixed, dynamic, free_amount, admits, rate_on, cash, guarantee_after}
 use Rattle.rules.specs.Product.{state_value, contract_value}
-use Rattle.rules.specs.FixedTerm.{State, Held, free_in, admissible_in, rate_in, cash_in, after_in, reach_by, paid_by, death_by, mean_by_list}
+use Rattle.rules.specs.FixedTerm.{State, Held, free_in, admissible_in, rate_in, cash_in, after_in, reach_by, paid_by, death_by}
+use Rattle.rules.specs.FixedTerm.{mean_by_list}
 use Rattle.rules.specs.FixedTerm.{held_by_list, process_of, fixed_term}
 use Rattle.laws.specs.Date.{dynamic_is, static_mixed, share_mono}
 use Rattle.laws.specs.FixedTerm.{mean_mono, averages, opened}

@@ -7,7 +7,8 @@ use Rattle.decision.proofs.Compare.{Matched, value_less, start_less}
 use Rattle.rules.specs.Contract.{Terms, Returns, Rates, rate_most}
 use Rattle.rules.specs.Date.{Behaviour, static, mixed, dynamic, free_amount, admits, rate_on, cash, guarantee_after}
 use Rattle.rules.specs.Product.{state_value, contract_value}
-use Rattle.rules.specs.FixedTerm.{State, Held, free_in, admissible_in, rate_in, cash_in, after_in, reach_by, paid_by, death_by, mean_by_list}
+use Rattle.rules.specs.FixedTerm.{State, Held, free_in, admissible_in, rate_in, cash_in, after_in, reach_by, paid_by, death_by}
+use Rattle.rules.specs.FixedTerm.{mean_by_list}
 use Rattle.rules.specs.FixedTerm.{held_by_list, process_of, fixed_term}
 use Rattle.laws.specs.Terms.{start_held, with_fee}
 use Rattle.laws.specs.Date.{dynamic_is, share_mono}

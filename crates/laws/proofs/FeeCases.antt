@@ -7,10 +7,12 @@ use Rattle.decision.specs.Choice.{largest, and_left, and_right}
 use Rattle.decision.specs.Process.{reached, worth, value_over, value, start_value}
 use Rattle.rules.specs.Contract.{word, long, bytes_of, terms_of, returns_of, zero_rates, rate_most}
 use Rattle.rules.specs.Date.{Behaviour, static, dynamic, free_amount, largest_amount, surrenders, admits, rate_on, penalty, cash}
-use Rattle.rules.specs.Date.{guarantee_after, balance_after, lifted_account, next_account, excess, excess_paid, maturity_value, death_payment}
+use Rattle.rules.specs.Date.{guarantee_after, balance_after, lifted_account, next_account, excess, excess_paid, maturity_value}
+use Rattle.rules.specs.Date.{death_payment}
 use Rattle.rules.specs.Date.{death_share, discounted}
 use Rattle.rules.specs.Product.{contract_value}
-use Rattle.rules.specs.FixedTerm.{free_in, admissible_in, cash_in, after_in, reach_by, paid_by, death_by, mean_by_list, held_by_list, process_of}
+use Rattle.rules.specs.FixedTerm.{free_in, admissible_in, cash_in, after_in, reach_by, paid_by, death_by, mean_by_list, held_by_list}
+use Rattle.rules.specs.FixedTerm.{process_of}
 use Rattle.rules.specs.ByList.{listed_term}
 use Rattle.rules.proofs.ByList.{listed_contract}
 use Rattle.rules.proofs.Cases.{P, returns_p}
@@ -92,18 +94,18 @@ figures =
     ∷ []
 
 pub fee_figures : Each figures
-unfolding sum largest reached worth value_over value start_value word long bytes_of terms_of returns_of free_amount largest_amount surrenders
-    admits rate_on penalty cash guarantee_after balance_after lifted_account next_account excess excess_paid maturity_value death_payment
-    death_share discounted contract_value free_in admissible_in cash_in after_in reach_by paid_by death_by mean_by_list held_by_list
-    process_of listed_term fee_value P returns_p row value_at found all_found figures
+unfolding sum largest reached worth value_over value start_value word long bytes_of terms_of returns_of free_amount largest_amount
+    surrenders admits rate_on penalty cash guarantee_after balance_after lifted_account next_account excess excess_paid maturity_value
+    death_payment death_share discounted contract_value free_in admissible_in cash_in after_in reach_by paid_by death_by mean_by_list
+    held_by_list process_of listed_term fee_value P returns_p row value_at found all_found figures
 fee_figures = each figures (rw listed_contract tt)
 
 -- "Contract P, static, wanted 99,999 has no fee, since the guarantee alone is worth 100,000."
 pub no_fee_case : rate_most < smallest_fee P (returns_of returns_p) zero_rates static 99999
-unfolding sum largest reached worth value_over value start_value word long bytes_of terms_of returns_of free_amount largest_amount surrenders
-    admits rate_on penalty cash guarantee_after balance_after lifted_account next_account excess excess_paid maturity_value death_payment
-    death_share discounted contract_value free_in admissible_in cash_in after_in reach_by paid_by death_by mean_by_list held_by_list
-    process_of listed_term fee_value P returns_p
+unfolding sum largest reached worth value_over value start_value word long bytes_of terms_of returns_of free_amount largest_amount
+    surrenders admits rate_on penalty cash guarantee_after balance_after lifted_account next_account excess excess_paid maturity_value
+    death_payment death_share discounted contract_value free_in admissible_in cash_in after_in reach_by paid_by death_by mean_by_list
+    held_by_list process_of listed_term fee_value P returns_p
 no_fee_case =
     fee_none P (returns_of returns_p) zero_rates static 99999 P_penalty
     (ltb→lt 99999 (fee_value P (returns_of returns_p) zero_rates static rate_most) (rw listed_contract tt))

@@ -22,7 +22,8 @@ use Rattle.laws.specs.Terms.{living_term}
 -- the penalty on date j + 1, and the excess of the return that leads to date j + 1
 abbrev pub walk_penalty : Terms → Returns → List ℕ → List ℕ → ℕ → ℕ
 walk_penalty c rs table path j =
-    penalty (rate_in c (suc j)) (free_in c (walk_state (living_term c rs) table path (suc j))) (walk_amount (living_term c rs) table path (suc j))
+    penalty (rate_in c (suc j)) (free_in c (walk_state (living_term c rs) table path (suc j)))
+    (walk_amount (living_term c rs) table path (suc j))
 
 abbrev pub walk_excess : Terms → Returns → List ℕ → List ℕ → ℕ → ℕ
 walk_excess c rs table path j =

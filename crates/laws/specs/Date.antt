@@ -1,6 +1,7 @@
 -- Laws of one date: the admissible sets, how the guarantee falls, and shares at death. Assumes nothing.
 use Rattle.std.specs.Prelude.{Bool, true, false, cond, ◌&&◌, ◌||◌, ◌⊎◌, ◌≡◌, ℕ, ◌+◌, ◌-◌, ◌*◌, ◌/◌, ◌≤◌, ◌<◌, min, max, T, leb, ltb, eqb}
-use Rattle.std.proofs.Common.{inl, inr, ap, sym, ◌∙◌, le_refl, le_trans, sub-le, mul-le-mul_left, add_comm, mul_assoc, mul-add, add-mul, arith, lit<, eqb→eq, leb→le, le→leb, ltb→lt, lt→ltb, le-leb}
+use Rattle.std.proofs.Common.{inl, inr, ap, sym, ◌∙◌, le_refl, le_trans, sub-le, mul-le-mul_left, add_comm, mul_assoc, mul-add, add-mul}
+use Rattle.std.proofs.Common.{arith, lit<, eqb→eq, leb→le, le→leb, ltb→lt, lt→ltb, le-leb}
 use Rattle.std.proofs.Math.Nat.{max-le, min-le_left, min-le_right, div-le_of_le-mul, mul-add-div, add-mul-div_right}
 use Rattle.std.proofs.Math.Dec.{eqb_refl}
 use Rattle.std.proofs.lemmas.Bool.{lt-leb}

@@ -16,7 +16,8 @@ use Rattle.rules.specs.Contract.{Terms, Returns, Rates, zero_rates}
 use Rattle.rules.specs.Date.{Behaviour, balance_after, lifted_account, excess, excess_paid}
 use Rattle.rules.specs.Product.{Product, state_value, recorded_amount, contract_value, value_layer, amount_layers, supplied_value}
 use Rattle.rules.specs.Product.{supplied_layer, walk_state, walk_amount, walk_held, walk_paid, walk_cash_on, walk_cash_last, walk_cash}
-use Rattle.rules.specs.FixedTerm.{State, Held, InRange, admissible_in, cash_in, after_in, paid_by, process_of, layer_size, layout_of, fixed_term}
+use Rattle.rules.specs.FixedTerm.{State, Held, InRange, admissible_in, cash_in, after_in, paid_by, process_of, layer_size, layout_of}
+use Rattle.rules.specs.FixedTerm.{fixed_term}
 use Rattle.rules.specs.FixedTerm.{surrender_in}
 use Rattle.laws.specs.Accepted.{Valid}
 use Rattle.laws.specs.FixedTerm.{averages, reached_in_range, after_falls, placed_in_range, size_some}

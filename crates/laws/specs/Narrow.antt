@@ -11,7 +11,8 @@ use Rattle.decision.specs.Process.{Table, table_value, start_table_value, Decide
 use Rattle.decision.specs.Layers.{lookup, layer}
 use Rattle.rules.specs.Contract.{Terms, Returns, Rates, terms_of, returns_of, rates_of, Input}
 use Rattle.rules.specs.Date.{Behaviour, dynamic, maturity_value}
-use Rattle.rules.specs.Product.{state_value, contract_value, value_layer, supplied_value, supplied_layer, walk_state, walk_paid, walk_cash_on}
+use Rattle.rules.specs.Product.{state_value, contract_value, value_layer, supplied_value, supplied_layer, walk_state, walk_paid}
+use Rattle.rules.specs.Product.{walk_cash_on}
 use Rattle.rules.specs.Product.{walk_cash_last, walk_cash, bad_date, bad_entry, entries}
 use Rattle.rules.specs.FixedTerm.{State, InRange, free_in, admissible_in, rate_in, cash_in, process_of, layer_size, layout_of, fixed_term}
 use Rattle.rules.specs.Refusals.{check_each, accepted, record_checks, list_checks, input_checks, verdict}

@@ -1,6 +1,8 @@
 -- What one date makes of more account, more guarantee and a smaller fee: never less. On plain numbers. Assumes nothing.
 use Rattle.std.specs.Prelude.{Bool, true, false, cond, not, ◌⊎◌, ◌≡◌, ℕ, ◌+◌, ◌-◌, ◌*◌, ◌/◌, ◌≤◌, ◌<◌, min, max, T, leb}
-use Rattle.std.proofs.Common.{inl, inr, sym, ◌∙◌, subst₂, zero-le, le_refl, le_trans, le_of_eq, mul-le-mul, mul-le-mul_left, mul-le-mul_right, sub-le, mul-zero, mul-add, div-mul-le_self, le-div_iff_mul-le, eq-zero-or-pos, arith, leb→le, le→leb, eqb→eq, le-leb}
+use Rattle.std.proofs.Common.{inl, inr, sym, ◌∙◌, subst₂, zero-le, le_refl, le_trans, le_of_eq, mul-le-mul, mul-le-mul_left}
+use Rattle.std.proofs.Common.{mul-le-mul_right, sub-le, mul-zero, mul-add, div-mul-le_self, le-div_iff_mul-le, eq-zero-or-pos, arith}
+use Rattle.std.proofs.Common.{leb→le, le→leb, eqb→eq, le-leb}
 use Rattle.std.proofs.Math.Nat.{sub-le-sub_left, sub_self, zero-div, min-zero, div-le_of_le-mul}
 use Rattle.std.proofs.Math.Dec.{nleb→lt}
 use Rattle.std.proofs.lemmas.Bool.{lt-leb}
@@ -17,7 +19,8 @@ lifted_rises factor fees l =
     let m = mul-le-mul (mul-le-mul_right factor l) (sub-le-sub_left fees 10000) in
     omega arith
 
-pub account_rises : {low high x y : ℕ} (top factor : ℕ) → low ≤ high → x ≤ y → next_account high top x factor ≤ next_account low top y factor
+pub account_rises : {low high x y : ℕ} (top factor : ℕ) → low ≤ high → x ≤ y
+    → next_account high top x factor ≤ next_account low top y factor
 unfolding next_account
 account_rises top factor fees l = let m = lifted_rises factor fees l in omega arith
 

@@ -1,7 +1,8 @@
 -- One date with every amount of money k times as many units: what is rounded down loses no more than it did. On plain numbers.
 -- Assumes nothing.
 use Rattle.std.specs.Prelude.{◌⊎◌, ◌≡◌, ℕ, zero, suc, ◌+◌, ◌-◌, ◌*◌, ◌/◌, ◌≤◌, ◌<◌, min, max}
-use Rattle.std.proofs.Common.{inl, inr, ap, sym, ◌∙◌, zero-le, le_trans, le_of_eq, mul-le-mul_left, mul-add, mul_assoc, mul_left_comm, mul-zero, div-mul-le_self, le-div_iff_mul-le, eq-zero-or-pos, arith, lit<, eqb→eq}
+use Rattle.std.proofs.Common.{inl, inr, ap, sym, ◌∙◌, zero-le, le_trans, le_of_eq, mul-le-mul_left, mul-add, mul_assoc, mul_left_comm}
+use Rattle.std.proofs.Common.{mul-zero, div-mul-le_self, le-div_iff_mul-le, eq-zero-or-pos, arith, lit<, eqb→eq}
 use Rattle.std.proofs.Math.Decide.{dec_le}
 use Rattle.std.proofs.Math.Nat.{mul-sub, zero-div, mul-lt-mul_of_pos_left, mul-div-mul_left}
 use Rattle.std.proofs.Math.Dec.{T, eqb_refl}

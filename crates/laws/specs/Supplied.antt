@@ -17,7 +17,8 @@ use Rattle.rules.specs.Date.{Behaviour, static, mixed, dynamic}
 use Rattle.rules.specs.Product.{recorded_amount, contract_value, supplied_value, amount_layers, bad_entry, entries}
 use Rattle.rules.specs.FixedTerm.{State, InRange, admissible_in, layer_size, layout_of, process_of, fixed_term}
 use Rattle.rules.specs.Refusals.{check_each, accepted, refused, verdict, short, input_checks, Verdict, Check}
-use Rattle.rules.specs.Operations.{answer, behaviour_of, valuing_checks, supplied_checks, supplied_answer, Policy, slices_short, valued_answer}
+use Rattle.rules.specs.Operations.{answer, behaviour_of, valuing_checks, supplied_checks, supplied_answer, Policy, slices_short}
+use Rattle.rules.specs.Operations.{valued_answer}
 use Rattle.rules.specs.Operations.{valued_table}
 use Rattle.rules.specs.Facts.{supplied_order}
 use Rattle.laws.specs.Accepted.{Valid, Positive, zero_accepts, AllPass, all_pass, pass_right, not_not, then_accepted, then_earlier}

@@ -20,7 +20,8 @@ use Rattle.rules.specs.FixedTerm.{InRange, fixed_term, process_of, reach_by, lay
 use Rattle.rules.specs.Refusals.{check, Verdict, accepted, refused, verdict, number_of, place_of, on_success, short, record_checks}
 use Rattle.rules.specs.Operations.{answer, behaviour_number, behaviour_of, valuing_checks, work_after, valued_table, valued_answer, filled}
 use Rattle.rules.specs.Operations.{valued_work, slices_short, work_size}
-use Rattle.rules.specs.Printed.{decimal, line, name_of, refused_word, lines_of, value_line, return_line, line_count, text_of, zero_rate_bytes}
+use Rattle.rules.specs.Printed.{decimal, line, name_of, refused_word, lines_of, value_line, return_line, line_count, text_of}
+use Rattle.rules.specs.Printed.{zero_rate_bytes}
 use Rattle.rules.specs.Printed.{program_of, program_verdict, printed}
 use Rattle.laws.specs.Accepted.{Valid, input_both, refusal_keeps}
 use Rattle.laws.specs.Date.{account_le}
@@ -298,7 +299,8 @@ take_zeros m zero l = refl
 take_zeros zero (suc n) l = absurd (omega arith)
 take_zeros (suc m) (suc n) l = ap (λ (xs : List ℕ). 0 ∷ xs) (take_zeros m n (omega arith))
 
-pub zeros_lent : (bytes : List ℕ) {n : ℕ} → (n ≡ on_success (verdict (record_checks bytes)) (rate_bytes * (terms_of bytes).dates) 0) × (n ≤ 80)
+pub zeros_lent : (bytes : List ℕ) {n : ℕ}
+    → (n ≡ on_success (verdict (record_checks bytes)) (rate_bytes * (terms_of bytes).dates) 0) × (n ≤ 80)
     → mid_of 0 (n - 0) (replicate 80 0) ≡ zero_rate_bytes bytes
 unfolding zero_rate_bytes
 zeros_lent bytes {n} (is, few) =

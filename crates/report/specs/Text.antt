@@ -1,6 +1,8 @@
 -- Text put into a buffer of bytes. Assumes nothing.
-use Rattle.std.specs.Prelude.{List, [], ◌∷◌, ◌++◌, ◌≡◌, refl, ℕ, zero, suc, ◌+◌, ◌-◌, ◌*◌, ◌/◌, ◌%◌, ◌≤◌, ◌<◌, length, take, drop, set, get_or}
-use Rattle.std.proofs.Common.{append_assoc, append-nil, ap, sym, ◌∙◌, le_refl, mod-eq_of_lt, add-one, arith, length-take-le, take-suc, take-suc-set, drop-set-lt, lt-ltb, le-ltb}
+use Rattle.std.specs.Prelude.{List, [], ◌∷◌, ◌++◌, ◌≡◌, refl, ℕ, zero, suc, ◌+◌, ◌-◌, ◌*◌, ◌/◌, ◌%◌, ◌≤◌, ◌<◌, length, take, drop, set}
+use Rattle.std.specs.Prelude.{get_or}
+use Rattle.std.proofs.Common.{append_assoc, append-nil, ap, sym, ◌∙◌, le_refl, mod-eq_of_lt, add-one, arith, length-take-le, take-suc}
+use Rattle.std.proofs.Common.{take-suc-set, drop-set-lt, lt-ltb, le-ltb}
 use Rattle.rules.specs.Printed.{digits, lines_of}
 
 -- the text stands from `at` on, behind what stood before it; its end is r, at most `most` further, and what lies behind is kept

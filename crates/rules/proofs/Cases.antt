@@ -15,7 +15,8 @@ use Rattle.rules.specs.Date.{death_payment, death_share, discounted, margin}
 use Rattle.rules.specs.Product.{entries, state_value, recorded_amount, contract_value, amount_layers, walk_state, walk_amount, walk_held}
 use Rattle.rules.specs.Product.{bad_date, walk_paid, walk_cash_on, walk_cash_last, walk_cash}
 use Rattle.rules.specs.FixedTerm.{State, free_in, admissible_in, surrender_in, cash_in, after_in, reach_by, paid_by, death_by, mean_by_list}
-use Rattle.rules.specs.FixedTerm.{held_by_list, weight_to, excess_most, by_account, mean_by_account, value_with, held_by_account, process_of}
+use Rattle.rules.specs.FixedTerm.{held_by_list, weight_to, excess_most, by_account, mean_by_account, value_with, held_by_account}
+use Rattle.rules.specs.FixedTerm.{process_of}
 use Rattle.rules.specs.FixedTerm.{layer_size, layout_of, fixed_term}
 use Rattle.rules.specs.ByList.{listed_term}
 use Rattle.rules.proofs.ByList.{listed_contract}
@@ -229,13 +230,14 @@ marked =
     ∷ []
 
 pub marked_cases : map (λ r. tell r.asked) marked ≡ map (λ r. r.told) marked
-unfolding sum first first_from largest smallest_best reached worth value_over value recorded start_value word long bytes_of terms_of returns_of
-    rates_of free_amount largest_amount surrenders admits rate_on penalty cash guarantee_after balance_after lifted_account next_account excess
-    excess_paid maturity_value discounted margin state_value recorded_amount contract_value free_in admissible_in cash_in after_in reach_by paid_by
-    death_payment death_share death_by mean_by_list held_by_list process_of layer_size layout_of listed_term check_each verdict number_of place_of
-    on_success outside short terms_checks record_checks bad_return list_checks rates_checks input_checks answer behaviour_number behaviour_of
-    valuing_checks amount_checks booking_checks booking_bytes booking_buffer packed P P_one P_discounted Q returns_p at unless_refused booked
-    zero_rate_bytes tell_by row marked terms_under filled entries slices_short valued_answer valued_with
+unfolding sum first first_from largest smallest_best reached worth value_over value recorded start_value word long bytes_of terms_of
+    returns_of rates_of free_amount largest_amount surrenders admits rate_on penalty cash guarantee_after balance_after lifted_account
+    next_account excess excess_paid maturity_value discounted margin state_value recorded_amount contract_value free_in admissible_in
+    cash_in after_in reach_by paid_by death_payment death_share death_by mean_by_list held_by_list process_of layer_size layout_of
+    listed_term check_each verdict number_of place_of on_success outside short terms_checks record_checks bad_return list_checks
+    rates_checks input_checks answer behaviour_number behaviour_of valuing_checks amount_checks booking_checks booking_bytes
+    booking_buffer packed P P_one P_discounted Q returns_p at unless_refused booked zero_rate_bytes tell_by row marked terms_under filled
+    entries slices_short valued_answer valued_with
 marked_cases = rw tell_listed refl
 
 -- ---- document 02 (i): contract P with N 4 at steps 0, 100 and 1,000; bookings by date; the ends of the two fields
@@ -260,13 +262,14 @@ step_rows =
     ∷ []
 
 pub step_cases : map (λ r. tell r.asked) step_rows ≡ map (λ r. r.told) step_rows
-unfolding sum first first_from largest smallest_best reached worth value_over value recorded start_value word long bytes_of terms_of returns_of
-    rates_of free_amount largest_amount surrenders admits rate_on penalty cash guarantee_after balance_after lifted_account next_account excess
-    excess_paid maturity_value discounted margin state_value recorded_amount contract_value free_in admissible_in cash_in after_in reach_by paid_by
-    death_payment death_share death_by mean_by_list held_by_list process_of layer_size layout_of listed_term check_each verdict number_of place_of
-    on_success outside short terms_checks record_checks bad_return list_checks rates_checks input_checks answer behaviour_number behaviour_of
-    valuing_checks amount_checks booking_checks booking_bytes booking_buffer packed P_spare P_step returns_p at unless_refused booked
-    zero_rate_bytes tell_by row step_rows terms_under filled entries slices_short valued_answer valued_with
+unfolding sum first first_from largest smallest_best reached worth value_over value recorded start_value word long bytes_of terms_of
+    returns_of rates_of free_amount largest_amount surrenders admits rate_on penalty cash guarantee_after balance_after lifted_account
+    next_account excess excess_paid maturity_value discounted margin state_value recorded_amount contract_value free_in admissible_in
+    cash_in after_in reach_by paid_by death_payment death_share death_by mean_by_list held_by_list process_of layer_size layout_of
+    listed_term check_each verdict number_of place_of on_success outside short terms_checks record_checks bad_return list_checks
+    rates_checks input_checks answer behaviour_number behaviour_of valuing_checks amount_checks booking_checks booking_bytes
+    booking_buffer packed P_spare P_step returns_p at unless_refused booked zero_rate_bytes tell_by row step_rows terms_under filled
+    entries slices_short valued_answer valued_with
 step_cases = rw tell_listed refl
 
 -- ---- document 02 (ii): the maps of contract P, in words that held ones before; a word too few; of a contract with two decision
@@ -283,14 +286,14 @@ map_rows =
     ∷ []
 
 pub map_cases : map (λ r. tell r.asked) map_rows ≡ map (λ r. r.told) map_rows
-unfolding sum tabulate first first_from largest smallest_best reached worth value_over value recorded start_value word long bytes_of terms_of
-    returns_of rates_of free_amount largest_amount surrenders admits rate_on penalty cash guarantee_after balance_after lifted_account
-    next_account excess excess_paid maturity_value discounted recorded_amount amount_layers layers free_in admissible_in cash_in after_in reach_by
-    paid_by death_payment death_share death_by mean_by_list held_by_list process_of layer_size layout_of listed_term check_each verdict on_success
-    outside short terms_checks record_checks bad_return list_checks rates_checks input_checks behaviour_number behaviour_of valuing_checks bit
-    from_bits words_for word_of words_of set_bits surrendered surrender_map surrender_count map_size mapping_checks packed P P_one small returns_p
-    unless_refused zero_rate_bytes tell_by row map_rows terms_under filled entries slices_short valued_table map_after count_after mapped
-    surrender_in
+unfolding sum tabulate first first_from largest smallest_best reached worth value_over value recorded start_value word long bytes_of
+    terms_of returns_of rates_of free_amount largest_amount surrenders admits rate_on penalty cash guarantee_after balance_after
+    lifted_account next_account excess excess_paid maturity_value discounted recorded_amount amount_layers layers free_in admissible_in
+    cash_in after_in reach_by paid_by death_payment death_share death_by mean_by_list held_by_list process_of layer_size layout_of
+    listed_term check_each verdict on_success outside short terms_checks record_checks bad_return list_checks rates_checks input_checks
+    behaviour_number behaviour_of valuing_checks bit from_bits words_for word_of words_of set_bits surrendered surrender_map
+    surrender_count map_size mapping_checks packed P P_one small returns_p unless_refused zero_rate_bytes tell_by row map_rows terms_under
+    filled entries slices_short valued_table map_after count_after mapped surrender_in
 map_cases = rw tell_listed refl
 
 -- ---- document 02 (iv): contract P with N 3, and its walks along the dynamic table; with top 12, where the first return pays
@@ -314,12 +317,12 @@ excess_rows =
 pub excess_cases : map (λ r. tell r.asked) excess_rows ≡ map (λ r. r.told) excess_rows
 unfolding sum tabulate first first_from largest smallest_best reached worth value_over value recorded start_value met start_met word long
     bytes_of terms_of returns_of rates_of free_amount largest_amount surrenders admits rate_on penalty cash guarantee_after balance_after
-    lifted_account next_account excess excess_paid maturity_value discounted margin recorded_amount contract_value amount_layers walk_state
-    walk_amount walk_held walk_paid walk_cash_on walk_cash_last walk_cash lookup layers entry free_in admissible_in cash_in after_in reach_by paid_by
-    death_payment death_share death_by mean_by_list held_by_list process_of layer_size layout_of fixed_term listed_term check_each verdict on_success
-    outside short terms_checks record_checks bad_return list_checks rates_checks input_checks answer behaviour_number behaviour_of valuing_checks
-    bad_date walk_checks walk_cashes packed P_three P_tight returns_p unless_refused zero_rate_bytes tell_by row excess_rows terms_under filled
-    entries slices_short valued_answer valued_with walked
+    lifted_account next_account excess excess_paid maturity_value discounted margin recorded_amount contract_value amount_layers
+    walk_state walk_amount walk_held walk_paid walk_cash_on walk_cash_last walk_cash lookup layers entry free_in admissible_in cash_in
+    after_in reach_by paid_by death_payment death_share death_by mean_by_list held_by_list process_of layer_size layout_of fixed_term
+    listed_term check_each verdict on_success outside short terms_checks record_checks bad_return list_checks rates_checks input_checks
+    answer behaviour_number behaviour_of valuing_checks bad_date walk_checks walk_cashes packed P_three P_tight returns_p unless_refused
+    zero_rate_bytes tell_by row excess_rows terms_under filled entries slices_short valued_answer valued_with walked
 excess_cases = rw tell_listed refl
 
 -- ---- document 02 (v): contract P with death rates, also of three and four periods, of a discount, and of top 12, where a death
@@ -350,13 +353,13 @@ death_rows =
     ∷ []
 
 pub death_cases : map (λ r. tell r.asked) death_rows ≡ map (λ r. r.told) death_rows
-unfolding sum first first_from largest smallest_best reached worth value_over value start_value word long bytes_of terms_of returns_of rates_of
-    free_amount largest_amount surrenders admits rate_on penalty cash guarantee_after balance_after lifted_account next_account excess
-    excess_paid maturity_value death_payment death_share discounted margin contract_value free_in admissible_in cash_in after_in reach_by paid_by
-    death_by mean_by_list held_by_list process_of layer_size layout_of listed_term check_each verdict number_of place_of on_success outside short
-    terms_checks record_checks bad_return list_checks rates_checks input_checks answer behaviour_number behaviour_of valuing_checks packed
-    packed_rates P P_three P_four P_discounted P_tight returns_p unless_refused zero_rate_bytes tell_by row death_rows terms_under filled
-    entries slices_short valued_answer valued_with
+unfolding sum first first_from largest smallest_best reached worth value_over value start_value word long bytes_of terms_of returns_of
+    rates_of free_amount largest_amount surrenders admits rate_on penalty cash guarantee_after balance_after lifted_account next_account
+    excess excess_paid maturity_value death_payment death_share discounted margin contract_value free_in admissible_in cash_in after_in
+    reach_by paid_by death_by mean_by_list held_by_list process_of layer_size layout_of listed_term check_each verdict number_of place_of
+    on_success outside short terms_checks record_checks bad_return list_checks rates_checks input_checks answer behaviour_number
+    behaviour_of valuing_checks packed packed_rates P P_three P_four P_discounted P_tight returns_p unless_refused zero_rate_bytes tell_by
+    row death_rows terms_under filled entries slices_short valued_answer valued_with
 death_cases = rw tell_listed refl
 
 -- ---- document 02 (vi): contract P; Q, whose record has a fee; a contract of one unit. Fees further from 0, and a value that no fee
@@ -375,12 +378,13 @@ fee_rows =
     ∷ []
 
 pub fee_cases : map (λ r. tell r.asked) fee_rows ≡ map (λ r. r.told) fee_rows
-unfolding sum first first_from largest smallest_best reached worth value_over value start_value word long bytes_of terms_of returns_of rates_of
-    free_amount largest_amount surrenders admits rate_on penalty cash guarantee_after balance_after lifted_account next_account excess
-    excess_paid maturity_value death_payment death_share discounted margin contract_value free_in admissible_in cash_in after_in reach_by paid_by
-    death_by mean_by_list held_by_list process_of layer_size layout_of listed_term check_each verdict number_of place_of on_success outside short
-    terms_checks record_checks bad_return list_checks rates_checks input_checks answer behaviour_number behaviour_of fee_checks fee_found
-    fee_answer packed P Q tiny returns_p unless_refused zero_rate_bytes tell_by row fee_rows terms_under no_table_checks fee_sought priced
+unfolding sum first first_from largest smallest_best reached worth value_over value start_value word long bytes_of terms_of returns_of
+    rates_of free_amount largest_amount surrenders admits rate_on penalty cash guarantee_after balance_after lifted_account next_account
+    excess excess_paid maturity_value death_payment death_share discounted margin contract_value free_in admissible_in cash_in after_in
+    reach_by paid_by death_by mean_by_list held_by_list process_of layer_size layout_of listed_term check_each verdict number_of place_of
+    on_success outside short terms_checks record_checks bad_return list_checks rates_checks input_checks answer behaviour_number
+    behaviour_of fee_checks fee_found fee_answer packed P Q tiny returns_p unless_refused zero_rate_bytes tell_by row fee_rows terms_under
+    no_table_checks fee_sought priced
 fee_cases = rw tell_listed refl
 
 -- ---- document 02 (vii): contracts of few states, computed by account, as the definitions are
@@ -401,13 +405,13 @@ tiny_rows =
 pub tiny_cases : map (λ r. tell r.asked) tiny_rows ≡ map (λ r. r.told) tiny_rows
 unfolding sum first first_from largest smallest_best worth value_over value start_value word long bytes_of terms_of returns_of rates_of
     free_amount largest_amount surrenders admits rate_on penalty cash guarantee_after balance_after lifted_account next_account excess
-    excess_paid maturity_value death_payment death_share discounted margin contract_value free_in admissible_in cash_in after_in process_of
-    layer_size layout_of check_each verdict number_of place_of on_success outside short terms_checks record_checks bad_return list_checks
-    rates_checks input_checks answer behaviour_number behaviour_of fee_checks fee_found fee_answer packed returns_p unless_refused zero_rate_bytes
-    row tabulate recorded recorded_amount amount_layers layers valuing_checks bit from_bits words_for word_of words_of set_bits surrendered
-    surrender_map surrender_count map_size mapping_checks most weight_to excess_most by_account mean_by_account value_with held_by_account fixed_term
-    valued_with two two_dated tiny_rows terms_under filled entries slices_short valued_answer tell_by valued_table map_after count_after mapped
-    surrender_in no_table_checks fee_sought priced tell
+    excess_paid maturity_value death_payment death_share discounted margin contract_value free_in admissible_in cash_in after_in
+    process_of layer_size layout_of check_each verdict number_of place_of on_success outside short terms_checks record_checks bad_return
+    list_checks rates_checks input_checks answer behaviour_number behaviour_of fee_checks fee_found fee_answer packed returns_p
+    unless_refused zero_rate_bytes row tabulate recorded recorded_amount amount_layers layers valuing_checks bit from_bits words_for
+    word_of words_of set_bits surrendered surrender_map surrender_count map_size mapping_checks most weight_to excess_most by_account
+    mean_by_account value_with held_by_account fixed_term valued_with two two_dated tiny_rows terms_under filled entries slices_short
+    valued_answer tell_by valued_table map_after count_after mapped surrender_in no_table_checks fee_sought priced tell
 tiny_cases = refl
 
 -- "After the search, found or not, the needed working entries are zero": both layers of four entries, and the one behind them as it
@@ -426,13 +430,13 @@ pub printed_P : printed (packed P) returns_p
     100 ∷ 121 ∷ 110 ∷ 97 ∷ 109 ∷ 105 ∷ 99 ∷ 32 ∷ 49 ∷ 51 ∷ 48 ∷ 48 ∷ 48 ∷ 48 ∷ 10 ∷
     48 ∷ 32 ∷ 53 ∷ 32 ∷ 49 ∷ 48 ∷ 32 ∷ 53 ∷ 32 ∷ 53 ∷ 32 ∷ 48 ∷ 10 ∷
     49 ∷ 32 ∷ 49 ∷ 53 ∷ 32 ∷ 49 ∷ 48 ∷ 32 ∷ 53 ∷ 32 ∷ 53 ∷ 32 ∷ 48 ∷ 10 ∷ []
-unfolding program_verdict sum first first_from largest smallest_best reached worth value_over value recorded start_value word long bytes_of
-    terms_of returns_of rates_of free_amount largest_amount surrenders admits rate_on penalty cash guarantee_after balance_after lifted_account
-    next_account excess excess_paid maturity_value discounted state_value recorded_amount contract_value free_in admissible_in cash_in after_in
-    reach_by paid_by death_payment death_share death_by mean_by_list held_by_list process_of layer_size layout_of listed_term check_each verdict
-    outside short terms_checks record_checks bad_return list_checks rates_checks input_checks behaviour_number valuing_checks digits decimal
-    numbered line name_of lines_of value_line return_line line_count text_of on_success zero_rate_bytes printed packed P returns_p terms_under
-    entries slices_short
+unfolding program_verdict sum first first_from largest smallest_best reached worth value_over value recorded start_value word long
+    bytes_of terms_of returns_of rates_of free_amount largest_amount surrenders admits rate_on penalty cash guarantee_after balance_after
+    lifted_account next_account excess excess_paid maturity_value discounted state_value recorded_amount contract_value free_in
+    admissible_in cash_in after_in reach_by paid_by death_payment death_share death_by mean_by_list held_by_list process_of layer_size
+    layout_of listed_term check_each verdict outside short terms_checks record_checks bad_return list_checks rates_checks input_checks
+    behaviour_number valuing_checks digits decimal numbered line name_of lines_of value_line return_line line_count text_of on_success
+    zero_rate_bytes printed packed P returns_p terms_under entries slices_short
 printed_P = rw listed_contract refl
 
 -- "the program lends 4,096 working numbers, refusing by 11 what needs more": two layers of 64 × 32 entries, and of 683 × 3
@@ -452,6 +456,6 @@ P_wide premium top = record {
 pub program_room : (program_verdict (packed (P_wide 31 63)) returns_p ≡ accepted)
     × (program_verdict (packed (P_wide 2 682)) returns_p ≡ refused 11 0)
 unfolding program_verdict sum first first_from word long bytes_of terms_of returns_of rates_of layer_size check_each verdict outside short
-    terms_checks record_checks bad_return list_checks rates_checks input_checks behaviour_number valuing_checks on_success zero_rate_bytes packed
-    returns_p terms_under entries slices_short fixed_term process_of layout_of
+    terms_checks record_checks bad_return list_checks rates_checks input_checks behaviour_number valuing_checks on_success zero_rate_bytes
+    packed returns_p terms_under entries slices_short fixed_term process_of layout_of
 program_room = (refl, refl)

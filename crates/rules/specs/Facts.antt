@@ -2,7 +2,8 @@
 -- sign of the margin, that no digit of a number is lost. Assumes nothing.
 use Rattle.std.specs.Prelude.{cond, List, [], ◌∷◌, ◌++◌, ◌↔◌, ◌≡◌, ℕ, zero, suc, ◌+◌, ◌-◌, ◌*◌, ◌/◌, ◌%◌, ◌^◌, ◌≤◌, ◌<◌, ltb, pos, neg_ℤ}
 use Rattle.std.proofs.Math.Path.{refl}
-use Rattle.std.proofs.Common.{subst, le_trans, mul-le-mul, mul-le-mul_left, sub-le, le-div_iff_mul-le, div-lt_iff_lt-mul, pow-suc, arith, lit<, lt-ltb, le-ltb}
+use Rattle.std.proofs.Common.{subst, le_trans, mul-le-mul, mul-le-mul_left, sub-le, le-div_iff_mul-le, div-lt_iff_lt-mul, pow-suc, arith}
+use Rattle.std.proofs.Common.{lit<, lt-ltb, le-ltb}
 use Rattle.std.proofs.Math.Nat.{div-le_of_le-mul, le-min, min-le_left, min-le_right}
 use Rattle.std.proofs.Math.Decide.{dec_le}
 use Rattle.rules.specs.Contract.{Input, factor_most}

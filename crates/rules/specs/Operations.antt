@@ -1,6 +1,7 @@
 -- Document 01, 'Lent slices' and 'What an office is told': the whole answer of each operation on any policy, and what it leaves in
 -- each slice, on every input. Sentences marked (iii), (vi) are of document 02, by its requests. Assumes nothing.
-use Rattle.std.specs.Prelude.{Bool, not, ◌||◌, List, [], ◌∷◌, ◌++◌, ℕ, zero, suc, ◌*◌, leb, ltb, eqb, ℤ, pos, get_or, length, drop, replicate}
+use Rattle.std.specs.Prelude.{Bool, not, ◌||◌, List, [], ◌∷◌, ◌++◌, ℕ, zero, suc, ◌*◌, leb, ltb, eqb, ℤ, pos, get_or, length, drop}
+use Rattle.std.specs.Prelude.{replicate}
 use Rattle.rules.specs.Date.{Behaviour, static, mixed, dynamic, margin}
 use Rattle.rules.specs.Product.{Product, decisions, entries, contract_value, value_layer, amount_layers, supplied_value, supplied_layer}
 use Rattle.rules.specs.Product.{bad_entry, bad_date, walk_cash}

@@ -72,7 +72,8 @@ program_of bytes list = policy_of (record { bytes = bytes; list = list; rates = 
 -- "the program lends 4,096 working numbers, refusing by 11 what needs more", ".. and a table of 16,384." The three behaviours have
 -- the same checks.
 unfoldable pub program_verdict : List ℕ → List ℕ → Verdict
-program_verdict bytes list = verdict (valuing_checks (program_of bytes list) (behaviour_number static) (replicate 4096 0) (replicate 16384 0))
+program_verdict bytes list =
+    verdict (valuing_checks (program_of bytes list) (behaviour_number static) (replicate 4096 0) (replicate 16384 0))
 
 -- all that is printed
 unfoldable pub printed : List ℕ → List ℕ → List ℕ

@@ -76,7 +76,8 @@ module _ {S H : Type 0} (X : Product S H) where
 
   -- (iv) "A walk adds 10,000 × the excess to the cash of the date reached": of date j + 1, where an amount is withdrawn ..
   unfoldable pub walk_cash_on : List ℕ → List ℕ → ℕ → ℕ
-  walk_cash_on table path j = walk_paid table path j + X.process.cash (suc j) (walk_state table path (suc j)) (walk_amount table path (suc j))
+  walk_cash_on table path j =
+      walk_paid table path j + X.process.cash (suc j) (walk_state table path (suc j)) (walk_amount table path (suc j))
 
   -- .. and of maturity
   unfoldable pub walk_cash_last : List ℕ → List ℕ → ℕ

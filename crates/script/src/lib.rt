@@ -26,21 +26,21 @@ const CHECK: usize = 0;
 
 const BOOK: usize = 1;
 
-const SIZES: usize = 2;
+const VALUE: usize = 2;
 
-const VALUE: usize = 3;
+const TABLE: usize = 3;
 
-const TABLE: usize = 4;
+const WALK: usize = 4;
 
-const WALK: usize = 5;
+const MAP: usize = 5;
 
-const MAP: usize = 6;
+const FEE: usize = 6;
 
-const FEE: usize = 7;
+const NONE: usize = 7;
 
-const NO_TABLE: usize = 8;
+const SIZES: usize = 8;
 
-const NONE: usize = 9;
+const NO_TABLE: usize = 9;
 
 // ---- words and numbers
 // What a word says, if it is understood.
@@ -1287,7 +1287,7 @@ pub fn answer(line: &[u8], held: usize, work: &mut [u64], table: &mut [u16], out
     if kind == NONE {
         return no_table(out);
     }
-    if kind <= SIZES {
+    if kind <= BOOK || kind == SIZES {
         return record_line(line, kind, held, out);
     }
     list_line(line, kind, held, work, table, out)

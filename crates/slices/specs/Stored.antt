@@ -1,6 +1,8 @@
 -- A slice of which a run of entries is stored in order: what a loop that counts up leaves. Assumes nothing.
 use Rattle.std.specs.Prelude.{List, ◌++◌, ◌⊎◌, ◌≡◌, refl, ℕ, zero, suc, ◌+◌, ◌-◌, ◌*◌, ◌≤◌, ◌<◌, length, get_or, set, drop, replicate}
-use Rattle.std.proofs.Common.{append_assoc, inl, inr, ap, ap₂, sym, ◌∙◌, add-suc, add_assoc, add-zero, zero-add, zero-mul, add-one, arith, length-set, length-append, length-drop, get_or-set_same, get_or-set_other, get_or-append-add, get_or-drop, ext_get_or}
+use Rattle.std.proofs.Common.{append_assoc, inl, inr, ap, ap₂, sym, ◌∙◌, add-suc, add_assoc, add-zero, zero-add, zero-mul, add-one, arith}
+use Rattle.std.proofs.Common.{length-set, length-append, length-drop, get_or-set_same, get_or-set_other, get_or-append-add, get_or-drop}
+use Rattle.std.proofs.Common.{ext_get_or}
 use Rattle.std.proofs.Math.Decide.{dec_le}
 use Rattle.std.proofs.lemmas.List.{length-replicate, get_or-replicate}
 use Rattle.std.proofs.Math.ListN.{get_or-append}
@@ -32,7 +34,8 @@ unfolding stored
 stored_in l at f zero k h l' = absurd (omega arith)
 stored_in l at f (suc n) k h l' = go (dec_le (suc k) n) (stored_in l at f n k (omega arith))
   where
-    go : Dec (suc k ≤ n) → (k < n → get_or (stored l at f n) (at + k) 0 ≡ f k) → get_or (set (stored l at f n) (at + n) (f n)) (at + k) 0 ≡ f k
+    go : Dec (suc k ≤ n) → (k < n → get_or (stored l at f n) (at + k) 0 ≡ f k)
+        → get_or (set (stored l at f n) (at + n) (f n)) (at + k) 0 ≡ f k
     go (yes m) before = get_or-set_other (stored l at f n) (at + n) (at + k) (f n) 0
         (λ e. let z : at + k < at + n = omega arith in omega arith) ∙ before m
     go (no m) before =

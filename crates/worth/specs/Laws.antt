@@ -2,7 +2,8 @@
 use Rattle.std.specs.Prelude.{◌⊎◌, ◌≡◌, refl}
 use Rattle.std.proofs.Common.{inl, inr, ap, ap₂, sym, ◌∙◌, le_trans, mul-le-mul_left, le-div_iff_mul-le, mul-zero, eqb→eq}
 use Prim.Native.Nat.{ℕ, ◌+◌, ◌-◌, ◌*◌, ◌/◌, ◌≤◌, ◌<◌, min, max}
-use Rattle.std.proofs.Math.Nat.{le_of_eq, min-eq_left, min-eq_right, max-eq_left, max-eq_right, le-max_left, le-max_right, div-le_of_le-mul, sub-add-eq, zero-div, min-zero}
+use Rattle.std.proofs.Math.Nat.{le_of_eq, min-eq_left, min-eq_right, max-eq_left, max-eq_right, le-max_left, le-max_right}
+use Rattle.std.proofs.Math.Nat.{div-le_of_le-mul, sub-add-eq, zero-div, min-zero}
 use Rattle.std.proofs.Math.Decide.{dec_le}
 use native.Mathlib.Omega.{arith}
 use Rattle.std.proofs.Math.Dec.{T}

@@ -11,7 +11,8 @@ use Rattle.report.proofs.return_lines.Given as goal
 
 abbrev pub invariant-loop-k : goal.invariant-loop-k
 invariant-loop-k l = (l.k ≤ l.count) × (length l.out ≡ length l.initial.out)
-    × Put (126 * l.k) l.initial.out l.at (lines_of (table_line (terms_in l.c) (returns_of l.list) l.statics l.mixeds l.dynamics) l.k) l.next l.out
+    × Put (126 * l.k) l.initial.out l.at
+    (lines_of (table_line (terms_in l.c) (returns_of l.list) l.statics l.mixeds l.dynamics) l.k) l.next l.out
 
 abbrev pub decreases-loop-k : goal.decreases-loop-k
 decreases-loop-k l = l.count - l.k
