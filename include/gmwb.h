@@ -10,7 +10,7 @@
  *
  * Units. Accounts, guarantees and withdrawals are whole money units; values, margins, cash and
  * penalties are ten-thousandths of a unit. What a money unit is, the host chooses: a coarse one
- * gives values that are too low (docs/UNITS.md). Fields of records and buffers are unsigned, low
+ * gives values that are too low. Fields of records and buffers are unsigned, low
  * byte first. Indexes and entries count from 0.
  *
  * Numbers. Date, account, guarantee, amount and behaviour are passed in 64 bits, more than any
