@@ -22,11 +22,17 @@ fn fill(file: &mut File, bytes: &mut [u8]) -> io::Result<usize>
     Ok(n)
 }
 
+// .. and reads once more behind its last byte, where it is shorter than the buffer.
 fn start(rt: &HostRuntime, name: &str, bytes: &mut [u8]) -> io::Result<usize>
     ensures { IfOk result (λ n. n ≤ length bytes.new) }
 {
     let mut file = fs::open(rt, name)?;
-    fill(&mut file, bytes)
+    let n = fill(&mut file, bytes)?;
+    let mut behind = [0u8; 1];
+    if n < bytes.len() && file.read(&mut behind)? != 0 {
+        return Ok(0);
+    }
+    Ok(n)
 }
 
 // The start of a file, longer than any record or list that is accepted. A file that is missing, can't be opened or can't be read to

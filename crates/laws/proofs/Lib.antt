@@ -5,5 +5,4 @@ pub mod FeeSought
 pub mod Fee
 pub mod Pricing
 pub mod FeeCases
-pub mod Death
 pub mod Walk

@@ -1,5 +1,5 @@
 -- Two contracts compared: the one in a unit k times as fine, and with no larger fee, is worth at least k times as much. The fee alone
--- is k = 1 (laws/Fee), the unit alone one fee (actuary/Unit). Assumes nothing.
+-- is k = 1, which laws/Fee proves by itself; the unit alone is one fee (actuary/Unit). Assumes nothing.
 use Rattle.std.specs.Prelude.{◌≡◌, refl, ℕ, ◌*◌, ◌≤◌}
 use Rattle.std.proofs.Common.{le_of_eq}
 use Rattle.std.proofs.Math.Nat.{le_refl}

@@ -188,7 +188,7 @@ unfolding death_payment
 death_le w a over top h l = let m = max-le h l in omega arith
 
 -- the values v of a date's states as the death rate of the period before it leaves them, by account and guarantee, without the
--- excess that leads there: it passes through unchanged (`share-excess`)
+-- excess that leads there: it passes through unchanged (`share_excess`)
 abbrev pub shared : ℕ → (ℕ → ℕ → ℕ) → ℕ → ℕ → ℕ
 shared rate v w a = death_share rate (v w a) (death_payment w a 0)
 

@@ -2,16 +2,17 @@
 -- the behaviour does not matter. Assumes nothing.
 use Rattle.std.specs.Prelude.{List, ◌≡◌, refl, ℕ, zero, suc, ◌+◌, ◌*◌, get_or, replicate}
 use Rattle.std.proofs.Common.{ap, ◌∙◌, arith}
+use Rattle.decision.specs.Process.{reached, start_value, start_table_value}
 use Rattle.rules.specs.Contract.{Terms, Returns, Rates, word, terms_of, returns_of, rate_bytes, rates_of}
 use Rattle.rules.specs.Date.{Behaviour, death_payment, death_share}
 use Rattle.rules.specs.Product.{Product, state_value, contract_value, value_layer, amount_layers, supplied_value, supplied_layer}
 use Rattle.rules.specs.FixedTerm.{State, Held, death_by, mean_by_list, held_by_list, mean_by_account, value_with, held_by_account}
-use Rattle.rules.specs.FixedTerm.{process_of}
-use Rattle.rules.specs.FixedTerm.{fixed_term}
+use Rattle.rules.specs.FixedTerm.{process_of, fixed_term}
+use Rattle.rules.proofs.ByList.{mean_by_list_lem}
 use Rattle.rules.specs.Refusals.{verdict, on_success, record_checks}
 use Rattle.rules.specs.Printed.{zero_rate_bytes, program_of}
 use Rattle.laws.specs.Date.{share_living, share_certain}
-use Rattle.laws.specs.Terms.{living_term}
+use Rattle.laws.specs.Terms.{start_held, living_term}
 
 -- a product that expects and averages by other rules, and is the same in all else
 abbrev pub expecting : {S H : Type 0} → (ℕ → H → (ℕ → ℕ) → ℕ) → (ℕ → H → (S → ℕ) → ℕ) → Product S H → Product S H
@@ -94,6 +95,27 @@ program_deathless bytes list =
     (on_success (verdict (record_checks bytes)) (rate_bytes * (terms_of bytes).dates) 0))
 
 -- ---- a rate of 10,000 on the first period: the discounted mean of the death payments, whatever is withdrawn later
+settled : (c : Terms) (rs : Returns) (ds : Rates) → ds 0 ≡ 10000 → (v : State → ℕ)
+    → held_by_account c rs ds 0 (start_held c) v ≡ mean_by_list c rs (death_by c rs (start_held c))
+unfolding held_by_list
+settled c rs ds sure v =
+    let h = start_held c in
+    mean_by_list_lem c rs ds 0 h v
+    ∙ (λ j. mean_by_list c rs (λ k.
+    (ap (λ (r : ℕ). death_share r (reached (process_of c rs ds) v h k) (death_by c rs h k)) sure ∙ share_certain _ _) j))
+
 module _ (c : Terms) (rs : Returns) (ds : Rates) (sure : ds 0 ≡ 10000) where
-  pub certain : (value payment : ℕ) → death_share (ds 0) value payment ≡ payment
+  certain : (value payment : ℕ) → death_share (ds 0) value payment ≡ payment
   certain value payment = ap (λ (r : ℕ). death_share r value payment) sure ∙ share_certain value payment
+
+  only_death : (v : State → ℕ) → held_by_account c rs ds 0 (start_held c) v ≡ mean_by_list c rs (death_by c rs (start_held c))
+  only_death = settled c rs ds sure
+
+  pub certain_death : (b : Behaviour) → contract_value (fixed_term c rs ds) b ≡ mean_by_list c rs (death_by c rs (start_held c))
+  unfolding contract_value start_value fixed_term process_of
+  certain_death b = settled c rs ds sure _
+
+  pub certain_death_supplied : (table : List ℕ)
+      → supplied_value (fixed_term c rs ds) table ≡ mean_by_list c rs (death_by c rs (start_held c))
+  unfolding supplied_value start_table_value fixed_term process_of
+  certain_death_supplied table = settled c rs ds sure _
