@@ -1,5 +1,5 @@
 -- `contract::Contract::checked` meets its contract. Assumes nothing.
-use Rattle.std.proofs.Common.{◌≡◌, ℕ, sym, ◌∙◌}
+use Rattle.std.proofs.Common.{◌≡◌, ℕ, false, sym, ◌∙◌}
 use Rattle.contract.specs.Reading.{turned, taken_by, terms_in, Taken}
 use Rattle.contract.specs.declared.Contract.{Contract}
 use Rattle.rules.specs.Refusals.{refused, verdict, terms_checks}
@@ -25,11 +25,13 @@ returns-then-level_fails c =
     let fails = sym c.outside-level_fails.ensures ∙ c.if-level_fails.true in
     refusing c.args.self 3 (rw (p1, fails)) c.refused-then-level_fails.ensures
 
+-- that the level passes is found among what is known, and not by the name of its branch
 pub returns-then-dates_fail : goal.returns-then-dates_fail
 unfolding verdict terms_checks
 returns-then-dates_fail c =
     let p1 = sym c.bad_premium-premium_fails.ensures ∙ c.if-premium_fails.false in
-    let p2 = sym c.outside-level_fails.ensures ∙ c.if-level_fails.false in
+    let passes : c.outside-level_fails.result ≡ false = cc in
+    let p2 = sym c.outside-level_fails.ensures ∙ passes in
     let fails = sym c.outside-dates_fail.ensures ∙ c.if-dates_fail.true in
     refusing c.args.self 4 (rw (p1, p2, fails)) c.refused-then-dates_fail.ensures
 
