@@ -6,7 +6,6 @@ use Rattle.rules.specs.Contract.{terms_of}
 use Rattle.rules.specs.Refusals.{Verdict, accepted, refused, verdict, record_checks}
 use Rattle.laws.specs.Accepted.{Valid, all_pass, valid_record}
 use Rattle.contract.specs.declared.Contract.{Contract}
-use Rattle.contract.specs.declared.Outcome.{Outcome}
 use Rattle.contract.specs.Reading.{terms_in, taken, turned, taken_by, record_read}
 
 -- ---- what was taken, and what was turned away, by any verdict
@@ -39,7 +38,6 @@ read_accepted bytes c e =
     let both = taken_accepts (verdict (record_checks bytes)) (terms_of bytes) e in
     record { accepts = both.0; terms = sym both.1; valid = subst Valid both.1 (valid_record bytes (all_pass _ both.0)) }
 
-pub read_refused : (bytes : List ℕ) (o : Outcome) → record_read bytes ≡ turned o.number o.place
-    → verdict (record_checks bytes) ≡ refused o.number o.place
+pub read_refused : (bytes : List ℕ) {n p : ℕ} → record_read bytes ≡ turned n p → verdict (record_checks bytes) ≡ refused n p
 unfolding record_read
-read_refused bytes o e = turned_refused (verdict (record_checks bytes)) (terms_of bytes) e
+read_refused bytes e = turned_refused (verdict (record_checks bytes)) (terms_of bytes) e

@@ -2,21 +2,19 @@
 #![tactic(auto)]
 
 ghost use Rattle.std.specs.Prelude.{◌≡◌, ◌||◌, not, ℕ, ◌+◌, ◌≤◌, ◌<◌, ltb, eqb, length};
-ghost use Rattle.rules.specs.Contract.{word, long, top_most, rate_most};
+ghost use Rattle.rules.specs.Contract.{word, long, terms_of, top_most, rate_most};
 ghost use Rattle.rules.specs.Refusals.{outside, verdict, terms_checks};
 ghost use Rattle.rules.specs.FixedTerm.{layer_size};
 ghost use Rattle.laws.specs.Accepted.{Valid};
 ghost use Rattle.laws.specs.FixedTerm.{layer_most, table_most};
-ghost use Rattle.contract.specs.Reading.{turned, taken_by, reading_tells, outcome_in, terms_in, record_read};
+ghost use Rattle.contract.specs.Refusal.{verdict_in};
 ghost use Rattle.laws.specs.Terms.{table_size};
 
-// A number and its place: 0 and 0 for success.
-#[derive(Clone, Copy)]
-pub struct Outcome {
-    pub number: u32,
-    pub place: u64,
-}
+mod refusal;
 
+pub use refusal::Refusal;
+
+// The terms of a record, all in range.
 #[derive(Clone, Copy)]
 pub struct Contract {
     pub premium: usize,
@@ -29,28 +27,17 @@ pub struct Contract {
     pub step: usize,
     // the two spare bytes
     pub spare: usize,
-}
-
-#[derive(Clone, Copy)]
-pub enum Reading {
-    Accepted(Contract),
-    Refused(Outcome),
-}
-
-impl Reading {
-    // The number and place of each case.
-    pub fn outcome(self) -> Outcome
-        ensures { result ≡ outcome_in (reading_tells self) }
-    {
-        let reading = self;
-        match reading {
-            Reading::Accepted(_) => Outcome {
-                number: 0,
-                place: 0,
-            },
-            Reading::Refused(outcome) => outcome,
-        }
-    }
+    pub ghost in_range: { Valid (record {
+      premium = premium;
+      level = level;
+      top = top;
+      dates = dates;
+      fee = fee;
+      penalty = penalty;
+      discount = discount;
+      step = step;
+      spare = spare;
+    }) },
 }
 
 fn wide(x: u8) -> usize
@@ -100,10 +87,31 @@ fn bad_step(step: usize, spare: usize) -> bool
     Contract::RATE_MOST < step || spare != 0
 }
 
-fn refused(number: u32) -> Reading
-    ensures { reading_tells result ≡ turned number 0 }
+// Refusals 2 to 6 and 15, in their order.
+fn check(bytes: &[u8]) -> Result<(), Refusal>
+    requires { length bytes.now ≡ 20 }
+    ensures { verdict_in result ≡ verdict (terms_checks (terms_of bytes.now)) }
 {
-    Reading::Refused(Outcome { number, place: 0 })
+    let premium = word(bytes, 0);
+    if bad_premium(word(bytes, 4), premium) {
+        return Err(Refusal::Premium);
+    }
+    if outside(1, premium, word(bytes, 2)) {
+        return Err(Refusal::Level);
+    }
+    if outside(1, Contract::DATES_MOST, word(bytes, 6)) {
+        return Err(Refusal::Dates);
+    }
+    if bad_rates(word(bytes, 8), word(bytes, 10)) {
+        return Err(Refusal::Rates);
+    }
+    if outside(1, Contract::DISCOUNT_MOST, long(bytes, 12)) {
+        return Err(Refusal::Discount);
+    }
+    if bad_step(word(bytes, 16), word(bytes, 18)) {
+        return Err(Refusal::Step);
+    }
+    Ok(())
 }
 
 impl Contract {
@@ -129,46 +137,17 @@ impl Contract {
 
     pub const RATE_BYTES: usize = 2;
 
-    // The terms if every one is in range: the conditions, then the refusals in their order.
-    fn checked(self) -> Reading
-        ensures { reading_tells result ≡ taken_by (verdict (terms_checks (terms_in self))) (terms_in self) }
-    {
-        let c = self;
-        let premium_fails = bad_premium(c.top, c.premium);
-        let level_fails = outside(1, c.premium, c.level);
-        let dates_fail = outside(1, Self::DATES_MOST, c.dates);
-        let rates_fail = bad_rates(c.fee, c.penalty);
-        let discount_fails = outside(1, Self::DISCOUNT_MOST, c.discount);
-        let step_fails = bad_step(c.step, c.spare);
-        if premium_fails {
-            return refused(2);
-        }
-        if level_fails {
-            return refused(3);
-        }
-        if dates_fail {
-            return refused(4);
-        }
-        if rates_fail {
-            return refused(5);
-        }
-        if discount_fails {
-            return refused(6);
-        }
-        if step_fails {
-            return refused(15);
-        }
-        Reading::Accepted(c)
-    }
+    ghost use Rattle.contract.specs.Reading.{reading_tells, terms_in, record_read};
 
     // A record's bytes as terms in range.
-    pub fn read(bytes: &[u8]) -> Reading
+    pub fn read(bytes: &[u8]) -> Result<Contract, Refusal>
         ensures { reading_tells result ≡ record_read bytes.now }
     {
         if bytes.len() != Self::BYTES {
-            return refused(1);
+            return Err(Refusal::RecordLength);
         }
-        let c = Contract {
+        check(bytes)?;
+        Ok(Contract {
             premium: word(bytes, 0),
             level: word(bytes, 2),
             top: word(bytes, 4),
@@ -178,22 +157,17 @@ impl Contract {
             discount: long(bytes, 12),
             step: word(bytes, 16),
             spare: word(bytes, 18),
-        };
-        c.checked()
+        })
     }
-}
 
-impl Contract {
     // The entries of a layer, and of a table.
     pub fn layer_size(self) -> usize
-        requires { Valid (terms_in self) }
         ensures { (result ≡ layer_size (terms_in self)) × (result ≤ layer_most) }
     {
         (self.top + 1) * (self.premium + 1)
     }
 
     pub fn table_size(self) -> usize
-        requires { Valid (terms_in self) }
         ensures { (result ≡ table_size (terms_in self)) × (result ≤ table_most) }
     {
         (self.dates - 1) * self.layer_size()

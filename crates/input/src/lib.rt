@@ -8,55 +8,32 @@ ghost use Rattle.rules.specs.Refusals.{outside, verdict, bad_return, rates_check
 ghost use Rattle.contract.specs.Reading.{turned, outcome_of, outcome_in};
 ghost use Rattle.input.specs.Reading.{listing_tells, agreement_tells, list_read, both_read, input_read};
 
-use contract::{Contract, Outcome, Reading};
+use contract::{Contract, Refusal};
 
-// The returns stay in the bytes of their list.
+// What a call is given, as bytes: a record, a list of returns and a list of death rates.
 #[derive(Clone, Copy)]
-pub struct Returns {
-    pub count: usize,
+pub struct Input<'a> {
+    pub bytes: &'a [u8],
+    pub list: &'a [u8],
+    pub rates: &'a [u8],
 }
 
+// A contract and the bytes of its returns, all in range.
 #[derive(Clone, Copy)]
-pub enum Listing {
-    Accepted(Returns),
-    Refused(Outcome),
+pub struct Agreement<'a> {
+    pub contract: Contract,
+    pub list: &'a [u8],
+    pub ghost returns: { ValidReturns (returns_of list.now) },
 }
 
-// What a call is given, once its checks have passed.
+// .. and of its death rates.
 #[derive(Clone, Copy)]
-pub enum Agreement {
-    Accepted(Contract, Returns),
-    Refused(Outcome),
-}
-
-impl Listing {
-    pub fn outcome(self) -> Outcome
-        ensures { result ≡ outcome_in (listing_tells self) }
-    {
-        let listing = self;
-        match listing {
-            Listing::Accepted(_) => Outcome {
-                number: 0,
-                place: 0,
-            },
-            Listing::Refused(outcome) => outcome,
-        }
-    }
-}
-
-impl Agreement {
-    pub fn outcome(self) -> Outcome
-        ensures { result ≡ outcome_in (agreement_tells self) }
-    {
-        let agreement = self;
-        match agreement {
-            Agreement::Accepted(_, _) => Outcome {
-                number: 0,
-                place: 0,
-            },
-            Agreement::Refused(outcome) => outcome,
-        }
-    }
+pub struct Given<'a> {
+    pub contract: Contract,
+    pub list: &'a [u8],
+    pub rates: &'a [u8],
+    pub ghost returns: { ValidReturns (returns_of list.now) },
+    pub ghost long: { rate_bytes * contract.dates ≤ length rates.now },
 }
 
 // Refusal 7.

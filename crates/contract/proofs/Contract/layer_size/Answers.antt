@@ -7,8 +7,8 @@ use Rattle.contract.proofs.Contract.layer_size.Goals as goal
 
 pub overflow_mul-result : goal.overflow_mul-result
 unfolding layer_size
-overflow_mul-result c = let m = size_most c.requires in omega arith
+overflow_mul-result c = let m = size_most c.args.self.in_range in omega arith
 
 pub returns : goal.returns
 unfolding layer_size
-returns c = (refl, size_most c.requires)
+returns c = (refl, size_most c.args.self.in_range)
