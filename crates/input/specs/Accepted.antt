@@ -100,10 +100,6 @@ pub both_refused : (bytes list : List ℕ) (n p : ℕ) → and_then (verdict (re
 both_refused bytes list n p e = refuse _ bytes list n p (verdict_append (record_checks bytes) (list_checks list) ∙ e)
 
 -- ---- record, list and rates that were read
-pub record Given (c : Terms) (list rates : List ℕ) : Type 0 where
-  pub valid : ValidInput c (returns_of list) (rates_of rates)
-  pub long : rate_bytes * c.dates ≤ length rates
-
 -- what checks that accept show of the bytes
 pub given : {c : Terms} (x : Input) → verdict (input_checks x) ≡ accepted → c ≡ terms_of x.bytes → Given c x.list x.rates
 unfolding input_checks rates_checks AllPass

@@ -1,3 +1,5 @@
--- What reading list, rates and all three answers, and what accepted inputs show.
+-- What reading the inputs answers, and what accepted ones show.
+pub mod Read
+pub mod Given
 pub mod Reading
 pub mod Accepted

@@ -1,34 +1,20 @@
--- What reading a list, rates, and all three inputs answers, in the words of the rules. Assumes nothing.
-use Rattle.std.specs.Prelude.{List, ◌++◌, ℕ}
-use Rattle.rules.specs.Contract.{Input, Terms, terms_of, returns_of}
-use Rattle.rules.specs.Refusals.{Verdict, verdict, record_checks, list_checks, input_checks}
-use Rattle.contract.specs.Reading.{Taken, taken, turned, taken_by, terms_in}
-use Rattle.input.specs.declared.Listing.{Listing}
-use Rattle.input.specs.declared.Listing.TheVariants as listing
+-- What is read, in the words of the rules. Assumes nothing.
+use Rattle.std.specs.Prelude.{ℕ, Result}
+use Rattle.rules.specs.Contract.{Input, Terms, returns_of}
+use Rattle.contract.specs.declared.refusal.Refusal.{Refusal}
+use Rattle.contract.specs.Reading.{Taken, terms_in, tells}
+use Rattle.input.specs.declared.Input as declared
 use Rattle.input.specs.declared.Agreement.{Agreement}
-use Rattle.input.specs.declared.Agreement.TheVariants as agreement
+use Rattle.input.specs.declared.Policy.{Policy}
 
--- EACH CASE OF A LISTING: how many returns, or the refusal's number and place
-abbrev pub listing_tells : Listing → Taken ℕ
-listing_tells (listing.Accepted rs) = taken rs.count
-listing_tells (listing.Refused o) = turned o.number o.place
+-- the struct and the record of the rules hold the same bytes
+abbrev pub input_of : declared.Input → Input
+input_of x = record { bytes = x.bytes.now; list = x.list.now; rates = x.rates.now }
 
 -- EACH CASE OF AN AGREEMENT: the terms and how many returns, or the refusal's number and place
-abbrev pub agreement_tells : Agreement → Taken (Terms × ℕ)
-agreement_tells (agreement.Accepted c rs) = taken (terms_in c, rs.count)
-agreement_tells (agreement.Refused o) = turned o.number o.place
+abbrev pub agreement_tells : Result Agreement Refusal → Taken (Terms × ℕ)
+agreement_tells r = tells (λ (a : Agreement). (terms_in a.contract, (returns_of a.list.now).count)) r
 
--- reading any bytes as a list
-unfoldable pub list_read : List ℕ → Taken ℕ
-list_read bytes = taken_by (verdict (list_checks bytes)) (returns_of bytes).count
-
--- .. as record and list, by any verdict
-unfoldable pub agreed_by : Verdict → List ℕ → List ℕ → Taken (Terms × ℕ)
-agreed_by v bytes list = taken_by v (terms_of bytes, (returns_of list).count)
-
-abbrev pub both_read : List ℕ → List ℕ → Taken (Terms × ℕ)
-both_read bytes list = agreed_by (verdict (record_checks bytes ++ list_checks list)) bytes list
-
--- .. and rates
-abbrev pub input_read : Input → Taken (Terms × ℕ)
-input_read x = agreed_by (verdict (input_checks x)) x.bytes x.list
+-- .. and of a policy
+abbrev pub policy_tells : Result Policy Refusal → Taken (Terms × ℕ)
+policy_tells r = tells (λ (p : Policy). (terms_in p.contract, (returns_of p.list.now).count)) r

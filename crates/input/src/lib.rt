@@ -1,16 +1,20 @@
-// Return list and death rates, read from bytes, and record, list and rates together: all in range, or a refusal with its place.
+// Record, list of returns and death rates, read from bytes: all in range, or a refusal with its place.
 #![tactic(auto)]
 
-ghost use Rattle.std.specs.Prelude.{◌≡◌, ◌||◌, not, ℕ, ◌+◌, ◌*◌, ◌/◌, ◌%◌, ◌≤◌, ◌<◌, ltb, eqb, length};
-ghost use Rattle.decision.specs.Index.{sum, first};
+ghost use Rattle.std.specs.Prelude.{◌≡◌, ◌||◌, not, ℕ, ◌+◌, ◌*◌, ◌/◌, ◌%◌, ◌≤◌, ◌<◌, ltb, eqb, length, IfOk};
+ghost use Rattle.decision.specs.Index.{sum};
+ghost use Rattle.slices.specs.Found.{found};
 ghost use Rattle.rules.specs.Contract.{dates_most, rate_most, return_bytes, returns_most, returns_of, rate_bytes, rates_of};
 ghost use Rattle.rules.specs.Refusals.{outside, verdict, bad_return, rates_checks};
-ghost use Rattle.contract.specs.Reading.{turned, outcome_of, outcome_in};
-ghost use Rattle.input.specs.Reading.{listing_tells, agreement_tells, list_read, both_read, input_read};
+ghost use Rattle.laws.specs.Accepted.{ValidReturns};
+ghost use Rattle.contract.specs.Refusal.{verdict_in};
+ghost use Rattle.contract.specs.Reading.{terms_in, tells};
+ghost use Rattle.input.specs.Given.{Given};
+ghost use Rattle.input.specs.Read.{list_read};
 
 use contract::{Contract, Refusal};
 
-// What a call is given, as bytes: a record, a list of returns and a list of death rates.
+// What a call is given, as bytes that no one has looked at.
 #[derive(Clone, Copy)]
 pub struct Input<'a> {
     pub bytes: &'a [u8],
@@ -18,7 +22,7 @@ pub struct Input<'a> {
     pub rates: &'a [u8],
 }
 
-// A contract and the bytes of its returns, all in range.
+// A contract and its returns, which stay in the bytes of their list: all in range.
 #[derive(Clone, Copy)]
 pub struct Agreement<'a> {
     pub contract: Contract,
@@ -26,14 +30,13 @@ pub struct Agreement<'a> {
     pub ghost returns: { ValidReturns (returns_of list.now) },
 }
 
-// .. and of its death rates.
+// .. and its death rates, which stay in theirs.
 #[derive(Clone, Copy)]
-pub struct Given<'a> {
+pub struct Policy<'a> {
     pub contract: Contract,
     pub list: &'a [u8],
     pub rates: &'a [u8],
-    pub ghost returns: { ValidReturns (returns_of list.now) },
-    pub ghost long: { rate_bytes * contract.dates ≤ length rates.now },
+    pub ghost given: { Given (terms_in contract) list.now rates.now },
 }
 
 // Refusal 7.
@@ -54,19 +57,12 @@ fn bad_return(bytes: &[u8], k: usize) -> bool
         || contract::outside(1, Contract::WEIGHT_MOST, contract::word(bytes, at + 2))
 }
 
-// The first of the returns that is bad, or their count.
-fn first_bad(bytes: &[u8], count: usize) -> usize
+// The first of the returns that is bad, if any.
+fn first_bad(bytes: &[u8], count: usize) -> Option<usize>
     requires { (return_bytes * count ≤ length bytes.now) × (count ≤ returns_most) }
-    ensures { result ≡ first (bad_return (returns_of bytes.now)) count }
+    ensures { result ≡ found (bad_return (returns_of bytes.now)) count }
 {
-    let mut k: usize = 0;
-    while k < count {
-        if bad_return(bytes, k) {
-            return k;
-        }
-        k += 1;
-    }
-    k
+    slices::first(count, |k| bad_return(bytes, k))
 }
 
 fn total_weight(bytes: &[u8], count: usize) -> usize
@@ -80,32 +76,6 @@ fn total_weight(bytes: &[u8], count: usize) -> usize
     total
 }
 
-fn refused_list(number: u32, place: u64) -> Listing
-    ensures { listing_tells result ≡ turned number place }
-{
-    Listing::Refused(Outcome { number, place })
-}
-
-impl Returns {
-    // A list's bytes as returns in range.
-    pub fn read(bytes: &[u8]) -> Listing
-        ensures { listing_tells result ≡ list_read bytes.now }
-    {
-        if bad_length(bytes.len()) {
-            return refused_list(7, 0);
-        }
-        let count = bytes.len() / Contract::RETURN_BYTES;
-        let bad = first_bad(bytes, count);
-        if bad < count {
-            return refused_list(8, bad as u64);
-        }
-        if total_weight(bytes, count) != Contract::WEIGHT_TOTAL {
-            return refused_list(9, 0);
-        }
-        Listing::Accepted(Returns { count })
-    }
-}
-
 // How many returns a list has.
 pub fn returns_in(list: &[u8]) -> usize
     ensures { result ≡ (returns_of list.now).count }
@@ -113,19 +83,21 @@ pub fn returns_in(list: &[u8]) -> usize
     list.len() / Contract::RETURN_BYTES
 }
 
-// Record and list: the record is read whole before the list is looked at.
-pub fn read(bytes: &[u8], list: &[u8]) -> Agreement
-    ensures { agreement_tells result ≡ both_read bytes.now list.now }
+// A list's bytes as returns in range: how many there are.
+pub fn read_list(bytes: &[u8]) -> Result<usize, Refusal>
+    ensures { tells (λ (n : ℕ). n) result ≡ list_read bytes.now }
 {
-    let reading = Contract::read(bytes);
-    let Reading::Accepted(c) = reading else {
-        return Agreement::Refused(reading.outcome());
-    };
-    let listing = Returns::read(list);
-    let Listing::Accepted(returns) = listing else {
-        return Agreement::Refused(listing.outcome());
-    };
-    Agreement::Accepted(c, returns)
+    if bad_length(bytes.len()) {
+        return Err(Refusal::ListLength);
+    }
+    let count = returns_in(bytes);
+    if let Some(bad) = first_bad(bytes, count) {
+        return Err(Refusal::Return(bad as u64));
+    }
+    if total_weight(bytes, count) != Contract::WEIGHT_TOTAL {
+        return Err(Refusal::Weights);
+    }
+    Ok(count)
 }
 
 // The death rate of the period that begins on date i.
@@ -136,57 +108,58 @@ pub fn rate_of(rates: &[u8], i: usize) -> usize
     contract::word(rates, Contract::RATE_BYTES * i)
 }
 
-// The first death rate above 10,000, or how many there are.
-fn first_high(rates: &[u8], dates: usize) -> usize
+// The first death rate above 10,000, if any.
+fn first_high(rates: &[u8], dates: usize) -> Option<usize>
     requires { (dates ≤ dates_most) × (rate_bytes * dates ≤ length rates.now) }
-    ensures { result ≡ first (λ (i : ℕ). ltb rate_most (rates_of rates.now i)) dates }
+    ensures { result ≡ found (λ (i : ℕ). ltb rate_most (rates_of rates.now i)) dates }
 {
-    let mut i: usize = 0;
-    while i < dates {
-        if Contract::RATE_MOST < rate_of(rates, i) {
-            return i;
-        }
-        i += 1;
-    }
-    i
+    slices::first(dates, |i| Contract::RATE_MOST < rate_of(rates, i))
 }
 
 // Refusals 17 and 18.
-fn check_rates(rates: &[u8], dates: usize) -> Outcome
+fn check_rates(rates: &[u8], dates: usize) -> Result<(), Refusal>
     requires { dates ≤ dates_most }
-    ensures { result ≡ outcome_of (verdict (rates_checks dates rates.now)) }
+    ensures { verdict_in result ≡ verdict (rates_checks dates rates.now) }
 {
     if rates.len() != Contract::RATE_BYTES * dates {
-        return Outcome {
-            number: 17,
-            place: 0,
-        };
+        return Err(Refusal::RatesLength);
     }
-    let high = first_high(rates, dates);
-    if high < dates {
-        return Outcome {
-            number: 18,
-            place: high as u64,
-        };
-    }
-    Outcome {
-        number: 0,
-        place: 0,
+    match first_high(rates, dates) {
+        Some(high) => Err(Refusal::DeathRate(high as u64)),
+        None => Ok(()),
     }
 }
 
-// Record, list and rates, which are looked at last.
-pub fn read_all(bytes: &[u8], list: &[u8], rates: &[u8]) -> Agreement
-    ensures { agreement_tells result
-        ≡ input_read (record { bytes = bytes.entry.now; list = list.now; rates = rates.now }) }
-{
-    let agreement = read(bytes, list);
-    let Agreement::Accepted(c, _) = agreement else {
-        return agreement;
-    };
-    let outcome = check_rates(rates, c.dates);
-    if outcome.number != 0 {
-        return Agreement::Refused(outcome);
+impl<'a> Agreement<'a> {
+    ghost use Rattle.input.specs.Reading.{agreement_tells};
+    ghost use Rattle.input.specs.Read.{both_read};
+
+    // Record and list: the record is read whole before the list is looked at.
+    pub fn read(bytes: &[u8], list: &'a [u8]) -> Result<Agreement<'a>, Refusal>
+        ensures tells { agreement_tells result ≡ both_read bytes.now list.entry.now }
+        ensures list { IfOk result (λ agreement. agreement.list.now ≡ list.entry.now) }
+    {
+        let contract = Contract::read(bytes)?;
+        read_list(list)?;
+        Ok(Agreement { contract, list })
     }
-    agreement
+}
+
+impl<'a> Policy<'a> {
+    ghost use Rattle.input.specs.Reading.{policy_tells, input_of};
+    ghost use Rattle.input.specs.Read.{input_read};
+
+    // Record, list and rates, which are looked at last.
+    pub fn read(input: Input<'a>) -> Result<Policy<'a>, Refusal>
+        ensures tells { policy_tells result ≡ input_read (input_of input.entry) }
+        ensures lists { IfOk result (λ policy. (policy.list.now ≡ input.entry.list.now) × (policy.rates.now ≡ input.entry.rates.now)) }
+    {
+        let agreement = Agreement::read(input.bytes, input.list)?;
+        check_rates(input.rates, agreement.contract.dates)?;
+        Ok(Policy {
+            contract: agreement.contract,
+            list: input.list,
+            rates: input.rates,
+        })
+    }
 }

@@ -2,3 +2,4 @@
 pub mod Stored
 pub mod Rows
 pub mod Parts
+pub mod Found
