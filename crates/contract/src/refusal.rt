@@ -1,6 +1,9 @@
 // Why a call is refused: the table of refusals.
 ghost use Rattle.std.specs.Prelude.{◌≡◌};
 ghost use Rattle.contract.specs.Refusal.{number_in, place_in};
+ghost use Rattle.contract.specs.declared.refusal.Refusal.TheVariants.{Behaviour};
+
+use date::UnknownBehaviour;
 
 #[derive(Clone, Copy, Debug, PartialEq, Eq)]
 pub enum Refusal {
@@ -66,5 +69,13 @@ impl Refusal {
             | Refusal::DeathRate(place) => place,
             _ => 0,
         }
+    }
+}
+
+impl From<UnknownBehaviour> for Refusal {
+    ghost from_gives = { λ _ refusal. refusal ≡ Behaviour };
+
+    fn from(_unknown: UnknownBehaviour) -> Refusal {
+        Refusal::Behaviour
     }
 }

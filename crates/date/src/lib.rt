@@ -7,48 +7,20 @@ ghost use Rattle.rules.specs.Date.{dynamic, free_amount, largest_amount, admits,
 ghost use Rattle.rules.specs.Date.{balance_after, lifted_account, next_account, excess_paid, maturity_value};
 ghost use Rattle.rules.specs.Date.{death_payment, death_share, discounted};
 
-// An entry of a working slice, and one of a table, as a number.
-pub fn wide(x: u64) -> usize
-    ensures { result ≡ x }
-{
-    x as usize
-}
+mod behaviour;
 
-pub fn wide16(x: u16) -> usize
-    ensures { (result ≡ x) × (result < 65536) }
-{
-    x as usize
-}
-
-pub fn smaller(x: usize, y: usize) -> usize
-    ensures { result ≡ min x y }
-{
-    if y < x { y } else { x }
-}
-
-pub fn larger(x: usize, y: usize) -> usize
-    ensures { result ≡ max x y }
-{
-    if x < y { y } else { x }
-}
-
-// A difference that stops at 0.
-pub fn less(x: usize, y: usize) -> usize
-    ensures { result ≡ x - y }
-{
-    if x < y { 0 } else { x - y }
-}
+pub use behaviour::{Behaviour, UnknownBehaviour};
 
 pub fn free_amount(level: usize, a: usize) -> usize
     ensures { result ≡ free_amount level a }
 {
-    smaller(level, a)
+    usize::min(level, a)
 }
 
 pub fn largest_amount(m: usize, w: usize) -> usize
     ensures { result ≡ largest_amount m w }
 {
-    larger(w, m)
+    usize::max(w, m)
 }
 
 pub fn admits_dynamic(m: usize, w: usize, t: usize) -> bool
@@ -62,21 +34,21 @@ pub fn rate_on(rate: usize, step: usize, i: usize) -> usize
     requires { (rate ≤ rate_most) × (step ≤ rate_most) × (i ≤ dates_most) }
     ensures { (result ≡ rate_on rate step i) × (result ≤ rate_most) }
 {
-    less(rate, less(i, 1) * step)
+    rate.saturating_sub(i.saturating_sub(1) * step)
 }
 
 pub fn penalty(rate: usize, m: usize, t: usize) -> usize
     requires { (rate ≤ rate_most) × (t ≤ top_most) }
     ensures { (result ≡ penalty rate m t) × (result ≤ 40000000) }
 {
-    rate * less(t, m)
+    rate * t.saturating_sub(m)
 }
 
 pub fn cash(rate: usize, m: usize, t: usize) -> usize
     requires { (rate ≤ rate_most) × (t ≤ top_most) }
     ensures { (result ≡ cash rate m t) × (result ≤ 40000000) }
 {
-    less(10000 * t, penalty(rate, m, t))
+    (10000 * t).saturating_sub(penalty(rate, m, t))
 }
 
 pub fn guarantee_after(m: usize, w: usize, a: usize, t: usize) -> usize
@@ -84,15 +56,15 @@ pub fn guarantee_after(m: usize, w: usize, a: usize, t: usize) -> usize
     ensures { result ≡ guarantee_after m w a t }
 {
     if t <= m {
-        return less(a, t);
+        return a.saturating_sub(t);
     }
-    smaller(less(a, t), a * (w - t) / w)
+    usize::min(a.saturating_sub(t), a * (w - t) / w)
 }
 
 pub fn balance_after(w: usize, t: usize) -> usize
     ensures { result ≡ balance_after w t }
 {
-    less(w, t)
+    w.saturating_sub(t)
 }
 
 // What a return makes of a balance, before the ceiling.
@@ -107,7 +79,7 @@ pub fn next_account(fee: usize, top: usize, balance: usize, factor: usize) -> us
     requires { (fee ≤ rate_most) × (balance ≤ top_most) × (factor ≤ factor_most) }
     ensures { result ≡ next_account fee top balance factor }
 {
-    smaller(top, lifted_account(fee, balance, factor))
+    usize::min(top, lifted_account(fee, balance, factor))
 }
 
 // What a return pays on arrival: 10,000 x what it lifts above top.
@@ -115,14 +87,14 @@ pub fn excess_paid(fee: usize, top: usize, balance: usize, factor: usize) -> usi
     requires { (fee ≤ rate_most) × (balance ≤ top_most) × (factor ≤ factor_most) }
     ensures { (result ≡ excess_paid fee top balance factor) × (result ≤ factor_most * balance) }
 {
-    10000 * less(lifted_account(fee, balance, factor), top)
+    10000 * lifted_account(fee, balance, factor).saturating_sub(top)
 }
 
 pub fn maturity_value(w: usize, a: usize) -> usize
     requires { (w ≤ top_most) × (a ≤ top_most) }
     ensures { (result ≡ maturity_value w a) × (result ≤ 40000000) }
 {
-    10000 * larger(w, a)
+    10000 * usize::max(w, a)
 }
 
 // What a death pays on account w and guarantee a: as much as maturity. An excess is paid beside it, as to the holder who lives.

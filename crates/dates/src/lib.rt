@@ -110,8 +110,8 @@ fn lent_layer(c: Contract, i: usize, lent: usize) -> Part
 {
     let part = layer_of(c, i);
     Part {
-        from: date::smaller(part.from, lent),
-        to: date::smaller(part.to, lent),
+        from: usize::min(part.from, lent),
+        to: usize::min(part.to, lent),
     }
 }
 

@@ -34,7 +34,7 @@ fn left(d: Death, value: u64) -> usize
     requires { Halves d.rate d.high d.low × (value ≤ low_most) }
     ensures { (result ≡ (10000 - d.rate) * value / 10000) × (result ≤ low_most) }
 {
-    let v = date::wide(value % 4294967296);
+    let v = (value % 4294967296) as usize;
     (d.high as usize * v + d.low as usize * v / 4294967296) / 4294967296
 }
 
@@ -58,7 +58,7 @@ fn share_row(work: &mut [u64], d: Death, stride: usize, w: usize)
         ≡ stored work.old (w * stride) (shared d.rate (cells work.old 0 stride) w) stride }
 {
     let row = w * stride;
-    let n = date::smaller(w + 1, stride);
+    let n = usize::min(w + 1, stride);
     share_run(work, d, row, n, d.rate * w, 0);
     share_run(work, d, row + n, stride - n, d.rate * n, d.rate);
 }

@@ -38,8 +38,8 @@ fn offer_amount(best: &mut [u64; 512], work: &[u64], d: Date, s: Block, t: usize
     requires { Span work.now d s × (t ≤ d.level) × Held (key_at work.now d s) best.old s.n (tried_to s t) }
     ensures { Held (key_at work.now d s) best.new s.n (tried_to s (t + 1)) }
 {
-    let low = date::smaller(s.n, date::less(t, s.from));
-    let at = keys::place(d, date::less(s.w, t), date::less(s.from + low, t));
+    let low = usize::min(s.n, t.saturating_sub(s.from));
+    let at = keys::place(d, s.w.saturating_sub(t), (s.from + low).saturating_sub(t));
     offer(best, low, work, at, s.n - low, keys::key(10000 * t, t));
 }
 
@@ -72,7 +72,7 @@ fn further_run(
         × Held (key_at work.now d s) best.old s.n (tried_below d s low) }
     ensures { Held (key_at work.now d s) best.new s.n (tried_below d s (low + n)) }
 {
-    let at = (s.w - m - 1) * d.stride + date::less(s.from + low, m + 1);
+    let at = (s.w - m - 1) * d.stride + (s.from + low).saturating_sub(m + 1);
     offer(
         best,
         low,
@@ -91,7 +91,7 @@ fn further_few(best: &mut [u64; 512], work: &[u64], d: Date, s: Block)
     ensures { Held (key_at work.now d s) best.new s.n
         (tried_below d s (min s.n (min (d.level + 1) s.w - s.from))) }
 {
-    let few = date::smaller(s.n, date::less(date::smaller(d.level + 1, s.w), s.from));
+    let few = usize::min(s.n, usize::min(d.level + 1, s.w).saturating_sub(s.from));
     for j in 0..few {
         further_run(best, work, d, s, j, 1, s.from + j);
     }
@@ -105,8 +105,8 @@ fn further_block(best: &mut [u64; 512], work: &[u64], d: Date, s: Block)
     ensures { Held (key_at work.now d s) best.new s.n (tried_below d s (min s.n (s.w + 1 - s.from))) }
 {
     further_few(best, work, d, s);
-    let low = date::less(d.level + 1, s.from);
-    let end = date::smaller(s.n, date::less(s.w + 1, s.from));
+    let low = (d.level + 1).saturating_sub(s.from);
+    let end = usize::min(s.n, (s.w + 1).saturating_sub(s.from));
     if low < end {
         further_run(best, work, d, s, low, end - low, d.level);
     }

@@ -48,7 +48,7 @@ fn product(
     requires { (k < returns_most) × Reached work.now starts.now weights.now a k }
     ensures { (result ≡ term work.now starts.now weights.now a k) × (result ≤ product_most) }
 {
-    weights[k] as usize * date::wide(reached(work, starts, k, a) % 4294967296)
+    weights[k] as usize * (reached(work, starts, k, a) % 4294967296) as usize
 }
 
 // .. and of four groups.
@@ -240,7 +240,7 @@ fn expect_row(
 {
     let mut from: usize = 0;
     while from < stride {
-        let n = date::smaller(512, stride - from);
+        let n = usize::min(512, stride - from);
         expect_run(work, sums, starts, weights, average, Part { to, from, n });
         from += n;
     }
@@ -251,7 +251,7 @@ fn most_after(c: Contract, i: usize) -> usize
     requires { Valid (terms_in c) × (i ≤ dates_most) }
     ensures { result ≡ state_most (terms_in c) (i + 1) }
 {
-    10000 * c.top + date::less(c.dates, i + 1) * (20000 * c.top)
+    10000 * c.top + c.dates.saturating_sub(i + 1) * (20000 * c.top)
 }
 
 // The second layer: the discounted sum of every balance and guarantee, times 8,192, where the first holds the values of date i + 1.
@@ -297,7 +297,7 @@ fn first_reached(work: &[u64], list: &[u8], rate: usize, c: Contract, k: usize) 
     let factor = contract::word(list, Contract::RETURN_BYTES * k);
     let account = date::next_account(c.fee, c.top, c.premium, factor);
     let paid = date::excess_paid(c.fee, c.top, c.premium, factor);
-    let value = date::wide(work[account * (c.premium + 1) + c.premium]);
+    let value = (work[account * (c.premium + 1) + c.premium]) as usize;
     let payment = date::death_payment(account, c.premium);
     paid + date::death_share(rate, value, payment)
 }

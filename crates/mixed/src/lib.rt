@@ -27,7 +27,7 @@ fn state_key(behaviour: usize, work: &[u64], d: Date, w: usize, a: usize) -> u64
     ensures { result ≡ best_key (behaviour_of behaviour) (sums work.now d) d.rate d.level w a }
 {
     let m = date::free_amount(d.level, a);
-    let at = keys::place(d, date::less(w, m), a - m);
+    let at = keys::place(d, w.saturating_sub(m), a - m);
     let stay = work[at] + keys::key(10000 * m, m);
     if behaviour == 0 {
         return stay;
@@ -86,7 +86,7 @@ fn from_level(behaviour: usize, best: &mut [u64; 512], work: &[u64], d: Date, s:
 {
     let level = d.level;
     let w = s.w;
-    let at = keys::place(d, date::less(w, level), date::less(s.from + low, level));
+    let at = keys::place(d, w.saturating_sub(level), (s.from + low).saturating_sub(level));
     let add = keys::key(10000 * level, level);
     if behaviour == 0 {
         keys::copy(best, low, work, at, s.n - low, add);
@@ -112,7 +112,7 @@ pub fn decide_block(behaviour: usize, best: &mut [u64; 512], work: &[u64], d: Da
     requires { (behaviour ≤ 1) × Span work.now d s × (512 ≤ length best.old) }
     ensures { Keys (behaviour_of behaviour) (sums work.now d) d s best.new }
 {
-    let low = date::smaller(s.n, date::less(d.level, s.from));
+    let low = usize::min(s.n, d.level.saturating_sub(s.from));
     below_level(behaviour, best, work, d, s, low);
     from_level(behaviour, best, work, d, s, low);
 }

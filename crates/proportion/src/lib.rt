@@ -146,7 +146,7 @@ fn part(r: Run, p: usize, bound: u64) -> Run
     let low = r.low + 8 * p;
     Run {
         low,
-        end: date::smaller(r.end, low + 8),
+        end: usize::min(r.end, low + 8),
         bound,
     }
 }
@@ -183,7 +183,7 @@ fn bound_from(best: &[u64; 512], low: usize, end: usize, rising: bool) -> u64
     ensures { result ≡ bound_of rising best.now low end }
 {
     if rising {
-        return least(best, low, date::less(date::smaller(end, low + 8), low));
+        return least(best, low, usize::min(end, low + 8).saturating_sub(low));
     }
     0
 }
@@ -224,7 +224,7 @@ fn share_run(
     ensures { (result ≡ min s.n (low + 32))
         × Held (key_at work.now d s) best.new s.n (tried_below d s (min s.n (low + 32))) }
 {
-    let end = date::smaller(s.n, low + 32);
+    let end = usize::min(s.n, low + 32);
     let mut bounds = [0u64; 4];
     fill_bounds(&mut bounds, best, low, end, rising);
     let bound = least_bound(&bounds);
@@ -246,7 +246,7 @@ pub fn share_block(best: &mut [u64; 512], work: &[u64], d: Date, s: Block, risin
     ensures { Held (key_at work.now d s) best.new s.n (λ (j : ℕ). max s.w (free_of d s j) + 1) }
 {
     if d.level < s.w {
-        let mut low = date::smaller(s.n, date::less(s.w + 1, s.from));
+        let mut low = usize::min(s.n, (s.w + 1).saturating_sub(s.from));
         while low < s.n {
             low = share_run(best, work, d, s, low, rising);
         }
@@ -284,7 +284,7 @@ pub fn rises(work: &[u64], d: Date, n: usize) -> bool
         × (Rising (cells work.now d.base d.stride) d.stride n → result ≡ true) }
 {
     let stride = d.stride;
-    let steps = date::less(stride, 1);
+    let steps = stride.saturating_sub(1);
     let mut r: usize = 0;
     for x in 0..n {
         r += falls(work, d.base + x * stride, steps) as usize;

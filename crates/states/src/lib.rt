@@ -69,8 +69,8 @@ fn decide_block(
 {
     decide_keys(behaviour, best, &work[..], d, s, rising);
     let first = s.w * d.stride + s.from;
-    let at = date::smaller(first, table.len());
-    take_amounts(best, table, at, date::smaller(s.n, table.len() - at));
+    let at = usize::min(first, table.len());
+    take_amounts(best, table, at, usize::min(s.n, table.len() - at));
     take_values(best, work, first, s.n);
 }
 
@@ -101,9 +101,9 @@ fn static_block(work: &mut [u64], table: &mut [u16], d: Date, s: Block)
 {
     let level = d.level;
     let first = s.w * d.stride + s.from;
-    let at = date::smaller(first, table.len());
-    fill_level(table, at, date::smaller(s.n, table.len() - at), level);
-    let sums = keys::place(d, date::less(s.w, level), s.from - level);
+    let at = usize::min(first, table.len());
+    fill_level(table, at, usize::min(s.n, table.len() - at), level);
+    let sums = keys::place(d, s.w.saturating_sub(level), s.from - level);
     copy_sums(work, first, sums, s.n, (10000 * level) as u64);
 }
 
@@ -114,10 +114,10 @@ fn block_length(behaviour: usize, d: Date, from: usize) -> usize
 {
     if behaviour == 0 {
         if from < d.level {
-            return date::smaller(512, d.level - from);
+            return usize::min(512, d.level - from);
         }
     }
-    date::smaller(512, d.stride - from)
+    usize::min(512, d.stride - from)
 }
 
 fn decide_next(

@@ -33,7 +33,7 @@ fn bad_entry(layer: &[u16], c: Contract, e: usize) -> bool
     let stride = c.premium + 1;
     let w = e / stride;
     let m = date::free_amount(c.level, e % stride);
-    if date::admits_dynamic(m, w, date::wide16(layer[e])) {
+    if date::admits_dynamic(m, w, usize::from(layer[e])) {
         return false;
     }
     true
@@ -82,7 +82,7 @@ fn worth(work: &[u64], d: Date, w: usize, a: usize, t: usize) -> usize
     let m = date::free_amount(d.level, a);
     let g = date::guarantee_after(m, w, a, t);
     let at = keys::place(d, date::balance_after(w, t), g);
-    date::cash(d.rate, m, t) + date::wide(work[at] / 8192)
+    date::cash(d.rate, m, t) + (work[at] / 8192) as usize
 }
 
 // The states of account w.
@@ -95,7 +95,7 @@ fn follow_row(work: &mut [u64], layer: &[u16], d: Date, w: usize)
     let row = w * stride;
     for a in 0..stride {
         let i = row + a;
-        let t = date::wide16(layer[i]);
+        let t = usize::from(layer[i]);
         work[i] = worth(&work[..], d, w, a, t) as u64;
     }
 }

@@ -86,7 +86,7 @@ fn may_surrender(c: Contract, at: State, n: usize) -> usize
     if c.level < at.account {
         return n;
     }
-    date::smaller(n, date::less(at.account, at.guarantee))
+    usize::min(n, at.account.saturating_sub(at.guarantee))
 }
 
 // The state n entries further on: in the same row, or first in the next one; behind the last row of a layer, in its first.
@@ -121,7 +121,7 @@ fn word(table: &[u16], c: Contract, from: usize, n: usize, at: State) -> Run
     let mut next = at;
     let mut k: usize = 0;
     while k < n {
-        let part = date::smaller(n - k, c.premium + 1 - next.guarantee);
+        let part = usize::min(n - k, c.premium + 1 - next.guarantee);
         let start = from + k;
         let end = start + may_surrender(c, next, part);
         bits += row_bits(&table[start..end], next.account as u16) << k;
@@ -161,7 +161,7 @@ pub fn fill(c: Contract, table: &[u16], map: &mut [u64]) -> u64
     let mut count: u64 = 0;
     for j in 0..map_size(c) {
         let from = 64 * j;
-        let filled = word(table, c, from, date::smaller(64, size - from), at);
+        let filled = word(table, c, from, usize::min(64, size - from), at);
         map[j] = filled.bits;
         count += ones(filled.bits);
         at = filled.next;

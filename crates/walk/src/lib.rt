@@ -47,7 +47,7 @@ fn first_missing(path: &[u16], count: usize, n: usize) -> usize
 {
     let mut j: usize = 0;
     while j < n {
-        if count <= date::wide16(path[j]) {
+        if count <= usize::from(path[j]) {
             return j;
         }
         j += 1;
@@ -77,7 +77,7 @@ fn first_place(c: Contract, list: &[u8], count: usize, table: &[u16], path: &[u1
     requires { Walking (terms_in c) count list.now table.now path.now }
     ensures { Met (terms_in c) (returns_of list.now) table.now path.now 1 result }
 {
-    let factor = contract::word(list, Contract::RETURN_BYTES * date::wide16(path[0]));
+    let factor = contract::word(list, Contract::RETURN_BYTES * usize::from(path[0]));
     let first = arrive(c, c.premium, factor);
     Place {
         account: first.account,
@@ -90,7 +90,7 @@ fn entry_of(layer: &[u16], stride: usize, account: usize, guarantee: usize) -> u
     requires { account * stride + guarantee < length layer.now }
     ensures { result ≡ get_or layer.now (account * stride + guarantee) 0 }
 {
-    date::wide16(layer[account * stride + guarantee])
+    usize::from(layer[account * stride + guarantee])
 }
 
 // The table's amount on date i, from the layer of that date.
@@ -141,7 +141,7 @@ fn next_place(
 {
     let m = date::free_amount(c.level, place.guarantee);
     let balance = date::balance_after(place.account, t);
-    let factor = contract::word(list, Contract::RETURN_BYTES * date::wide16(path[i]));
+    let factor = contract::word(list, Contract::RETURN_BYTES * usize::from(path[i]));
     let next = arrive(c, balance, factor);
     Place {
         account: next.account,

@@ -4,4 +4,4 @@ use Rattle.date.proofs.balance_after.Goals as goal
 
 pub returns : goal.returns
 unfolding balance_after
-returns c = c.less.ensures
+returns c = c.saturating_sub.ensures

@@ -7,4 +7,4 @@ use Rattle.date.proofs.cash.Goals as goal
 
 pub returns : goal.returns
 unfolding cash
-returns c = (c.less.ensures ∙ ap (λ (x : ℕ). 10000 * c.args.t - x) c.penalty.ensures.0, omega arith)
+returns c = (c.saturating_sub.ensures ∙ ap (λ (x : ℕ). 10000 * c.args.t - x) c.penalty.ensures.0, omega arith)

@@ -9,5 +9,5 @@ pub returns : goal.returns
 unfolding excess excess_paid
 returns c =
     let lifted = c.lifted_account.ensures in
-    let over = c.less.ensures ∙ ap (λ (x : ℕ). x - c.args.top) lifted.0 in
-    (ap (λ (x : ℕ). 10000 * x) over, omega (arith, c.less.ensures, lifted.1))
+    let over = c.saturating_sub.ensures ∙ ap (λ (x : ℕ). x - c.args.top) lifted.0 in
+    (ap (λ (x : ℕ). 10000 * x) over, omega (arith, c.saturating_sub.ensures, lifted.1))

@@ -4,4 +4,4 @@ use Rattle.date.proofs.free_amount.Goals as goal
 
 pub returns : goal.returns
 unfolding free_amount
-returns c = c.smaller.ensures
+returns c = c.min.ensures

@@ -9,7 +9,7 @@ use Rattle.date.proofs.guarantee_after.Goals as goal
 
 pub returns-then-t-m : goal.returns-then-t-m
 unfolding guarantee_after
-returns-then-t-m c = rw (le-leb _ _ c.if-t-m.true) c.less.ensures
+returns-then-t-m c = rw (le-leb _ _ c.if-t-m.true) c.saturating_sub.ensures
 
 pub overflow_mul-a : goal.overflow_mul-a
 overflow_mul-a c = omega (
@@ -24,4 +24,4 @@ returns c =
     let args = c.args in
     let w₀ = args.w in
     let if1 = c.if-t-m in
-    rw (lt-leb _ _ if1.false) (c.smaller.ensures ∙ ap (λ (x : ℕ). min x (args.a * (w₀ - args.t) / w₀)) c.less-2.ensures)
+    rw (lt-leb _ _ if1.false) (c.min.ensures ∙ ap (λ (x : ℕ). min x (args.a * (w₀ - args.t) / w₀)) c.saturating_sub-2.ensures)

@@ -4,4 +4,4 @@ use Rattle.date.proofs.largest_amount.Goals as goal
 
 pub returns : goal.returns
 unfolding largest_amount
-returns c = c.larger.ensures
+returns c = c.max.ensures

@@ -7,4 +7,4 @@ use Rattle.date.proofs.maturity_value.Goals as goal
 
 pub returns : goal.returns
 unfolding maturity_value
-returns c = (ap (λ (x : ℕ). 10000 * x) c.larger.ensures, omega arith)
+returns c = (ap (λ (x : ℕ). 10000 * x) c.max.ensures, omega arith)

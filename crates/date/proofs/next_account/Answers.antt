@@ -6,4 +6,4 @@ use Rattle.date.proofs.next_account.Goals as goal
 
 pub returns : goal.returns
 unfolding next_account
-returns c = c.smaller.ensures ∙ ap (min c.args.top) c.lifted_account.ensures.0
+returns c = c.min.ensures ∙ ap (min c.args.top) c.lifted_account.ensures.0

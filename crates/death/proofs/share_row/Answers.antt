@@ -4,8 +4,8 @@ use Rattle.death.proofs.share_row.Goals as goal
 
 pub share_run-requires-2 : goal.share_run-requires-2
 share_run-requires-2 c =
-    high_run c.requires _ c.smaller-n.ensures c.share_run.ensures
+    high_run c.requires _ c.min-n.ensures c.share_run.ensures
 
 pub returns : goal.returns
 returns c =
-    two_runs c.requires _ c.smaller-n.ensures c.share_run.ensures c.share_run-2.ensures
+    two_runs c.requires _ c.min-n.ensures c.share_run.ensures c.share_run-2.ensures

@@ -11,15 +11,15 @@ pub further_run-requires : goal.further_run-requires
 further_run-requires c =
     let args = c.args in
     let pre = c.requires in
-    let end_is = c.smaller-end.ensures ∙ ap (min args.s.n) c.less.ensures in
-    let low_is = c.less-low.ensures in
+    let end_is = c.min-end.ensures ∙ ap (min args.s.n) c.saturating_sub.ensures in
+    let low_is = c.saturating_sub-low.ensures in
     let alike = alike_level args.d args.s _ _ low_is end_is c.if-low-end.true in
     (pre.0, pre.1, alike, held_as _ c.further_few.ensures (λ j l. few_level args.d args.s refl low_is (omega arith) j))
 
 pub returns-else-low-end : goal.returns-else-low-end
 returns-else-low-end c =
     let args = c.args in
-    let end_is = c.smaller-end.ensures ∙ ap (min args.s.n) c.less.ensures in
+    let end_is = c.min-end.ensures ∙ ap (min args.s.n) c.saturating_sub.ensures in
     held_as _ c.further_few.ensures
-    (λ j l. few_all args.d args.s refl c.less-low.ensures end_is c.if-low-end.false j
+    (λ j l. few_all args.d args.s refl c.saturating_sub-low.ensures end_is c.if-low-end.false j
     ∙ ap (λ (x : ℕ). tried_below args.d args.s x j) end_is)

@@ -8,6 +8,6 @@ pub further_run-requires : goal.further_run-requires
 further_run-requires c =
     let args = c.args in
     let pre = c.requires in
-    let few = c.smaller-few.ensures ∙ ap (min args.s.n) (c.less.ensures
-    ∙ ap (λ (z : ℕ). z - args.s.from) c.smaller.ensures) in
+    let few = c.min-few.ensures ∙ ap (min args.s.n) (c.saturating_sub.ensures
+    ∙ ap (λ (z : ℕ). z - args.s.from) c.min.ensures) in
     (pre.0, pre.1, alike_one args.d args.s c.loop-j.j _ few c.loop-j-test.true, c.loop-j.invariant.1)

@@ -8,14 +8,14 @@ use Rattle.dynamic.proofs.offer_amount.Goals as goal
 pub offer-requires : goal.offer-requires
 offer-requires c =
     let d = c.args.d in
-    let low_is = c.smaller-low.ensures ∙ ap (min c.args.s.n) c.less.ensures in
-    let at_is = c.place-at.ensures ∙ ap₂ (λ (x y : ℕ). d.base + (x * d.stride + y)) c.less-2.ensures c.less-3.ensures in
+    let low_is = c.min-low.ensures ∙ ap (min c.args.s.n) c.saturating_sub.ensures in
+    let at_is = c.place-at.ensures ∙ ap₂ (λ (x y : ℕ). d.base + (x * d.stride + y)) c.saturating_sub-2.ensures c.saturating_sub-3.ensures in
     free_offering c.requires.0 c.requires.1 low_is at_is c.key.ensures.0 (omega (arith, c.key.ensures.1)) c.requires.2
 
 pub returns : goal.returns
 returns c =
     let d = c.args.d in
-    let low_is = c.smaller-low.ensures ∙ ap (min c.args.s.n) c.less.ensures in
-    let at_is = c.place-at.ensures ∙ ap₂ (λ (x y : ℕ). d.base + (x * d.stride + y)) c.less-2.ensures c.less-3.ensures in
+    let low_is = c.min-low.ensures ∙ ap (min c.args.s.n) c.saturating_sub.ensures in
+    let at_is = c.place-at.ensures ∙ ap₂ (λ (x y : ℕ). d.base + (x * d.stride + y)) c.saturating_sub-2.ensures c.saturating_sub-3.ensures in
     free_offered c.requires.0 c.requires.1 low_is at_is c.key.ensures.0 (omega (arith, c.key.ensures.1))
     c.requires.2 c.offer.ensures

@@ -17,8 +17,8 @@ loop-from-init c = (omega arith, refl, c.requires.1)
 pub expect_run-requires : goal.expect_run-requires
 expect_run-requires c =
     let loop = c.loop-from in
-    let n = c.smaller-n.result in
-    let e = c.smaller-n.ensures in
+    let n = c.min-n.result in
+    let e = c.min-n.ensures in
     let row = c.requires.0 in
     (row_part row loop.work _ _ (loop.from + n) loop.invariant.1 (omega arith), omega arith, loop.invariant.2)
 
@@ -28,8 +28,8 @@ loop-from-preserved c =
     let pre = c.requires.0 in
     let loop = c.loop-from in
     let from = loop.from in
-    let n = c.smaller-n.result in
-    let e = c.smaller-n.ensures in
+    let n = c.min-n.result in
+    let e = c.min-n.ensures in
     let expect-run = c.expect_run in
     let value : ℕ → ℕ = λ s. 8192 * discounted y.average.discount (y.average.paid + s) in
     let total : List ℕ → ℕ → ℕ = λ xs j. sum (term xs y.starts.now y.weights.now (from + j)) y.average.count in

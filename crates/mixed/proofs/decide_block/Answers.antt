@@ -7,5 +7,5 @@ pub returns : goal.returns
 returns c =
     let args = c.args in
     let pre = c.requires in
-    both_parts args.behaviour args.best.now _ _ c.smaller-low.result (omega (arith, c.smaller-low.ensures)) pre.1.short pre.2
+    both_parts args.behaviour args.best.now _ _ c.min-low.result (omega (arith, c.min-low.ensures)) pre.1.short pre.2
     c.below_level.ensures c.from_level.ensures

@@ -20,20 +20,20 @@ key-requires c = (omega arith, omega arith)
 pub returns-then-behaviour-eq0 : goal.returns-then-behaviour-eq0
 returns-then-behaviour-eq0 c =
     let m_is = c.free_amount-m.ensures in
-    let x_is = c.less.ensures in
+    let x_is = c.saturating_sub.ensures in
     static_is _ _ c.requires.1 c.requires.2 m_is x_is c.place-at.ensures c.key.ensures.0 c.if-behaviour-eq0.true
 
 pub returns-then-w-m : goal.returns-then-w-m
 returns-then-w-m c =
     let m_is = c.free_amount-m.ensures in
-    let x_is = c.less.ensures in
+    let x_is = c.saturating_sub.ensures in
     let key_is = c.key.ensures.0 in
     mixed_is _ _ c.requires.1 c.requires.2 m_is x_is c.place-at.ensures key_is (omega arith) (omega arith)
 
 pub returns : goal.returns
 returns c =
     let m_is = c.free_amount-m.ensures in
-    let x_is = c.less.ensures in
+    let x_is = c.saturating_sub.ensures in
     let key_is = c.key.ensures.0 in
     let surrender_is = c.surrender_key.ensures.0 in
     c.larger.ensures

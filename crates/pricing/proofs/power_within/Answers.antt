@@ -6,8 +6,8 @@ use Rattle.pricing.proofs.power_within.Goals as goal
 pub loop-power-init : goal.loop-power-init
 loop-power-init c = doubled_one (omega arith)
 
-pub loop-power-smaller : goal.loop-power-smaller
-loop-power-smaller c = omega (arith, c.loop-power.invariant.some)
+pub loop-power-min : goal.loop-power-min
+loop-power-min c = omega (arith, c.loop-power.invariant.some)
 
 pub loop-power-preserved : goal.loop-power-preserved
 loop-power-preserved c = doubled_more c.loop-power.invariant (omega arith)

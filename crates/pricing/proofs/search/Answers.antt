@@ -42,8 +42,8 @@ narrow-s-requires c =
     let cut = halved (s.high - s.low) (omega arith) in
     omega (arith, c.loop-s.invariant.ends.within, cut.below, c.power_within.ensures)
 
-pub loop-s-smaller : goal.loop-s-smaller
-loop-s-smaller c =
+pub loop-s-min : goal.loop-s-min
+loop-s-min c =
     let s = c.loop-s.s in
     let args = c.args in
     rw c.narrow-s.ensures

@@ -13,7 +13,7 @@ falls-requires c =
     let x = c.loop-x.x in
     let taken = c.loop-x-test.true in
     let room = sum_in pre x 0 s taken (omega arith) in
-    let e = c.less-steps.ensures in (
+    let e = c.saturating_sub-steps.ensures in (
       omega (arith, pre.width),
       λ i l. (
         omega (arith, pre.level_is),
@@ -27,7 +27,7 @@ pub loop-x-preserved : goal.loop-x-preserved
 loop-x-preserved c =
     let args = c.args in
     let loop = c.loop-x in
-    let less = c.less-steps in
+    let less = c.saturating_sub-steps in
     let told = c.falls.ensures in
     let e = less.ensures in (
       omega arith,

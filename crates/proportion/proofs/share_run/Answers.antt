@@ -14,7 +14,7 @@ pub loop-to-init : goal.loop-to-init
 loop-to-init c =
     let args = c.args in
     let pre = c.requires in
-    let end = c.smaller-end.result in
+    let end = c.min-end.result in
     let told = c.lead-to.ensures in (
       omega arith,
       omega (arith, pre.5),
@@ -33,10 +33,10 @@ pub share_amount-requires : goal.share_amount-requires
 share_amount-requires c =
     let pre = c.requires in
     let args = c.args in
-    let end_is = c.smaller-end.ensures in
+    let end_is = c.min-end.ensures in
     let inv = c.loop-to.invariant in
-    let some : args.low < c.smaller-end.result = omega (arith, pre.4) in
-    let r : Run = record { low = args.low; end = c.smaller-end.result; bound = c.least_bound-bound.result } in
+    let some : args.low < c.min-end.result = omega (arith, pre.4) in
+    let r : Run = record { low = args.low; end = c.min-end.result; bound = c.least_bound-bound.result } in
     let run : Running args.d args.s r = record { within = omega arith; above = pre.3; level_is = pre.5 } in
     let bounds = bounds_are args.rising args.best.now _ _ r (omega arith) pre.2 (omega arith)
     c.fill_bounds.ensures c.least_bound-bound.ensures in (
@@ -52,11 +52,11 @@ pub loop-to-preserved : goal.loop-to-preserved
 loop-to-preserved c =
     let pre = c.requires in
     let args = c.args in
-    let end_is = c.smaller-end.ensures in
+    let end_is = c.min-end.ensures in
     let inv = c.loop-to.invariant in
     let told = c.step_on-to.ensures in
     let way = shared_on pre.0 inv.2 inv.0 c.loop-to-test.true told in
-    let r : Run = record { low = args.low; end = c.smaller-end.result; bound = c.least_bound-bound.result } in
+    let r : Run = record { low = args.low; end = c.min-end.result; bound = c.least_bound-bound.result } in
     let run : Running args.d args.s r = record { within = omega arith; above = pre.3; level_is = pre.5 } in (
       omega (arith, told.0),
       way.upto,
@@ -70,13 +70,13 @@ pub returns : goal.returns
 returns c =
     let args = c.args in
     let pre = c.requires in
-    let end_is = c.smaller-end.ensures in
+    let end_is = c.min-end.ensures in
     let loop = c.loop-to in
     let done : loop.to.t + 1 ≡ args.s.w + 1 = omega (arith, loop.invariant.1) in (
       end_is,
       held_as _ loop.invariant.3
-          (λ j l. ap (λ (z : ℕ). tried_run args.d args.s args.low c.smaller-end.result z j) done
-          ∙ run_end args.d args.s args.low c.smaller-end.result j (omega (arith, pre.4))
+          (λ j l. ap (λ (z : ℕ). tried_run args.d args.s args.low c.min-end.result z j) done
+          ∙ run_end args.d args.s args.low c.min-end.result j (omega (arith, pre.4))
           (λ p. omega (arith, level_free args.d args.s args.low pre.3 pre.5 j p, pre.5))
           ∙ ap (λ (z : ℕ). tried_below args.d args.s z j) end_is),
     )

@@ -22,8 +22,8 @@ return_line-next-requires c =
       room = (c.loop-k-test.true, omega (arith, pre.room, loop.invariant.2.within, loop.invariant.1, c.loop-k-test.true));
     }
 
-pub loop-k-smaller : goal.loop-k-smaller
-loop-k-smaller c = omega (arith, c.loop-k-test.true)
+pub loop-k-min : goal.loop-k-min
+loop-k-min c = omega (arith, c.loop-k-test.true)
 
 pub loop-k-preserved : goal.loop-k-preserved
 loop-k-preserved c =

@@ -23,8 +23,8 @@ byte-next-requires c = omega (
   c.loop-i-test.true,
 )
 
-pub loop-i-smaller : goal.loop-i-smaller
-loop-i-smaller c = omega (arith, c.loop-i-test.true)
+pub loop-i-min : goal.loop-i-min
+loop-i-min c = omega (arith, c.loop-i-test.true)
 
 pub loop-i-preserved : goal.loop-i-preserved
 loop-i-preserved c =

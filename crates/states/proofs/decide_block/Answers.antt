@@ -10,7 +10,7 @@ returns c =
     let span = c.requires.0.span in
     let keys = c.decide_keys.ensures in (
       block_decided (behaviour_of args.behaviour) (sums args.work.now args.d) args.table.now _ _ span
-          c.smaller-at.ensures c.smaller.ensures
+          c.min-at.ensures c.min.ensures
           c.take_amounts.ensures c.take_values.ensures (key_holds_amount span keys) (key_holds_value span keys),
       keys.long,
     )

@@ -11,9 +11,9 @@ unfolding bad_at admissible_in layout_of free_in
 returns-then-admits_dynamic c =
     let args = c.args in
     let free-amount = c.free_amount-m in
-    let wide16 = c.wide16 in
+    let from = c.from in
     let same =
-    ap₂ (λ (m t : ℕ). admits dynamic m (args.e / (args.c.premium + 1)) t) free-amount.ensures wide16.ensures.0 in
+    ap₂ (λ (m t : ℕ). admits dynamic m (args.e / (args.c.premium + 1)) t) free-amount.ensures from.ensures.0 in
     rw (sym (c.admits_dynamic.ensures ∙ same) ∙ c.if-admits_dynamic.true)
 
 pub returns : goal.returns
@@ -21,7 +21,7 @@ unfolding bad_at admissible_in layout_of free_in
 returns c =
     let args = c.args in
     let free-amount = c.free_amount-m in
-    let wide16 = c.wide16 in
+    let from = c.from in
     let same =
-    ap₂ (λ (m t : ℕ). admits dynamic m (args.e / (args.c.premium + 1)) t) free-amount.ensures wide16.ensures.0 in
+    ap₂ (λ (m t : ℕ). admits dynamic m (args.e / (args.c.premium + 1)) t) free-amount.ensures from.ensures.0 in
     rw (sym (c.admits_dynamic.ensures ∙ same) ∙ c.if-admits_dynamic.false)

@@ -36,14 +36,14 @@ overflow_sub-size c =
     let loop = c.loop-j in
     omega (arith, table-size.ensures.0, word_some loop.invariant more)
 
-pub smaller-requires : goal.smaller-requires
-smaller-requires c = tt
+pub min-requires : goal.min-requires
+min-requires c = tt
 
 pub word-filled-requires : goal.word-filled-requires
 word-filled-requires c =
     let more : c.loop-j.j < map_size (frame (terms_in c.args.c)) = omega (arith, c.map_size-j-end.ensures) in
     let loop = c.loop-j in
-    let smaller = c.smaller in
+    let smaller = c.min in
     let table-size = c.table_size-size in
     let pre = c.requires in
     let takes = smaller.ensures ∙ ap (λ (n : ℕ). bits_in n loop.j) table-size.ensures.0 in
@@ -80,7 +80,7 @@ pub loop-j-preserved : goal.loop-j-preserved
 loop-j-preserved c =
     let more : c.loop-j.j < map_size (frame (terms_in c.args.c)) = omega (arith, c.map_size-j-end.ensures) in
     let loop = c.loop-j in
-    let smaller = c.smaller in
+    let smaller = c.min in
     let table-size = c.table_size-size in
     let word = c.word-filled in
     let ones = c.ones-count in

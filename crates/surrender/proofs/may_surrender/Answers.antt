@@ -10,7 +10,7 @@ returns-then-c-at c = record { within = omega arith; above = λ k l. omega (arit
 pub returns : goal.returns
 unfolding free_amount
 returns c = record {
-  within = omega (arith, c.smaller.ensures);
-  above = λ k l. omega (arith, c.smaller.ensures, c.less.ensures, c.if-c-at.false);
-  others = λ k l m. omega (arith, c.smaller.ensures, c.less.ensures, c.if-c-at.false);
+  within = omega (arith, c.min.ensures);
+  above = λ k l. omega (arith, c.min.ensures, c.saturating_sub.ensures, c.if-c-at.false);
+  others = λ k l m. omega (arith, c.min.ensures, c.saturating_sub.ensures, c.if-c-at.false);
 }

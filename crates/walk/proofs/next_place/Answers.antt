@@ -27,7 +27,7 @@ pub word-factor-requires : goal.word-factor-requires
 word-factor-requires c =
     let pre = c.requires in
     let k = pre.0.numbers c.args.i pre.3 in
-    omega (arith, c.wide16.ensures.0, pre.0.counted.long)
+    omega (arith, c.from.ensures.0, pre.0.counted.long)
 
 pub arrive-next-requires : goal.arrive-next-requires
 unfolding balance_after
@@ -35,7 +35,7 @@ arrive-next-requires c =
     let pre = c.requires in (
       pre.0.valid,
       le_trans (le_of_eq c.balance_after-balance.ensures) (le_trans (sub-le _ _) pre.1.account),
-      le_trans (le_of_eq (factor_is c.args.list.now c.word-factor.ensures.0 c.wide16.ensures.0)) (factor_small pre.0 c.args.i pre.3),
+      le_trans (le_of_eq (factor_is c.args.list.now c.word-factor.ensures.0 c.from.ensures.0)) (factor_small pre.0 c.args.i pre.3),
     )
 
 pub returns : goal.returns
@@ -44,7 +44,7 @@ returns c =
     let pre = c.requires in
     let at = Met (terms_in args.c) (returns_of args.list.now) args.table.now args.path.now (suc args.i) in
     let balance = c.balance_after-balance.ensures in
-    let factor = factor_is args.list.now c.word-factor.ensures.0 c.wide16.ensures.0 in
+    let factor = factor_is args.list.now c.word-factor.ensures.0 c.from.ensures.0 in
     let account = c.arrive-next.ensures.0 ∙ ap₂ (next_account args.c.fee args.c.top) balance factor in
     let paid = c.arrive-next.ensures.1 ∙ ap₂ (excess_paid args.c.fee args.c.top) balance factor in
     let m_is = c.free_amount-m.ensures in

@@ -1,0 +1,2 @@
+-- What a behaviour in the code is in the rules.
+pub mod Behaviour
