@@ -118,49 +118,8 @@ impl Run {
     }
 }
 
-// An amount above m, for the states of a run, if any: passed over where the last of them does not gain.
-fn share_few(best: &mut [u64; 512], work: &[u64], d: Date, s: Block, r: Run, to: Way)
-    requires { Span work.now d s
-        × Running d s r
-        × Bounded work.now d s (λ (j : ℕ). slice_index best.old j) r
-        × Leading d s to }
-    ensures { best.new
-        ≡ raised_to best.old r.low (λ (i : ℕ). key_at work.now d s (r.low + i) to.t) (r.end - r.low) }
-{
-    if r.low < r.end {
-        let last = s.from + r.end - 1;
-        if r.bound < to.key(work, last) {
-            offer_share(best, r.low, r.end - r.low, work, s.from + r.low, to);
-        }
-    }
-}
-
-// .. for a run of up to 32 states: passed over for all of them, or 8 at a time.
-fn share_amount(
-    best: &mut [u64; 512],
-    work: &[u64],
-    d: Date,
-    s: Block,
-    r: Run,
-    bounds: &[u64; 4],
-    to: Way,
-)
-    requires { Span work.now d s
-        × Running d s r
-        × (r.low < r.end)
-        × Bounds work.now d s (λ (j : ℕ). slice_index best.old j) r bounds.now
-        × Leading d s to }
-    ensures { best.new
-        ≡ raised_to best.old r.low (λ (i : ℕ). key_at work.now d s (r.low + i) to.t) (r.end - r.low) }
-{
-    if r.bound < to.key(work, s.from + r.end - 1) {
-        for p in 0..4 {
-            share_few(best, work, d, s, r.part(p, bounds[p]), to);
-        }
-    }
-}
-
-// A number that no state from `low` to `end` holds less than, among the first 8 of them; 0 where the rows may fall.
+// A number that no state from `low` to `end` holds less than, among the first 8 of them; 0, which always is one, where the rows
+// may fall.
 fn bound_from(best: &[u64; 512], low: usize, end: usize, rising: bool) -> u64
     requires { (low ≤ 1024) × (end ≤ 512) }
     ensures { result ≡ bound_of rising best.now low end }
@@ -181,35 +140,69 @@ fn bounds_from(best: &[u64; 512], low: usize, end: usize, rising: bool) -> [u64;
     std::array::from_fn(|p| bound_from(best, low + 8 * p, end, rising))
 }
 
-// The amounts above m, for 32 states from state `low` on. Gives the state after them.
-fn share_run(
-    best: &mut [u64; 512],
-    work: &[u64],
+// The states of a block over the sums of their date, where some amount is above m: `rising` where the rows rise.
+#[derive(Clone, Copy)]
+struct States<'a> {
+    work: &'a [u64],
     d: Date,
     s: Block,
-    low: usize,
     rising: bool,
-) -> usize
-    requires { Span work.now d s
-        × Held (key_at work.now d s) best.old s.n (tried_below d s low)
-        × (rising ≡ true → Rising (cells work.now d.base d.stride) d.stride (s.w + 1))
-        × (s.w < s.from + low)
-        × (low < s.n)
-        × (d.level < s.w) }
-    ensures { (result ≡ min s.n (low + 32))
-        × Held (key_at work.now d s) best.new s.n (tried_below d s (min s.n (low + 32))) }
-{
-    let end = usize::min(s.n, low + 32);
-    let bounds = bounds_from(best, low, end, rising);
-    let bound = least(&bounds);
-    let r = Run { low, end, bound };
-    let inverse = (1099511627776 + s.w - 1) / s.w;
-    let mut to = Way::lead(d, s.w, inverse, d.level);
-    while to.t < s.w {
-        to = to.next(d, inverse);
-        share_amount(best, work, d, s, r, &bounds, to);
+    ghost span: { Span work.now d s },
+    ghost level_is: { d.level < s.w },
+    ghost rises: { rising ≡ true → Rising (cells work.now d.base d.stride) d.stride (s.w + 1) },
+}
+
+impl<'a> States<'a> {
+    ghost use Rattle.proportion.specs.States.{raised_by, Holding};
+
+    // An amount above m, for the states of a run, if any: passed over where the last of them does not gain.
+    fn share_few(self, best: &mut [u64; 512], r: Run, to: Way)
+        requires { Running self.d self.s r
+            × Bounded self.work.now self.d self.s (λ (j : ℕ). slice_index best.old j) r
+            × Leading self.d self.s to }
+        ensures { best.new ≡ raised_by self.entry best.old r to.t }
+    {
+        if r.low < r.end {
+            let last = self.s.from + r.end - 1;
+            if r.bound < to.key(self.work, last) {
+                offer_share(best, r.low, r.end - r.low, self.work, self.s.from + r.low, to);
+            }
+        }
     }
-    end
+
+    // .. for a run of up to 32 states: passed over for all of them, or 8 at a time.
+    fn share_amount(self, best: &mut [u64; 512], r: Run, bounds: &[u64; 4], to: Way)
+        requires { Running self.d self.s r
+            × (r.low < r.end)
+            × Bounds self.work.now self.d self.s (λ (j : ℕ). slice_index best.old j) r bounds.now
+            × Leading self.d self.s to }
+        ensures { best.new ≡ raised_by self.entry best.old r to.t }
+    {
+        if r.bound < to.key(self.work, self.s.from + r.end - 1) {
+            for p in 0..4 {
+                self.share_few(best, r.part(p, bounds[p]), to);
+            }
+        }
+    }
+
+    // The amounts above m, for 32 states from state `low` on. Gives the state after them.
+    fn share_run(self, best: &mut [u64; 512], low: usize) -> usize
+        requires { Holding self best.old low × (self.s.w < self.s.from + low) × (low < self.s.n) }
+        ensures { (result ≡ min self.entry.s.n (low + 32)) × Holding self.entry best.new result }
+    {
+        let w = self.s.w;
+        let end = usize::min(self.s.n, low + 32);
+        let bounds = bounds_from(best, low, end, self.rising);
+        let bound = least(&bounds);
+        let r = Run { low, end, bound };
+        let inverse = (1099511627776 + w - 1) / w;
+        let mut to = Way::lead(self.d, w, inverse, self.d.level);
+        while to.t < w {
+            to = to.next(self.d, inverse);
+            self.share_amount(best, r, &bounds, to);
+        }
+        end
+    }
 }
 
 // The amounts above m where the account is below the guarantee.
@@ -220,9 +213,10 @@ pub fn share_block(best: &mut [u64; 512], work: &[u64], d: Date, s: Block, risin
     ensures { Held (key_at work.now d s) best.new s.n (λ (j : ℕ). max s.w (free_of d s j) + 1) }
 {
     if d.level < s.w {
+        let states = States { work, d, s, rising };
         let mut low = usize::min(s.n, (s.w + 1).saturating_sub(s.from));
         while low < s.n {
-            low = share_run(best, work, d, s, low, rising);
+            low = states.share_run(best, low);
         }
     }
 }
