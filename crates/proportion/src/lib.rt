@@ -67,6 +67,23 @@ impl Way {
         }
     }
 
+    // An amount where the guarantee falls in proportion, for n states from state `low` on, the first with guarantee `first`. The
+    // loop looks up single entries, and is not widened: an amount seldom gains, so that a branch costs less than a store.
+    fn offer(self, best: &mut [u64; 512], low: usize, n: usize, work: &[u64], first: usize)
+        requires { Sharing work.now low n first self }
+        ensures { best.new
+            ≡ raised_to best.old low (λ (i : ℕ). slice_index work.now (self.at + left self.step (first + i)) + self.add) n }
+    {
+        let mut product = first * self.step;
+        for i in 0..n {
+            let other = work[self.at + product / 1099511627776] + self.add;
+            if best[low + i] < other {
+                best[low + i] = other;
+            }
+            product += self.step;
+        }
+    }
+
     // The key of an amount for the state of guarantee a.
     fn key(self, work: &[u64], a: usize) -> u64
         requires { (a * self.step < 18446744073709551616)
@@ -78,24 +95,8 @@ impl Way {
     }
 }
 
-// An amount where the guarantee falls in proportion, for n states from state `low` on, the first with guarantee `first`. The
-// loop looks up single entries, and is not widened: an amount seldom gains, so that a branch costs less than a store.
-fn offer_share(best: &mut [u64; 512], low: usize, n: usize, work: &[u64], first: usize, r: Way)
-    requires { Sharing work.now low n first r }
-    ensures { best.new
-        ≡ raised_to best.old low (λ (i : ℕ). slice_index work.now (r.at + left r.step (first + i)) + r.add) n }
-{
-    let mut product = first * r.step;
-    for i in 0..n {
-        let other = work[r.at + product / 1099511627776] + r.add;
-        if best[low + i] < other {
-            best[low + i] = other;
-        }
-        product += r.step;
-    }
-}
-
-// The states from `low` to `end`. Where `bound` is not 0, the rows rise with the guarantee and none of the states holds less.
+// The states from `low` to `end`. Where `bound` is not 0, the rows rise with the guarantee and none of the states holds less. No
+// `Option`: 0 is a bound as well, below every key, so that one comparison tells whether an amount may gain.
 #[derive(Clone, Copy)]
 struct Run {
     low: usize,
@@ -165,7 +166,7 @@ impl<'a> States<'a> {
         if r.low < r.end {
             let last = self.s.from + r.end - 1;
             if r.bound < to.key(self.work, last) {
-                offer_share(best, r.low, r.end - r.low, self.work, self.s.from + r.low, to);
+                to.offer(best, r.low, r.end - r.low, self.work, self.s.from + r.low);
             }
         }
     }
@@ -179,16 +180,16 @@ impl<'a> States<'a> {
         ensures { best.new ≡ raised_by self.entry best.old r to.t }
     {
         if r.bound < to.key(self.work, self.s.from + r.end - 1) {
-            for p in 0..4 {
-                self.share_few(best, r.part(p, bounds[p]), to);
+            for (p, bound) in bounds.iter().enumerate() {
+                self.share_few(best, r.part(p, *bound), to);
             }
         }
     }
 
-    // The amounts above m, for 32 states from state `low` on. Gives the state after them.
-    fn share_run(self, best: &mut [u64; 512], low: usize) -> usize
+    // The amounts above m, for 32 states from state `low` on.
+    fn share_run(self, best: &mut [u64; 512], low: usize)
         requires { Holding self best.old low × (self.s.w < self.s.from + low) × (low < self.s.n) }
-        ensures { (result ≡ min self.entry.s.n (low + 32)) × Holding self.entry best.new result }
+        ensures { Holding self.entry best.new (min self.entry.s.n (low + 32)) }
     {
         let w = self.s.w;
         let end = usize::min(self.s.n, low + 32);
@@ -197,11 +198,11 @@ impl<'a> States<'a> {
         let r = Run { low, end, bound };
         let inverse = (1099511627776 + w - 1) / w;
         let mut to = Way::lead(self.d, w, inverse, self.d.level);
+        // No `for`: the way counts the amounts itself.
         while to.t < w {
             to = to.next(self.d, inverse);
             self.share_amount(best, r, &bounds, to);
         }
-        end
     }
 }
 
@@ -214,9 +215,9 @@ pub fn share_block(best: &mut [u64; 512], work: &[u64], d: Date, s: Block, risin
 {
     if d.level < s.w {
         let states = States { work, d, s, rising };
-        let mut low = usize::min(s.n, (s.w + 1).saturating_sub(s.from));
-        while low < s.n {
-            low = states.share_run(best, low);
+        let first = usize::min(s.n, (s.w + 1).saturating_sub(s.from));
+        for low in (first..s.n).step_by(32) {
+            states.share_run(best, low);
         }
     }
 }

@@ -9,15 +9,15 @@ key-requires c =
     let pre = c.requires in
     way_last c.args.self.span pre.2 pre.0 c.if-r.true
 
-pub offer_share-requires : goal.offer_share-requires
-offer_share-requires c =
+pub offer-requires : goal.offer-requires
+offer-requires c =
     let pre = c.requires in
     way_sharing c.args.self.span pre.2 pre.0 c.if-r.true
 
 pub returns-then-r-key : goal.returns-then-r-key
 returns-then-r-key c =
     let pre = c.requires in
-    way_raised c.args.self.span pre.2 pre.0 c.if-r.true _ c.offer_share.ensures
+    way_raised c.args.self.span pre.2 pre.0 c.if-r.true _ c.offer.ensures
 
 pub returns-else-r-key : goal.returns-else-r-key
 returns-else-r-key c =

@@ -6,6 +6,7 @@ use Rattle.proportion.proofs.Amount.{amount_tried, held_more, level_free}
 use Rattle.proportion.proofs.Step.{shared_on, shared_some}
 use Rattle.proportion.proofs.Runs.{run_start, run_end}
 use Rattle.proportion.specs.declared.Run.{Run}
+use Rattle.proportion.specs.Held.{tried_below}
 use Rattle.proportion.specs.Share.{Running, tried_run}
 use Rattle.proportion.proofs.States.share_run.Goals as goal
 
@@ -69,10 +70,9 @@ returns c =
     let pre = c.requires in
     let end_is = c.min-end.ensures in
     let loop = c.loop-to in
-    let done : loop.to.t + 1 ≡ args.self.s.w + 1 = omega (arith, loop.invariant.1) in (
-      end_is,
-      held_as _ loop.invariant.3
-          (λ j l. ap (λ (z : ℕ). tried_run args.self.d args.self.s args.low c.min-end.result z j) done
-          ∙ run_end args.self.d args.self.s args.low c.min-end.result j (omega (arith, pre.2))
-          (λ p. omega (arith, level_free args.self.d args.self.s args.low pre.1 args.self.level_is j p, args.self.level_is))),
-    )
+    let done : loop.to.t + 1 ≡ args.self.s.w + 1 = omega (arith, loop.invariant.1) in
+    held_as _ loop.invariant.3
+        (λ j l. ap (λ (z : ℕ). tried_run args.self.d args.self.s args.low c.min-end.result z j) done
+        ∙ run_end args.self.d args.self.s args.low c.min-end.result j (omega (arith, pre.2))
+        (λ p. omega (arith, level_free args.self.d args.self.s args.low pre.1 args.self.level_is j p, args.self.level_is))
+        ∙ ap (λ (z : ℕ). tried_below args.self.d args.self.s z j) end_is)
