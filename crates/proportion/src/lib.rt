@@ -2,8 +2,8 @@
 // guarantees, and passed over for many at a time where the rows rise.
 #![tactic(auto)]
 
-ghost use Rattle.std.specs.Prelude.{◌≡◌, ℕ, ◌+◌, ◌-◌, ◌*◌, ◌^◌, ◌<◌, ◌≤◌, min, max, true, length, slice_index, slice_set};
-ghost use Rattle.slices.specs.Stored.{stored};
+ghost use Rattle.std.specs.Prelude.{◌≡◌, ℕ, ◌+◌, ◌-◌, ◌*◌, ◌^◌, ◌<◌, ◌≤◌, min, max, true, length, slice_index};
+
 ghost use Rattle.slices.specs.Rows.{cells};
 ghost use Rattle.rules.specs.Contract.{rate_most, top_most};
 ghost use Rattle.keys.specs.Sums.{Sums, Span};
