@@ -2,7 +2,7 @@
 // recorded amount, in an array, so that the loops along the guarantee can be widened.
 #![tactic(auto)]
 
-ghost use Rattle.std.specs.Prelude.{◌≡◌, ℕ, ◌+◌, ◌-◌, ◌*◌, ◌^◌, ◌≤◌, ◌<◌, min, max, length, get_or, set};
+ghost use Rattle.std.specs.Prelude.{◌≡◌, ℕ, ◌+◌, ◌-◌, ◌*◌, ◌^◌, ◌≤◌, ◌<◌, min, get_or};
 ghost use Rattle.rules.specs.Date.{dynamic};
 ghost use Rattle.keys.specs.Sums.{Span, sums};
 ghost use Rattle.worth.specs.Worth.{Keys};
@@ -12,24 +12,13 @@ ghost use Rattle.dynamic.specs.Block.{Offering, Alike, Row, tried_to};
 
 use keys::{Block, Date};
 
-// The number at k with `add` more, for state j.
-fn raise(best: &mut [u64; 512], j: usize, work: &[u64], k: usize, add: u64)
-    requires { (j < 512)
-        × (k < length work.now)
-        × (get_or best.old j 0 < 2 ^ 63)
-        × (get_or work.now k 0 + add < 2 ^ 63) }
-    ensures { best.new ≡ set best.old j (max (get_or best.old j 0) (get_or work.now k 0 + add)) }
-{
-    best[j] = keys::larger(best[j], work[k] + add);
-}
-
-// Numbers from `at` on, each with `add` more, for n states from state `low` on.
+// Numbers from `at` on, each with `add` more, for n states from state `low` on. By index: one slice is read, the other written.
 fn offer(best: &mut [u64; 512], low: usize, work: &[u64], at: usize, n: usize, add: u64)
     requires { Offering best.old work.now low at n add }
     ensures { best.new ≡ raised_to best.old low (λ (i : ℕ). get_or work.now (at + i) 0 + add) n }
 {
     for i in 0..n {
-        raise(best, low + i, work, at + i, add);
+        best[low + i] = keys::larger(best[low + i], work[at + i] + add);
     }
 }
 
@@ -45,7 +34,7 @@ fn offer_amount(best: &mut [u64; 512], work: &[u64], d: Date, s: Block, t: usize
 
 // The amounts 0 to m: whatever the states held, they hold the key of amount 0 first.
 fn free_block(best: &mut [u64; 512], work: &[u64], d: Date, s: Block)
-    requires { Span work.now d s × (512 ≤ length best.old) }
+    requires { Span work.now d s }
     ensures { Held (key_at work.now d s) best.new s.n (tried_below d s 0) }
 {
     let at = keys::place(d, s.w, s.from);
@@ -114,7 +103,7 @@ fn further_block(best: &mut [u64; 512], work: &[u64], d: Date, s: Block)
 
 // Every amount from 0 to the larger of w and m.
 pub fn decide_block(best: &mut [u64; 512], work: &[u64], d: Date, s: Block, rising: bool)
-    requires { Span work.now d s × Row work.now d s.w rising × (512 ≤ length best.old) }
+    requires { Span work.now d s × Row work.now d s.w rising }
     ensures { Keys dynamic (sums work.now d) d s best.new }
 {
     free_block(best, work, d, s);

@@ -13,22 +13,11 @@ ghost use Rattle.proportion.specs.Share.{left, inverse_of, least_of, bound_of};
 
 use keys::{Block, Date};
 
-fn lesser(x: u64, y: u64) -> u64
-    ensures { result ≡ min x y }
+// The least of some keys; where there are none, the largest number there is.
+fn least(keys: &[u64]) -> u64
+    ensures { result ≡ least_of keys.now }
 {
-    if x < y { x } else { y }
-}
-
-// The least of n keys from state `low` on.
-fn least(best: &[u64; 512], low: usize, n: usize) -> u64
-    requires { (n ≤ 512) × ((i : ℕ) → i < n → low + i < 512) }
-    ensures { result ≡ least_of (λ (i : ℕ). slice_index best.now (low + i)) n }
-{
-    let mut r: u64 = 18446744073709551615;
-    for i in 0..n {
-        r = lesser(best[low + i], r);
-    }
-    r
+    keys.iter().fold(u64::MAX, |least, key| u64::min(least, *key))
 }
 
 // Where amount t leads: the row of its balance, the step by which what is left of a guarantee grows, the key of its cash.
@@ -40,56 +29,57 @@ struct Way {
     add: u64,
 }
 
-// 2^40 times A × x / w is A × x × inverse: inverse is 2^40 / w rounded up, and A × x times the rounding stays below the
-// 2^40 / w that a remainder leaves.
-fn lead(d: Date, w: usize, inverse: usize, t: usize) -> Way
-    requires { (d.base + (w - t) * d.stride < 18446744073709551616)
-        × ((w - t) * inverse < 18446744073709551616)
-        × (t ≤ w)
-        × (w ≤ top_most)
-        × (d.rate ≤ rate_most)
-        × (inverse ≡ inverse_of w) }
-    ensures { (result.t ≡ t) × Shared d w result }
-{
-    Way {
-        t,
-        at: d.base + (w - t) * d.stride,
-        step: (w - t) * inverse,
-        add: keys::key(date::cash(d.rate, d.level, t), t),
+impl Way {
+    // 2^40 times A × x / w is A × x × inverse: inverse is 2^40 / w rounded up, and A × x times the rounding stays below the
+    // 2^40 / w that a remainder leaves.
+    fn lead(d: Date, w: usize, inverse: usize, t: usize) -> Way
+        requires { (d.base + (w - t) * d.stride < 18446744073709551616)
+            × ((w - t) * inverse < 18446744073709551616)
+            × (t ≤ w)
+            × (w ≤ top_most)
+            × (d.rate ≤ rate_most)
+            × (inverse ≡ inverse_of w) }
+        ensures { (result.t ≡ t) × Shared d w result }
+    {
+        Way {
+            t,
+            at: d.base + (w - t) * d.stride,
+            step: (w - t) * inverse,
+            add: keys::key(date::cash(d.rate, d.level, t), t),
+        }
     }
-}
 
-// .. and where the next amount leads: by a step, since products cost more than the rest of an amount that is passed over.
-fn step_on(to: Way, d: Date, inverse: usize) -> Way
-    requires { (to.t < top_most)
-        × (d.stride ≤ to.at)
-        × (inverse ≤ to.step)
-        × (1 ≤ to.add)
-        × (to.add < 2 ^ 59)
-        × (d.rate ≤ rate_most) }
-    ensures { Stepped d inverse to result }
-{
-    Way {
-        t: to.t + 1,
-        at: to.at - d.stride,
-        step: to.step - inverse,
-        add: to.add + (8192 * (10000 - d.rate)) as u64 - 1,
+    // .. and where the next amount leads: by a step, since products cost more than the rest of an amount that is passed over.
+    fn next(self, d: Date, inverse: usize) -> Way
+        requires { (self.t < top_most)
+            × (d.stride ≤ self.at)
+            × (inverse ≤ self.step)
+            × (1 ≤ self.add)
+            × (self.add < 2 ^ 59)
+            × (d.rate ≤ rate_most) }
+        ensures { Stepped d inverse self result }
+    {
+        Way {
+            t: self.t + 1,
+            at: self.at - d.stride,
+            step: self.step - inverse,
+            add: self.add + (8192 * (10000 - d.rate)) as u64 - 1,
+        }
     }
-}
 
-// As `raise`, for a loop that is not widened: an amount seldom gains, so that a branch costs less than a store.
-fn raise_one(best: &mut [u64; 512], j: usize, work: &[u64], k: usize, add: u64)
-    requires { (j < 512) × (k < length work.now) × (slice_index work.now k + add < 2 ^ 63) }
-    ensures { best.new ≡ slice_set best.old j (max (slice_index best.old j) (slice_index work.now k + add)) }
-{
-    let other = work[k] + add;
-    if best[j] < other {
-        best[j] = other;
+    // The key of an amount for the state of guarantee a.
+    fn key(self, work: &[u64], a: usize) -> u64
+        requires { (a * self.step < 18446744073709551616)
+            × (self.at + left self.step a < length work.now)
+            × (slice_index work.now (self.at + left self.step a) + self.add < 18446744073709551616) }
+        ensures { result ≡ slice_index work.now (self.at + left self.step a) + self.add }
+    {
+        work[self.at + a * self.step / 1099511627776] + self.add
     }
 }
 
 // An amount where the guarantee falls in proportion, for n states from state `low` on, the first with guarantee `first`. The
-// loop looks up single entries.
+// loop looks up single entries, and is not widened: an amount seldom gains, so that a branch costs less than a store.
 fn offer_share(best: &mut [u64; 512], low: usize, n: usize, work: &[u64], first: usize, r: Way)
     requires { Sharing work.now low n first r }
     ensures { best.new
@@ -97,7 +87,10 @@ fn offer_share(best: &mut [u64; 512], low: usize, n: usize, work: &[u64], first:
 {
     let mut product = first * r.step;
     for i in 0..n {
-        raise_one(best, low + i, work, r.at + product / 1099511627776, r.add);
+        let other = work[r.at + product / 1099511627776] + r.add;
+        if best[low + i] < other {
+            best[low + i] = other;
+        }
         product += r.step;
     }
 }
@@ -110,14 +103,19 @@ struct Run {
     bound: u64,
 }
 
-// The key of an amount for the state of guarantee a.
-fn offered(work: &[u64], a: usize, to: Way) -> u64
-    requires { (a * to.step < 18446744073709551616)
-        × (to.at + left to.step a < length work.now)
-        × (slice_index work.now (to.at + left to.step a) + to.add < 18446744073709551616) }
-    ensures { result ≡ slice_index work.now (to.at + left to.step a) + to.add }
-{
-    work[to.at + a * to.step / 1099511627776] + to.add
+impl Run {
+    // Part p of a run: 8 states, with a bound of their own.
+    fn part(self, p: usize, bound: u64) -> Run
+        requires { (p < 4) × (self.low ≤ 512) }
+        ensures { (result.low ≡ self.low + 8 * p) × (result.end ≡ min self.end (self.low + 8 * p + 8)) × (result.bound ≡ bound) }
+    {
+        let low = self.low + 8 * p;
+        Run {
+            low,
+            end: usize::min(self.end, low + 8),
+            bound,
+        }
+    }
 }
 
 // An amount above m, for the states of a run, if any: passed over where the last of them does not gain.
@@ -125,29 +123,15 @@ fn share_few(best: &mut [u64; 512], work: &[u64], d: Date, s: Block, r: Run, to:
     requires { Span work.now d s
         × Running d s r
         × Bounded work.now d s (λ (j : ℕ). slice_index best.old j) r
-        × Leading d s to
-        × (512 ≤ length best.old) }
+        × Leading d s to }
     ensures { best.new
         ≡ raised_to best.old r.low (λ (i : ℕ). key_at work.now d s (r.low + i) to.t) (r.end - r.low) }
 {
     if r.low < r.end {
         let last = s.from + r.end - 1;
-        if r.bound < offered(work, last, to) {
+        if r.bound < to.key(work, last) {
             offer_share(best, r.low, r.end - r.low, work, s.from + r.low, to);
         }
-    }
-}
-
-// Part p of a run: 8 states, with a bound of their own.
-fn part(r: Run, p: usize, bound: u64) -> Run
-    requires { (p < 4) × (r.low ≤ 512) }
-    ensures { (result.low ≡ r.low + 8 * p) × (result.end ≡ min r.end (r.low + 8 * p + 8)) × (result.bound ≡ bound) }
-{
-    let low = r.low + 8 * p;
-    Run {
-        low,
-        end: usize::min(r.end, low + 8),
-        bound,
     }
 }
 
@@ -165,14 +149,13 @@ fn share_amount(
         × Running d s r
         × (r.low < r.end)
         × Bounds work.now d s (λ (j : ℕ). slice_index best.old j) r bounds.now
-        × Leading d s to
-        × (512 ≤ length best.old) }
+        × Leading d s to }
     ensures { best.new
         ≡ raised_to best.old r.low (λ (i : ℕ). key_at work.now d s (r.low + i) to.t) (r.end - r.low) }
 {
-    if r.bound < offered(work, s.from + r.end - 1, to) {
+    if r.bound < to.key(work, s.from + r.end - 1) {
         for p in 0..4 {
-            share_few(best, work, d, s, part(r, p, bounds[p]), to);
+            share_few(best, work, d, s, r.part(p, bounds[p]), to);
         }
     }
 }
@@ -183,27 +166,19 @@ fn bound_from(best: &[u64; 512], low: usize, end: usize, rising: bool) -> u64
     ensures { result ≡ bound_of rising best.now low end }
 {
     if rising {
-        return least(best, low, usize::min(end, low + 8).saturating_sub(low));
+        let end = usize::min(end, low + 8);
+        least(&best[usize::min(low, end)..end])
+    } else {
+        0
     }
-    0
 }
 
-fn fill_bounds(bounds: &mut [u64; 4], best: &[u64; 512], low: usize, end: usize, rising: bool)
+// .. one for each 8 of 32.
+fn bounds_from(best: &[u64; 512], low: usize, end: usize, rising: bool) -> [u64; 4]
     requires { (low ≤ 512) × (end ≤ 512) }
-    ensures { bounds.new
-        ≡ stored bounds.old 0 (λ (p : ℕ). bound_of rising best.now (low + 8 * p) end) 4 }
+    ensures { (p : ℕ) → p < 4 → slice_index result p ≡ bound_of rising best.now (low + 8 * p) end }
 {
-    for p in 0..4 {
-        bounds[p] = bound_from(best, low + 8 * p, end, rising);
-    }
-}
-
-fn least_bound(bounds: &[u64; 4]) -> u64
-    ensures { result
-        ≡ min (min (slice_index bounds.now 0) (slice_index bounds.now 1))
-        (min (slice_index bounds.now 2) (slice_index bounds.now 3)) }
-{
-    lesser(lesser(bounds[0], bounds[1]), lesser(bounds[2], bounds[3]))
+    std::array::from_fn(|p| bound_from(best, low + 8 * p, end, rising))
 }
 
 // The amounts above m, for 32 states from state `low` on. Gives the state after them.
@@ -225,14 +200,13 @@ fn share_run(
         × Held (key_at work.now d s) best.new s.n (tried_below d s (min s.n (low + 32))) }
 {
     let end = usize::min(s.n, low + 32);
-    let mut bounds = [0u64; 4];
-    fill_bounds(&mut bounds, best, low, end, rising);
-    let bound = least_bound(&bounds);
+    let bounds = bounds_from(best, low, end, rising);
+    let bound = least(&bounds);
     let r = Run { low, end, bound };
     let inverse = (1099511627776 + s.w - 1) / s.w;
-    let mut to = lead(d, s.w, inverse, d.level);
+    let mut to = Way::lead(d, s.w, inverse, d.level);
     while to.t < s.w {
-        to = step_on(to, d, inverse);
+        to = to.next(d, inverse);
         share_amount(best, work, d, s, r, &bounds, to);
     }
     end
@@ -253,7 +227,8 @@ pub fn share_block(best: &mut [u64; 512], work: &[u64], d: Date, s: Block, risin
     }
 }
 
-// 1 where the next entry is smaller, by the sign of the difference.
+// 1 where the next entry is smaller, by the sign of the difference: no `bool`, since the plainest x86-64 compares no 64-bit numbers
+// side by side.
 fn falls_at(work: &[u64], k: usize) -> u64
     requires { (k + 1 < length work.now) × (slice_index work.now k < 2 ^ 63) × (slice_index work.now (k + 1) < 2 ^ 63) }
     ensures { (result ≤ 1)
@@ -263,18 +238,16 @@ fn falls_at(work: &[u64], k: usize) -> u64
     std::num::wrapping_sub_u64(work[k + 1], work[k]) / 9223372036854775808
 }
 
-// How often a row falls, counted so that the loop can be widened.
-fn falls(work: &[u64], at: usize, n: usize) -> u64
+// Whether a row never falls: its falls are counted, so that the loop can be widened.
+fn ascends(work: &[u64], at: usize, n: usize) -> bool
     requires { (n ≤ top_most) × ((i : ℕ) → i < n + 1 → (at + i < length work.now) × (slice_index work.now (at + i) < 2 ^ 63)) }
-    ensures { (result ≤ n)
-        × (result ≡ 0 → Ascending work.now at n)
-        × (Ascending work.now at n → result ≡ 0) }
+    ensures { (result ≡ true → Ascending work.now at n) × (Ascending work.now at n → result ≡ true) }
 {
-    let mut r: u64 = 0;
+    let mut falls: u64 = 0;
     for i in 0..n {
-        r += falls_at(work, at + i);
+        falls += falls_at(work, at + i);
     }
-    r
+    falls == 0
 }
 
 // Whether each of n rows rises with the guarantee: tested, so that nothing here rests on the rules of a date.
@@ -283,11 +256,11 @@ pub fn rises(work: &[u64], d: Date, n: usize) -> bool
     ensures { (result ≡ true → Rising (cells work.now d.base d.stride) d.stride n)
         × (Rising (cells work.now d.base d.stride) d.stride n → result ≡ true) }
 {
-    let stride = d.stride;
-    let steps = stride.saturating_sub(1);
-    let mut r: usize = 0;
+    let steps = d.stride.saturating_sub(1);
     for x in 0..n {
-        r += falls(work, d.base + x * stride, steps) as usize;
+        if !ascends(work, d.base + x * d.stride, steps) {
+            return false;
+        }
     }
-    r == 0
+    true
 }

@@ -8,13 +8,13 @@ use Rattle.dynamic.proofs.free_block.Goals as goal
 
 pub copy-requires : goal.copy-requires
 copy-requires c =
-    first_copying c.requires.0 c.place-at.ensures c.key.ensures.0 (omega (arith, c.key.ensures.1))
+    first_copying c.requires c.place-at.ensures c.key.ensures.0 (omega (arith, c.key.ensures.1))
 
 pub loop-t-init : goal.loop-t-init
 loop-t-init c =
     let pre = c.requires in
-    let held = first_held pre.0 c.place-at.ensures c.key.ensures.0
-    (omega (arith, c.key.ensures.1)) c.args.best.now _ pre.1 c.copy.ensures in
+    let held = first_held pre c.place-at.ensures c.key.ensures.0
+    (omega (arith, c.key.ensures.1)) c.args.best.now _ (omega (arith, c.told-best)) c.copy.ensures in
     (omega arith, omega arith, held)
 
 pub returns : goal.returns

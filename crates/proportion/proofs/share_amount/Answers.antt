@@ -1,14 +1,13 @@
 -- `proportion::share_amount` meets its contract. Assumes nothing.
-use Rattle.std.proofs.Common.{ℕ, length, sym, ap, ◌∙◌, arith}
+use Rattle.std.proofs.Common.{ℕ, sym, arith}
 use Rattle.proportion.proofs.Bounds.{bounds_all}
 use Rattle.proportion.proofs.Parts.{part_bounded, part_raised, part_running, raised_none}
 use Rattle.proportion.proofs.Share.{way_last, way_passed}
 use Rattle.proportion.specs.Held.{key_at}
-use Rattle.slices.specs.Stored.{length_stored}
 use Rattle.proportion.proofs.share_amount.Goals as goal
 
-pub offered-requires : goal.offered-requires
-offered-requires c =
+pub key-requires : goal.key-requires
+key-requires c =
     let pre = c.requires in
     way_last pre.0 pre.4 pre.1 pre.2
 
@@ -27,7 +26,6 @@ share_few-requires c =
       part_running c.loop-p.p pre.1 told.0 told.1,
       part_bounded args.r c.part.result c.loop-p.p told.0 told.1 keys _ e pre.3 few told.2,
       pre.4,
-      omega (arith, ap length e ∙ length_stored _ _ _ _, pre.5),
     )
 
 pub loop-p-preserved : goal.loop-p-preserved
@@ -40,7 +38,7 @@ loop-p-preserved c =
           c.share_few.ensures,
     )
 
-pub returns-else-r-offered : goal.returns-else-r-offered
-returns-else-r-offered c =
+pub returns-else-r-key : goal.returns-else-r-key
+returns-else-r-key c =
     let pre = c.requires in
-    way_passed pre.0 pre.4 pre.1 pre.2 pre.5 (bounds_all pre.3) (omega (arith, c.offered.ensures))
+    way_passed pre.0 pre.4 pre.1 pre.2 (omega (arith, c.told-best)) (bounds_all pre.3) (omega (arith, c.key.ensures))

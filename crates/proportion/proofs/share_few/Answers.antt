@@ -4,8 +4,8 @@ use Rattle.proportion.proofs.Parts.{raised_none}
 use Rattle.proportion.proofs.Share.{way_last, way_sharing, way_raised, way_passed}
 use Rattle.proportion.proofs.share_few.Goals as goal
 
-pub offered-requires : goal.offered-requires
-offered-requires c =
+pub key-requires : goal.key-requires
+key-requires c =
     let pre = c.requires in
     way_last pre.0 pre.3 pre.1 c.if-r.true
 
@@ -14,15 +14,15 @@ offer_share-requires c =
     let pre = c.requires in
     way_sharing pre.0 pre.3 pre.1 c.if-r.true
 
-pub returns-then-r-offered : goal.returns-then-r-offered
-returns-then-r-offered c =
+pub returns-then-r-key : goal.returns-then-r-key
+returns-then-r-key c =
     let pre = c.requires in
     way_raised pre.0 pre.3 pre.1 c.if-r.true _ c.offer_share.ensures
 
-pub returns-else-r-offered : goal.returns-else-r-offered
-returns-else-r-offered c =
+pub returns-else-r-key : goal.returns-else-r-key
+returns-else-r-key c =
     let pre = c.requires in
-    way_passed pre.0 pre.3 pre.1 c.if-r.true pre.4 pre.2 (omega (arith, c.offered.ensures))
+    way_passed pre.0 pre.3 pre.1 c.if-r.true (omega (arith, c.told-best)) pre.2 (omega (arith, c.key.ensures))
 
 pub returns-else-r : goal.returns-else-r
 returns-else-r c =

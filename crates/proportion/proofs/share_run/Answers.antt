@@ -24,8 +24,8 @@ loop-to-init c =
           ∙ ap (λ (t : ℕ). tried_run args.d args.s args.low end (t + 1) j) (sym told.0)),
     )
 
-pub step_on-to-requires : goal.step_on-to-requires
-step_on-to-requires c =
+pub next-to-requires : goal.next-to-requires
+next-to-requires c =
     let pre = c.requires in
     shared_some pre.0 c.loop-to.invariant.2 c.loop-to-test.true
 
@@ -36,16 +36,15 @@ share_amount-requires c =
     let end_is = c.min-end.ensures in
     let inv = c.loop-to.invariant in
     let some : args.low < c.min-end.result = omega (arith, pre.4) in
-    let r : Run = record { low = args.low; end = c.min-end.result; bound = c.least_bound-bound.result } in
+    let r : Run = record { low = args.low; end = c.min-end.result; bound = c.least-bound.result } in
     let run : Running args.d args.s r = record { within = omega arith; above = pre.3; level_is = pre.5 } in
-    let bounds = bounds_are args.rising args.best.now _ _ r (omega arith) pre.2 (omega arith)
-    c.fill_bounds.ensures c.least_bound-bound.ensures in (
+    let bounds = bounds_are args.rising args.best.now c.bounds_from-bounds.result r (omega arith) (omega arith) pre.2 (omega arith)
+    c.bounds_from-bounds.ensures c.least-bound.ensures in (
       pre.0,
       run,
       some,
       bounds_le bounds _ (held_more pre.0 run some pre.1 inv.3 (omega (arith, inv.0))),
-      shared_on pre.0 inv.2 inv.0 c.loop-to-test.true c.step_on-to.ensures,
-      inv.3.long,
+      shared_on pre.0 inv.2 inv.0 c.loop-to-test.true c.next-to.ensures,
     )
 
 pub loop-to-preserved : goal.loop-to-preserved
@@ -54,9 +53,9 @@ loop-to-preserved c =
     let args = c.args in
     let end_is = c.min-end.ensures in
     let inv = c.loop-to.invariant in
-    let told = c.step_on-to.ensures in
+    let told = c.next-to.ensures in
     let way = shared_on pre.0 inv.2 inv.0 c.loop-to-test.true told in
-    let r : Run = record { low = args.low; end = c.min-end.result; bound = c.least_bound-bound.result } in
+    let r : Run = record { low = args.low; end = c.min-end.result; bound = c.least-bound.result } in
     let run : Running args.d args.s r = record { within = omega arith; above = pre.3; level_is = pre.5 } in (
       omega (arith, told.0),
       way.upto,

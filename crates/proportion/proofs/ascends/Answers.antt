@@ -1,9 +1,9 @@
--- `proportion::falls` meets its contract. Assumes nothing.
+-- `proportion::ascends` meets its contract. Assumes nothing.
 use Rattle.std.proofs.Common.{◌≡◌, ℕ, ◌+◌, ◌^◌, ◌<◌, get_or, subst, arith}
-use Rattle.proportion.proofs.falls.Goals as goal
+use Rattle.proportion.proofs.ascends.Goals as goal
 
-pub falls_at-r-requires : goal.falls_at-r-requires
-falls_at-r-requires c =
+pub falls_at-falls-requires : goal.falls_at-falls-requires
+falls_at-falls-requires c =
     let here = c.requires.1 c.loop-i.i (omega arith) in
     let next = c.requires.1 (c.loop-i.i + 1) (omega arith) in
     let at : c.args.at + (c.loop-i.i + 1) ≡ c.args.at + c.loop-i.i + 1 = omega arith in
