@@ -15,7 +15,7 @@ use keys::{BLOCK, Best, Block, Date};
 
 // How a date's states are decided: whether the dynamic behaviour may pass amounts over, too.
 #[derive(Clone, Copy)]
-pub struct States {
+struct States {
     pub behaviour: Behaviour,
     pub d: Date,
     pub rising: bool,
@@ -175,11 +175,21 @@ pub fn decide_layer(behaviour: Behaviour, work: &mut [u64], table: &mut [u16], d
     match behaviour {
         Behaviour::Dynamic => {
             let rising = prepare(work, d, n);
-            States { behaviour, d, rising }.decide_down(&mut best, work, table, n);
+            States {
+                behaviour,
+                d,
+                rising,
+            }
+            .decide_down(&mut best, work, table, n);
         }
         _ => {
             let rising = false;
-            States { behaviour, d, rising }.decide_up(&mut best, work, table, n);
+            States {
+                behaviour,
+                d,
+                rising,
+            }
+            .decide_up(&mut best, work, table, n);
         }
     }
 }
