@@ -2,8 +2,8 @@
 // guarantees, and passed over for many at a time where the rows rise.
 #![tactic(auto)]
 
-ghost use Rattle.std.specs.Prelude.{◌≡◌, ℕ, ◌+◌, ◌-◌, ◌*◌, ◌^◌, ◌<◌, ◌≤◌, min, max, true, length, slice_index, slice_set};
-ghost use Rattle.slices.specs.Stored.{stored};
+ghost use Rattle.std.specs.Prelude.{◌≡◌, ℕ, ◌+◌, ◌-◌, ◌*◌, ◌^◌, ◌<◌, ◌≤◌, min, max, true, length, slice_index};
+
 ghost use Rattle.slices.specs.Rows.{cells};
 ghost use Rattle.rules.specs.Contract.{rate_most, top_most};
 ghost use Rattle.keys.specs.Sums.{Sums, Span};
@@ -67,6 +67,23 @@ impl Way {
         }
     }
 
+    // An amount where the guarantee falls in proportion, for n states from state `low` on, the first with guarantee `first`. The
+    // loop looks up single entries, and is not widened: an amount seldom gains, so that a branch costs less than a store.
+    fn offer(self, best: &mut [u64; 512], low: usize, n: usize, work: &[u64], first: usize)
+        requires { Sharing work.now low n first self }
+        ensures { best.new
+            ≡ raised_to best.old low (λ (i : ℕ). slice_index work.now (self.at + left self.step (first + i)) + self.add) n }
+    {
+        let mut product = first * self.step;
+        for i in 0..n {
+            let other = work[self.at + product / 1099511627776] + self.add;
+            if best[low + i] < other {
+                best[low + i] = other;
+            }
+            product += self.step;
+        }
+    }
+
     // The key of an amount for the state of guarantee a.
     fn key(self, work: &[u64], a: usize) -> u64
         requires { (a * self.step < 18446744073709551616)
@@ -78,24 +95,8 @@ impl Way {
     }
 }
 
-// An amount where the guarantee falls in proportion, for n states from state `low` on, the first with guarantee `first`. The
-// loop looks up single entries, and is not widened: an amount seldom gains, so that a branch costs less than a store.
-fn offer_share(best: &mut [u64; 512], low: usize, n: usize, work: &[u64], first: usize, r: Way)
-    requires { Sharing work.now low n first r }
-    ensures { best.new
-        ≡ raised_to best.old low (λ (i : ℕ). slice_index work.now (r.at + left r.step (first + i)) + r.add) n }
-{
-    let mut product = first * r.step;
-    for i in 0..n {
-        let other = work[r.at + product / 1099511627776] + r.add;
-        if best[low + i] < other {
-            best[low + i] = other;
-        }
-        product += r.step;
-    }
-}
-
-// The states from `low` to `end`. Where `bound` is not 0, the rows rise with the guarantee and none of the states holds less.
+// The states from `low` to `end`. Where `bound` is not 0, the rows rise with the guarantee and none of the states holds less. No
+// `Option`: 0 is a bound as well, below every key, so that one comparison tells whether an amount may gain.
 #[derive(Clone, Copy)]
 struct Run {
     low: usize,
@@ -118,49 +119,8 @@ impl Run {
     }
 }
 
-// An amount above m, for the states of a run, if any: passed over where the last of them does not gain.
-fn share_few(best: &mut [u64; 512], work: &[u64], d: Date, s: Block, r: Run, to: Way)
-    requires { Span work.now d s
-        × Running d s r
-        × Bounded work.now d s (λ (j : ℕ). slice_index best.old j) r
-        × Leading d s to }
-    ensures { best.new
-        ≡ raised_to best.old r.low (λ (i : ℕ). key_at work.now d s (r.low + i) to.t) (r.end - r.low) }
-{
-    if r.low < r.end {
-        let last = s.from + r.end - 1;
-        if r.bound < to.key(work, last) {
-            offer_share(best, r.low, r.end - r.low, work, s.from + r.low, to);
-        }
-    }
-}
-
-// .. for a run of up to 32 states: passed over for all of them, or 8 at a time.
-fn share_amount(
-    best: &mut [u64; 512],
-    work: &[u64],
-    d: Date,
-    s: Block,
-    r: Run,
-    bounds: &[u64; 4],
-    to: Way,
-)
-    requires { Span work.now d s
-        × Running d s r
-        × (r.low < r.end)
-        × Bounds work.now d s (λ (j : ℕ). slice_index best.old j) r bounds.now
-        × Leading d s to }
-    ensures { best.new
-        ≡ raised_to best.old r.low (λ (i : ℕ). key_at work.now d s (r.low + i) to.t) (r.end - r.low) }
-{
-    if r.bound < to.key(work, s.from + r.end - 1) {
-        for p in 0..4 {
-            share_few(best, work, d, s, r.part(p, bounds[p]), to);
-        }
-    }
-}
-
-// A number that no state from `low` to `end` holds less than, among the first 8 of them; 0 where the rows may fall.
+// A number that no state from `low` to `end` holds less than, among the first 8 of them; 0, which always is one, where the rows
+// may fall.
 fn bound_from(best: &[u64; 512], low: usize, end: usize, rising: bool) -> u64
     requires { (low ≤ 1024) × (end ≤ 512) }
     ensures { result ≡ bound_of rising best.now low end }
@@ -181,35 +141,69 @@ fn bounds_from(best: &[u64; 512], low: usize, end: usize, rising: bool) -> [u64;
     std::array::from_fn(|p| bound_from(best, low + 8 * p, end, rising))
 }
 
-// The amounts above m, for 32 states from state `low` on. Gives the state after them.
-fn share_run(
-    best: &mut [u64; 512],
-    work: &[u64],
+// The states of a block over the sums of their date, where some amount is above m: `rising` where the rows rise.
+#[derive(Clone, Copy)]
+struct States<'a> {
+    work: &'a [u64],
     d: Date,
     s: Block,
-    low: usize,
     rising: bool,
-) -> usize
-    requires { Span work.now d s
-        × Held (key_at work.now d s) best.old s.n (tried_below d s low)
-        × (rising ≡ true → Rising (cells work.now d.base d.stride) d.stride (s.w + 1))
-        × (s.w < s.from + low)
-        × (low < s.n)
-        × (d.level < s.w) }
-    ensures { (result ≡ min s.n (low + 32))
-        × Held (key_at work.now d s) best.new s.n (tried_below d s (min s.n (low + 32))) }
-{
-    let end = usize::min(s.n, low + 32);
-    let bounds = bounds_from(best, low, end, rising);
-    let bound = least(&bounds);
-    let r = Run { low, end, bound };
-    let inverse = (1099511627776 + s.w - 1) / s.w;
-    let mut to = Way::lead(d, s.w, inverse, d.level);
-    while to.t < s.w {
-        to = to.next(d, inverse);
-        share_amount(best, work, d, s, r, &bounds, to);
+    ghost span: { Span work.now d s },
+    ghost level_is: { d.level < s.w },
+    ghost rises: { rising ≡ true → Rising (cells work.now d.base d.stride) d.stride (s.w + 1) },
+}
+
+impl<'a> States<'a> {
+    ghost use Rattle.proportion.specs.States.{raised_by, Holding};
+
+    // An amount above m, for the states of a run, if any: passed over where the last of them does not gain.
+    fn share_few(self, best: &mut [u64; 512], r: Run, to: Way)
+        requires { Running self.d self.s r
+            × Bounded self.work.now self.d self.s (λ (j : ℕ). slice_index best.old j) r
+            × Leading self.d self.s to }
+        ensures { best.new ≡ raised_by self.entry best.old r to.t }
+    {
+        if r.low < r.end {
+            let last = self.s.from + r.end - 1;
+            if r.bound < to.key(self.work, last) {
+                to.offer(best, r.low, r.end - r.low, self.work, self.s.from + r.low);
+            }
+        }
     }
-    end
+
+    // .. for a run of up to 32 states: passed over for all of them, or 8 at a time.
+    fn share_amount(self, best: &mut [u64; 512], r: Run, bounds: &[u64; 4], to: Way)
+        requires { Running self.d self.s r
+            × (r.low < r.end)
+            × Bounds self.work.now self.d self.s (λ (j : ℕ). slice_index best.old j) r bounds.now
+            × Leading self.d self.s to }
+        ensures { best.new ≡ raised_by self.entry best.old r to.t }
+    {
+        if r.bound < to.key(self.work, self.s.from + r.end - 1) {
+            for (p, bound) in bounds.iter().enumerate() {
+                self.share_few(best, r.part(p, *bound), to);
+            }
+        }
+    }
+
+    // The amounts above m, for 32 states from state `low` on.
+    fn share_run(self, best: &mut [u64; 512], low: usize)
+        requires { Holding self best.old low × (self.s.w < self.s.from + low) × (low < self.s.n) }
+        ensures { Holding self.entry best.new (min self.entry.s.n (low + 32)) }
+    {
+        let w = self.s.w;
+        let end = usize::min(self.s.n, low + 32);
+        let bounds = bounds_from(best, low, end, self.rising);
+        let bound = least(&bounds);
+        let r = Run { low, end, bound };
+        let inverse = (1099511627776 + w - 1) / w;
+        let mut to = Way::lead(self.d, w, inverse, self.d.level);
+        // No `for`: the way counts the amounts itself.
+        while to.t < w {
+            to = to.next(self.d, inverse);
+            self.share_amount(best, r, &bounds, to);
+        }
+    }
 }
 
 // The amounts above m where the account is below the guarantee.
@@ -220,9 +214,10 @@ pub fn share_block(best: &mut [u64; 512], work: &[u64], d: Date, s: Block, risin
     ensures { Held (key_at work.now d s) best.new s.n (λ (j : ℕ). max s.w (free_of d s j) + 1) }
 {
     if d.level < s.w {
-        let mut low = usize::min(s.n, (s.w + 1).saturating_sub(s.from));
-        while low < s.n {
-            low = share_run(best, work, d, s, low, rising);
+        let states = States { work, d, s, rising };
+        let first = usize::min(s.n, (s.w + 1).saturating_sub(s.from));
+        for low in (first..s.n).step_by(32) {
+            states.share_run(best, low);
         }
     }
 }

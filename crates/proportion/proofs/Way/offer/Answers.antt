@@ -1,11 +1,11 @@
--- `proportion::offer_share` meets its contract. Assumes nothing.
+-- `proportion::Way::offer` meets its contract. Assumes nothing.
 use Rattle.std.proofs.Common.{◌≡◌, ℕ, ◌+◌, ◌/◌, ◌<◌, ◌≤◌, max, List, get_or, set, refl, ap, sym, ◌∙◌, le_of_lt, arith}
 use Rattle.std.proofs.lemmas.List.{set-get_or}
 use Rattle.std.proofs.Math.Nat.{max-eq_left, max-eq_right}
 use Rattle.proportion.specs.Offers.{raised}
 use Rattle.slices.specs.Stored.{stored}
-use Rattle.proportion.proofs.offer_share.Goals as goal
-use Rattle.proportion.proofs.offer_share.Goals.{then-best-low, else-best-low}
+use Rattle.proportion.proofs.Way.offer.Goals as goal
+use Rattle.proportion.proofs.Way.offer.Goals.{then-best-low, else-best-low}
 
 pub loop-i-init : goal.loop-i-init
 unfolding stored
@@ -21,7 +21,7 @@ raised_not best k v h = sym (set-get_or best k 0) ∙ ap (set best k) (sym (max-
 pub loop-i-preserved : goal.loop-i-preserved
 loop-i-preserved c =
     let args = c.args in
-    let r = args.r in
+    let r = args.self in
     let at = ap (λ (z : ℕ). get_or args.work.now (r.at + z / 1099511627776) 0 + r.add) c.loop-i.invariant.1 in
     let k = args.low + c.loop-i.i in
     let one : c.if-best-low.best ≡ set c.loop-i.best k (max (get_or c.loop-i.best k 0)
