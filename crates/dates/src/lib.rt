@@ -17,7 +17,7 @@ use contract::Contract;
 use date::Behaviour;
 use keys::Date;
 
-// The maturity values of account w.
+// The maturity values of account w. By index: each is of w and a.
 fn maturity_row(work: &mut [u64], stride: usize, w: usize)
     requires { (w ≤ top_most) × (stride ≤ top_most + 1) × (w * stride + stride ≤ length work.old) }
     ensures { work.new ≡ stored work.old (w * stride) (maturity_value w) stride }
@@ -81,7 +81,7 @@ fn one_date(
     states::decide_layer(behaviour, work, table, d, c.top + 1);
 }
 
-// Where a part of the table starts and ends.
+// Where a part of the table starts and ends. Copied, as no Range is.
 #[derive(Clone, Copy)]
 pub struct Part {
     pub from: usize,

@@ -49,15 +49,8 @@ fn below_level(behaviour: Behaviour, best: &mut Best, work: &[u64], d: Date, s: 
 }
 
 // The n numbers from `at` on with `add` more, but no less than `other`, for the states from `low` on.
-fn copy_larger(
-    best: &mut Best,
-    low: usize,
-    work: &[u64],
-    at: usize,
-    n: usize,
-    add: u64,
-    other: u64,
-)
+// Beside keys::copy, which compares nothing: one loop for both is no plainer.
+fn copy_larger(best: &mut Best, low: usize, work: &[u64], at: usize, n: usize, add: u64, other: u64)
     requires { Copying work.now low at n add × (other < 2 ^ 63) }
     ensures { best.new ≡ stored best.old low (λ (i : ℕ). max (get_or work.now (at + i) 0 + add) other) n }
 {
@@ -76,7 +69,10 @@ fn from_level(behaviour: Behaviour, best: &mut Best, work: &[u64], d: Date, s: B
 {
     let level = d.level;
     let w = s.w;
-    let at = d.place(w.saturating_sub(level), (s.from + low).saturating_sub(level));
+    let at = d.place(
+        w.saturating_sub(level),
+        (s.from + low).saturating_sub(level),
+    );
     let add = keys::key(10000 * level, level);
     if behaviour == Behaviour::Static || w <= level {
         keys::copy(best, low, work, at, s.n - low, add);
