@@ -1,5 +1,6 @@
 -- The rows of a layer: what each reads is there when its turn comes. Assumes nothing.
-use mathlib.Core.Bool.{Bool, true, false}
+use Rattle.std.specs.Prelude.{◌≢◌}
+use mathlib.Core.Bool.{Bool, true}
 use mathlib.Core.List.{List}
 use mathlib.Core.Logic.{◌⊎◌, inl, inr}
 use mathlib.Core.Path.{◌≡◌, ap, sym, ◌∙◌, subst, fun_ext}
@@ -9,7 +10,9 @@ use native.Mathlib.Omega.{arith}
 use lib.ListN.{length, get_or}
 use Rattle.slices.specs.Stored.{stored, length_stored, stored_out}
 use Rattle.slices.specs.Rows.{cells, cells_kept, flat, layer_stored, within_rows}
-use Rattle.rules.specs.Date.{Behaviour}
+use Rattle.rules.specs.Date.{Behaviour, dynamic}
+use Rattle.date.specs.Behaviour.{behaviour_in}
+use Rattle.states.specs.declared.States.{States}
 use Rattle.keys.specs.declared.Date.{Date}
 use Rattle.keys.specs.Sums.{Sums, sums, sums_as, sums_less, sums_moved}
 use Rattle.worth.specs.Worth.{best_value, best_amount}
@@ -85,12 +88,12 @@ module _ {work work' : List ℕ} {d : Date} {n : ℕ} {rising : Bool} (s : Sums 
       behind i (inr h) = h
 
 -- .. and stays so while what it reads stays
-pub ready_kept : {behaviour : ℕ} {work work' : List ℕ} {d : Date} {w : ℕ} {rising : Bool} → Ready behaviour work d w rising
-    → length work' ≡ length work → ((i : ℕ) → i < w * d.stride → get_or work' i 0 ≡ get_or work i 0)
-    → ((i : ℕ) → d.base ≤ i → get_or work' i 0 ≡ get_or work i 0) → Ready behaviour work' d w rising
-ready_kept {work = work} {work' = work'} {d = d} {w = w} r long below behind =
+pub ready_kept : {x : States} {work work' : List ℕ} {w : ℕ} → Ready x work w → length work' ≡ length work
+    → ((i : ℕ) → i < w * x.d.stride → get_or work' i 0 ≡ get_or work i 0)
+    → ((i : ℕ) → x.d.base ≤ i → get_or work' i 0 ≡ get_or work i 0) → Ready x work' w
+ready_kept {x} {work} {work'} {w} r long below behind =
+    let d = x.d in
     let same = second_kept work work' d behind in record {
-      known = r.known;
       layers = sums_moved r.layers long same;
       row = λ two.
           let row = r.row two in record {
@@ -105,15 +108,13 @@ ready_kept {work = work} {work' = work'} {d = d} {w = w} r long below behind =
     }
 
 -- the rows from the last one down, and from the first one up
-pub ready_down : {work : List ℕ} {d : Date} {n w : ℕ} {rising : Bool} → Sums work d n → w < n → Row work d w rising
-    → Ready 2 work d w rising
-ready_down {w = w} s h row = record { known = omega arith; layers = sums_less s (w + 1) (omega arith); row = λ two. row }
+pub ready_down : {x : States} {work : List ℕ} {n w : ℕ} → Sums work x.d n → w < n → Row work x.d w x.rising → Ready x work w
+ready_down {w = w} s h row = record { layers = sums_less s (w + 1) (omega arith); row = λ two. row }
 
-pub ready_up : {behaviour : ℕ} {work work' : List ℕ} {d : Date} {n w : ℕ} → behaviour ≤ 1 → Sums work d n → w < n
+pub ready_up : {x : States} {work work' : List ℕ} {n w : ℕ} → behaviour_in x.behaviour ≢ dynamic → Sums work x.d n → w < n
     → length work' ≡ length work
-    → ((i : ℕ) → d.base ≤ i → get_or work' i 0 ≡ get_or work i 0) → Ready behaviour work' d w false
-ready_up {work = work} {work' = work'} {d = d} {w = w} few s h long behind = record {
-  known = omega arith;
-  layers = sums_less (sums_moved s long (second_kept work work' d behind)) (w + 1) (omega arith);
-  row = λ two. absurd (omega arith);
+    → ((i : ℕ) → x.d.base ≤ i → get_or work' i 0 ≡ get_or work i 0) → Ready x work' w
+ready_up {x} {work} {work'} {w = w} other s h long behind = record {
+  layers = sums_less (sums_moved s long (second_kept work work' x.d behind)) (w + 1) (omega arith);
+  row = λ two. absurd (other two);
 }
