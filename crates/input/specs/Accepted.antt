@@ -1,10 +1,10 @@
 -- What accepted inputs show of the bytes. Assumes nothing.
 use Rattle.std.specs.Prelude.{List, ◌++◌, ◌≡◌, ℕ, ◌*◌, eqb, length}
-use Rattle.std.proofs.Math.Path.{ap, sym}
+use Rattle.std.proofs.Math.Path.{refl, ap, sym}
 use Rattle.std.proofs.Common.{ap₂, ◌∙◌, subst, le_of_eq, eqb→eq}
 use native.Mathlib.Omega.{arith}
 use Rattle.rules.specs.Contract.{Input, Terms, terms_of, returns_of, rate_bytes}
-use Rattle.rules.specs.Refusals.{check_each, Verdict, accepted, refused, verdict, number_of}
+use Rattle.rules.specs.Refusals.{check_each, Verdict, accepted, refused, verdict, number_of, place_of}
 use Rattle.rules.specs.Refusals.{record_checks, list_checks, rates_checks}
 use Rattle.rules.specs.Refusals.{input_checks}
 use Rattle.laws.specs.Accepted.{Valid, ValidReturns, AllPass, all_pass, pass_right, not_not, valid_returns, Positive}
@@ -135,6 +135,15 @@ module _ (x : Input) where
           count = known.count;
         })
 
-    pub rates_refused : {number place : ℕ} → verdict (rates_checks c.dates x.rates) ≡ refused number place
+    pub rates_turned : {number place : ℕ} → verdict (rates_checks c.dates x.rates) ≡ refused number place
         → turned number place ≡ input_read x
-    rates_refused e = refuse _ x.bytes x.list _ _ (rates_then ∙ e)
+    rates_turned e = refuse _ x.bytes x.list _ _ (rates_then ∙ e)
+
+    pub rates_refused : (number_of (verdict (rates_checks c.dates x.rates)) ≡ 0 → ⊥)
+        → let v = verdict (rates_checks c.dates x.rates) in turned (number_of v) (place_of v) ≡ input_read x
+    unfolding number_of place_of
+    rates_refused h = rates_turned (go (verdict (rates_checks c.dates x.rates)) h)
+      where
+        go : (v : Verdict) → (number_of v ≡ 0 → ⊥) → v ≡ refused (number_of v) (place_of v)
+        go accepted h = absurd (h refl)
+        go (refused n p) h = refl

@@ -3,7 +3,7 @@ use Rattle.std.proofs.Common.{◌≡◌, ap, sym, ◌∙◌}
 use Rattle.std.proofs.lemmas.Result.{err_from_is_err_and}
 use Rattle.rules.specs.Refusals.{accepted, verdict, number_of, input_checks}
 use Rattle.input.specs.Reading.{input_of}
-use Rattle.input.specs.Accepted.{both_read_lem, both_first, given, rates_then, rates_passed, rates_refused}
+use Rattle.input.specs.Accepted.{both_read_lem, both_first, given, rates_then, rates_passed, rates_turned}
 use Rattle.input.proofs.Policy.read.Goals as goal
 use Rattle.input.proofs.Policy.read.Goals.{In_ok-check_rates}
 
@@ -17,7 +17,7 @@ returns-in_err-check_rates-clause-tells c =
     let f = c.from_residual-in_err-check_rates in
     let p = err_from_is_err_and f.result f.ensures.1 in
     let known = both_read_lem _ _ _ _ (sym c.in_ok-agreement.ensures.tells) in
-    rw (p.1, p.2) (rates_refused _ known (sym c.in_err-check_rates.ensures))
+    rw (p.1, p.2) (rates_turned _ known (sym c.in_err-check_rates.ensures))
 
 passes : (c : In_ok-check_rates) → verdict (input_checks (input_of c.args.input)) ≡ accepted
 passes c = rates_then _ (both_read_lem _ _ _ _ (sym c.in_ok-agreement.ensures.tells)) ∙ sym c.in_ok-check_rates.ensures
