@@ -3,7 +3,6 @@
 #![tactic(auto)]
 
 ghost use Rattle.std.specs.Prelude.{◌≡◌, ℕ, ◌+◌, ◌-◌, ◌*◌, ◌^◌, ◌<◌, ◌≤◌, min, max, true, length, slice_index};
-
 ghost use Rattle.slices.specs.Rows.{cells};
 ghost use Rattle.rules.specs.Contract.{rate_most, top_most};
 ghost use Rattle.keys.specs.Sums.{Sums, Span};
@@ -68,7 +67,8 @@ impl Way {
     }
 
     // An amount where the guarantee falls in proportion, for n states from state `low` on, the first with guarantee `first`. The
-    // loop looks up single entries, and is not widened: an amount seldom gains, so that a branch costs less than a store.
+    // loop looks up single entries, and is not widened: an amount seldom gains, so that a branch costs less than a store. By
+    // index: one slice is read, the other written.
     fn offer(self, best: &mut [u64; 512], low: usize, n: usize, work: &[u64], first: usize)
         requires { Sharing work.now low n first self }
         ensures { best.new
