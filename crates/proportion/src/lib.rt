@@ -16,7 +16,8 @@ use keys::{Block, Date};
 fn least(keys: &[u64]) -> u64
     ensures { result ≡ least_of keys.now }
 {
-    keys.iter().fold(u64::MAX, |least, key| u64::min(least, *key))
+    keys.iter()
+        .fold(u64::MAX, |least, key| u64::min(least, *key))
 }
 
 // Where amount t leads: the row of its balance, the step by which what is left of a guarantee grows, the key of its cash.

@@ -74,7 +74,7 @@ returns c =
     let loop = c.loop-to in
     let done : loop.to.t + 1 ≡ args.self.s.w + 1 = omega (arith, loop.invariant.1) in
     held_as _ loop.invariant.3
-        (λ j l. ap (λ (z : ℕ). tried_run args.self.d args.self.s args.low c.min-end.result z j) done
-        ∙ run_end args.self.d args.self.s args.low c.min-end.result j (omega (arith, pre.2))
-        (λ p. omega (arith, level_free args.self.d args.self.s args.low pre.1 args.self.level_is j p, args.self.level_is))
-        ∙ ap (λ (z : ℕ). tried_below args.self.d args.self.s z j) end_is)
+    (λ j l. ap (λ (z : ℕ). tried_run args.self.d args.self.s args.low c.min-end.result z j) done
+    ∙ run_end args.self.d args.self.s args.low c.min-end.result j (omega (arith, pre.2))
+    (λ p. omega (arith, level_free args.self.d args.self.s args.low pre.1 args.self.level_is j p, args.self.level_is))
+    ∙ ap (λ (z : ℕ). tried_below args.self.d args.self.s z j) end_is)
