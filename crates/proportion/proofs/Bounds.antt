@@ -1,6 +1,7 @@
 -- What the states of a run hold at least. Assumes nothing.
-use Rattle.std.proofs.Common.{◌≡◌, ℕ, zero, suc, ◌+◌, ◌-◌, ◌*◌, ◌/◌, ◌<◌, ◌≤◌, min, Bool, true, false, List, [], ◌∷◌, fold, length}
-use Rattle.std.proofs.Common.{get_or, take, drop, refl, ap, ◌∙◌, le_trans, le_of_eq, length-take, length-drop, get_or-take, get_or-drop, arith}
+use Rattle.std.proofs.Common.{◌≡◌, ℕ, zero, suc, ◌+◌, ◌-◌, ◌*◌, ◌/◌, ◌<◌, ◌≤◌, min, Bool, true, false, List, [], ◌∷◌, fold}
+use Rattle.std.proofs.Common.{length, get_or, take, drop, refl, ap, ◌∙◌, le_trans, le_of_eq, length-take, length-drop}
+use Rattle.std.proofs.Common.{get_or-take, get_or-drop, arith}
 use Rattle.slices.specs.Rows.{cells}
 use Rattle.keys.specs.declared.Block.{Block}
 use Rattle.keys.specs.declared.Date.{Date}

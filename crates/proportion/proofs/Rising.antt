@@ -4,14 +4,7 @@ use native.Mathlib.Decide.{dec_le}
 use Rattle.slices.specs.Rows.{cells}
 use Rattle.proportion.specs.Share.{Ascending, Rising}
 
--- ---- whether the rows rise, counted
-pub falls_next : (g h : ℕ → ℕ) (i r p : ℕ) → (p ≡ 0 → g i ≤ h i) → (r ≡ 0 → (k : ℕ) → k < i → g k ≤ h k) → r + p ≡ 0 → (k : ℕ)
-    → k < i + 1 → g k ≤ h k
-falls_next g h i r p last before z k l = elim (dec_le (k + 1) i) [
-  | yes m ↦ before (omega arith) k (omega arith)
-  | no m ↦ let s : k ≡ i = omega arith in rw s (last (omega arith))
-]
-
+-- ---- one row after the other
 pub rising_none : (e : ℕ → ℕ → ℕ) (stride : ℕ) → Rising e stride 0
 rising_none e stride = record { step = λ x y h l. absurd (omega arith) }
 

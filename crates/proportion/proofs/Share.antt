@@ -15,7 +15,7 @@ use Rattle.proportion.specs.declared.Run.{Run}
 use Rattle.proportion.specs.declared.Way.{Way}
 use Rattle.proportion.specs.Held.{raised_to, free_of, key_at, key_most}
 use Rattle.proportion.specs.Share.{Leading, Sharing, Running, Bounded, inverse_of, left}
-use Rattle.proportion.proofs.Inverse.{share_is, share_le, share_rises, share_small, step_small}
+use Rattle.proportion.proofs.Inverse.{share_is, share_le, share_rises, share_small}
 use Rattle.proportion.proofs.Rising.{rising_le}
 
 -- a key is above 0, and so is what bounds it
@@ -26,13 +26,6 @@ some_bound w t v add below upto top e h = omega arith
 module _ {work : List ℕ} {d : Date} {s : Block} (b : Span work d s) where
   account : s.w ≤ 4000
   account = omega (arith, b.layers.few)
-
-  -- what the way of an amount starts from
-  pub way_room : {t : ℕ} → t ≤ s.w → d.base + (s.w - t) * d.stride ≤ length work
-  way_room {t} upto = let k = sum_in b.layers (s.w - t) 0 0 (omega arith) (omega arith) in omega arith
-
-  pub way_step : (t : ℕ) → 1 ≤ s.w → (s.w - t) * inverse_of s.w < 18446744073709551616
-  way_step t some = let k = step_small s.w (inverse_of s.w) some account refl (s.w - t) (sub-le _ _) in omega arith
 
   module _ {to : Way} (way : Leading d s to) where
     abbrev t : ℕ

@@ -1,5 +1,6 @@
 -- The guarantee in proportion: what the functions hand to each other. Assumes nothing.
-use Rattle.std.specs.Prelude.{◌≡◌, ℕ, ◌+◌, ◌-◌, ◌*◌, ◌/◌, ◌^◌, ◌<◌, ◌≤◌, min, max, Bool, cond, List, fold, length, nat_lt, slice_index, slice_range}
+use Rattle.std.specs.Prelude.{◌≡◌, ℕ, ◌+◌, ◌-◌, ◌*◌, ◌/◌, ◌^◌, ◌<◌, ◌≤◌, min, max, Bool, cond, List, fold, length, nat_lt, slice_index}
+use Rattle.std.specs.Prelude.{slice_range}
 use Rattle.slices.specs.Rows.{cells}
 use Rattle.rules.specs.Date.{cash}
 use Rattle.keys.specs.declared.Date.{Date}

@@ -3,7 +3,6 @@
 #![tactic(auto)]
 
 ghost use Rattle.std.specs.Prelude.{◌≡◌, ℕ, ◌+◌, ◌-◌, ◌*◌, ◌^◌, ◌<◌, ◌≤◌, min, max, true, length, slice_index};
-
 ghost use Rattle.slices.specs.Rows.{cells};
 ghost use Rattle.rules.specs.Contract.{rate_most, top_most};
 ghost use Rattle.keys.specs.Sums.{Sums, Span};
@@ -17,7 +16,8 @@ use keys::{Block, Date};
 fn least(keys: &[u64]) -> u64
     ensures { result ≡ least_of keys.now }
 {
-    keys.iter().fold(u64::MAX, |least, key| u64::min(least, *key))
+    keys.iter()
+        .fold(u64::MAX, |least, key| u64::min(least, *key))
 }
 
 // Where amount t leads: the row of its balance, the step by which what is left of a guarantee grows, the key of its cash.
@@ -68,7 +68,8 @@ impl Way {
     }
 
     // An amount where the guarantee falls in proportion, for n states from state `low` on, the first with guarantee `first`. The
-    // loop looks up single entries, and is not widened: an amount seldom gains, so that a branch costs less than a store.
+    // loop looks up single entries, and is not widened: an amount seldom gains, so that a branch costs less than a store. By
+    // index: one slice is read, the other written.
     fn offer(self, best: &mut [u64; 512], low: usize, n: usize, work: &[u64], first: usize)
         requires { Sharing work.now low n first self }
         ensures { best.new
@@ -230,7 +231,7 @@ fn falls_at(work: &[u64], k: usize) -> u64
         × (result ≡ 0 → slice_index work.now k ≤ slice_index work.now (k + 1))
         × (slice_index work.now k ≤ slice_index work.now (k + 1) → result ≡ 0) }
 {
-    std::num::wrapping_sub_u64(work[k + 1], work[k]) / 9223372036854775808
+    work[k + 1].wrapping_sub(work[k]) >> 63
 }
 
 // Whether a row never falls: its falls are counted, so that the loop can be widened.

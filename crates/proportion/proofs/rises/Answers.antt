@@ -29,15 +29,16 @@ ascends-requires c =
 pub loop-x-preserved : goal.loop-x-preserved
 loop-x-preserved c =
     let d = c.args.d in
-    let e = c.saturating_sub-steps.ensures in
-    (omega arith, rising_next c.loop-x.x c.loop-x.invariant.1
-    (row_rises c.args.work.now d.base d.stride c.loop-x.x _ e (c.ascends.ensures.0 c.if-not-ascends.false)))
+    let e = c.saturating_sub-steps.ensures in (
+      omega arith,
+      rising_next c.loop-x.x c.loop-x.invariant.1
+          (row_rises c.args.work.now d.base d.stride c.loop-x.x _ e (c.ascends.ensures.0 c.if-not-ascends.false)),
+    )
 
 pub returns-then-not-ascends : goal.returns-then-not-ascends
 returns-then-not-ascends c =
     let d = c.args.d in
-    let e = c.saturating_sub-steps.ensures in
-    (
+    let e = c.saturating_sub-steps.ensures in (
       λ z. absurd cc,
       λ a.
           let fell = c.if-not-ascends.true in

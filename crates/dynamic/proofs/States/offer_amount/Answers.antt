@@ -9,13 +9,15 @@ pub offer-requires : goal.offer-requires
 offer-requires c =
     let d = c.args.self.d in
     let low_is = c.min-low.ensures ∙ ap (min c.args.self.s.n) c.saturating_sub.ensures in
-    let at_is = c.place-at.ensures ∙ ap₂ (λ (x y : ℕ). d.base + (x * d.stride + y)) c.saturating_sub-2.ensures c.saturating_sub-3.ensures in
+    let at_is = c.place-at.ensures ∙ ap₂ (λ (x y : ℕ). d.base + (x * d.stride + y)) c.saturating_sub-2.ensures
+    c.saturating_sub-3.ensures in
     free_offering c.args.self.span c.requires.0 low_is at_is c.key.ensures.0 (omega (arith, c.key.ensures.1)) c.requires.1
 
 pub returns : goal.returns
 returns c =
     let d = c.args.self.d in
     let low_is = c.min-low.ensures ∙ ap (min c.args.self.s.n) c.saturating_sub.ensures in
-    let at_is = c.place-at.ensures ∙ ap₂ (λ (x y : ℕ). d.base + (x * d.stride + y)) c.saturating_sub-2.ensures c.saturating_sub-3.ensures in
+    let at_is = c.place-at.ensures ∙ ap₂ (λ (x y : ℕ). d.base + (x * d.stride + y)) c.saturating_sub-2.ensures
+    c.saturating_sub-3.ensures in
     free_offered c.args.self.span c.requires.0 low_is at_is c.key.ensures.0 (omega (arith, c.key.ensures.1))
     c.requires.1 c.offer.ensures

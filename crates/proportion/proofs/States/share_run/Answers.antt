@@ -20,7 +20,8 @@ loop-to-init c =
       omega (arith, c.args.self.level_is),
       told.1,
       held_as _ pre.0 (λ j l.
-          run_start args.self.d args.self.s args.low end args.self.d.level j (level_free args.self.d args.self.s args.low pre.1 c.args.self.level_is j)
+          run_start args.self.d args.self.s args.low end args.self.d.level j
+          (level_free args.self.d args.self.s args.low pre.1 args.self.level_is j)
           ∙ ap (λ (t : ℕ). tried_run args.self.d args.self.s args.low end (t + 1) j) (sym told.0)),
     )
 
@@ -38,7 +39,8 @@ share_amount-requires c =
     let some : args.low < c.min-end.result = omega (arith, pre.2) in
     let r : Run = record { low = args.low; end = c.min-end.result; bound = c.least-bound.result } in
     let run : Running args.self.d args.self.s r = record { within = omega arith; above = pre.1; level_is = c.args.self.level_is } in
-    let bounds = bounds_are args.self.rising args.best.now c.bounds_from-bounds.result r (omega arith) (omega arith) c.args.self.rises (omega arith)
+    let bounds = bounds_are args.self.rising args.best.now c.bounds_from-bounds.result r (omega arith) (omega arith)
+    args.self.rises (omega arith)
     c.bounds_from-bounds.ensures c.least-bound.ensures in (
       run,
       some,
@@ -72,7 +74,7 @@ returns c =
     let loop = c.loop-to in
     let done : loop.to.t + 1 ≡ args.self.s.w + 1 = omega (arith, loop.invariant.1) in
     held_as _ loop.invariant.3
-        (λ j l. ap (λ (z : ℕ). tried_run args.self.d args.self.s args.low c.min-end.result z j) done
-        ∙ run_end args.self.d args.self.s args.low c.min-end.result j (omega (arith, pre.2))
-        (λ p. omega (arith, level_free args.self.d args.self.s args.low pre.1 args.self.level_is j p, args.self.level_is))
-        ∙ ap (λ (z : ℕ). tried_below args.self.d args.self.s z j) end_is)
+    (λ j l. ap (λ (z : ℕ). tried_run args.self.d args.self.s args.low c.min-end.result z j) done
+    ∙ run_end args.self.d args.self.s args.low c.min-end.result j (omega (arith, pre.2))
+    (λ p. omega (arith, level_free args.self.d args.self.s args.low pre.1 args.self.level_is j p, args.self.level_is))
+    ∙ ap (λ (z : ℕ). tried_below args.self.d args.self.s z j) end_is)
