@@ -15,8 +15,7 @@ ghost use Rattle.laws.specs.Walk.{path_verdict};
 ghost use Rattle.contract.specs.Reading.{terms_in};
 ghost use Rattle.contract.specs.Refusal.{verdict_in};
 ghost use Rattle.dates.specs.Back.{at};
-ghost use Rattle.walk.specs.Walking.{Walking};
-ghost use Rattle.walk.specs.Walked.{Walked};
+ghost use Rattle.walk.specs.Walked.{Walking, Walked};
 
 use contract::{Contract, Refusal};
 use input::Agreement;
@@ -93,7 +92,7 @@ impl<'a> Walkable<'a> {
     ghost use Rattle.rules.specs.Refusals.{check_each};
     ghost use Rattle.rules.specs.Product.{bad_date, walk_amount, walk_cash_on, walk_cash_last};
     ghost use Rattle.decision.specs.Index.{first};
-    ghost use Rattle.walk.specs.Walked.{arrival_of, term_of, Met};
+    ghost use Rattle.walk.specs.Met.{term_of, arrival_of, Met};
 
     // What the path's return j leads to, from a balance and a guarantee.
     fn arrive(&self, j: usize, balance: usize, guarantee: usize) -> Place
@@ -187,7 +186,12 @@ impl<'a> Walkable<'a> {
 }
 
 // Walks under terms and returns that were read. Nothing is paid until every date is known to be admissible.
-fn walked(agreement: Agreement, table: &[u16], path: &[u16], cash: &mut [u64]) -> Result<(), Refusal>
+fn walked(
+    agreement: Agreement,
+    table: &[u16],
+    path: &[u16],
+    cash: &mut [u64],
+) -> Result<(), Refusal>
     ensures { Walked (terms_in agreement.entry.contract) (returns_of agreement.entry.list.now)
         (path_verdict (terms_in agreement.entry.contract) (returns_of agreement.entry.list.now) table.now path.now cash.old)
         table.now path.now cash.old (verdict_in result) cash.new }
