@@ -1,9 +1,9 @@
--- `mixed::below_level` meets its contract. Assumes nothing.
+-- `mixed::States::below_level` meets its contract. Assumes nothing.
 use lib.ListN.{set}
 use mathlib.Core.Path.{refl, ◌∙◌}
 use native.Mathlib.Omega.{arith}
 use Rattle.slices.specs.Stored.{stored, stored_push}
-use Rattle.mixed.proofs.below_level.Goals as goal
+use Rattle.mixed.proofs.States.below_level.Goals as goal
 
 pub loop-j-init : goal.loop-j-init
 unfolding stored
