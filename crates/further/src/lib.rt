@@ -9,7 +9,7 @@ ghost use Rattle.worth.specs.Further.{further_key, Furthered};
 
 use keys::Date;
 
-// At balance 0 nothing further can be withdrawn.
+// At balance 0 nothing further can be withdrawn. By index, here and below: one slice is read and written.
 fn first_row(work: &mut [u64], d: Date)
     requires { Sums work.old d 1 }
     ensures { work.new

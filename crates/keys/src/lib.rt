@@ -57,7 +57,7 @@ pub fn larger(held: u64, other: u64) -> u64
     held.wrapping_sub(back)
 }
 
-// The n numbers from `at` on with `add` more, for the states from `low` on.
+// The n numbers from `at` on with `add` more, for the states from `low` on. By index: one slice is read, the other written.
 pub fn copy(best: &mut Best, low: usize, work: &[u64], at: usize, n: usize, add: u64)
     requires { Copying work.now low at n add }
     ensures { best.new ≡ stored best.old low (λ (i : ℕ). slice_index work.now (at + i) + add) n }

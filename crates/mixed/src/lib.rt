@@ -7,46 +7,11 @@ ghost use Rattle.slices.specs.Stored.{stored};
 ghost use Rattle.rules.specs.Date.{cash, dynamic};
 ghost use Rattle.date.specs.Behaviour.{behaviour_in};
 ghost use Rattle.keys.specs.Key.{key};
-ghost use Rattle.keys.specs.Sums.{Sums, Span, Copying, sums};
+ghost use Rattle.keys.specs.Sums.{Span, Copying, sums};
 ghost use Rattle.worth.specs.Worth.{best_key, Keys};
 
 use date::Behaviour;
 use keys::{Best, Block, Date};
-
-// The whole account, above m.
-fn surrender_key(work: &[u64], d: Date, w: usize, m: usize) -> u64
-    requires { Sums work.now d (w + 1) }
-    ensures { (result ≡ key (cash d.rate m w + sums work.now d 0 0) w) × (result < 2 ^ 63) }
-{
-    let at = d.place(0, 0);
-    work[at] + keys::key(date::cash(d.rate, m, w), w)
-}
-
-// The state of guarantee a.
-fn state_key(behaviour: Behaviour, work: &[u64], d: Date, w: usize, a: usize) -> u64
-    requires { (behaviour_in behaviour ≢ dynamic) × Sums work.now d (w + 1) × (a < d.stride) }
-    ensures { result ≡ best_key (behaviour_in behaviour) (sums work.now d) d.rate d.level w a }
-{
-    let m = date::free_amount(d.level, a);
-    let at = d.place(w.saturating_sub(m), a - m);
-    let stay = work[at] + keys::key(10000 * m, m);
-    if behaviour == Behaviour::Static || w <= m {
-        return stay;
-    }
-    keys::larger(stay, surrender_key(work, d, w, m))
-}
-
-// Below the level m is the guarantee itself, and each state leads to another row.
-fn below_level(behaviour: Behaviour, best: &mut Best, work: &[u64], d: Date, s: Block, n: usize)
-    requires { (behaviour_in behaviour ≢ dynamic) × Span work.now d s × (n ≤ s.n) }
-    ensures { best.new
-        ≡ stored best.old 0
-        (λ (j : ℕ). best_key (behaviour_in behaviour) (sums work.now d) d.rate d.level s.w (s.from + j)) n }
-{
-    for j in 0..n {
-        best[j] = state_key(behaviour, work, d, s.w, s.from + j);
-    }
-}
 
 // The n numbers from `at` on with `add` more, but no less than `other`, for the states from `low` on.
 // Beside keys::copy, which compares nothing: one loop for both is no plainer.
@@ -59,26 +24,78 @@ fn copy_larger(best: &mut Best, low: usize, work: &[u64], at: usize, n: usize, a
     }
 }
 
-// From the level on m is the level, and the states lead to one row.
-fn from_level(behaviour: Behaviour, best: &mut Best, work: &[u64], d: Date, s: Block, low: usize)
-    requires { (behaviour_in behaviour ≢ dynamic) × Span work.now d s × (low ≡ min s.n (d.level - s.from)) }
-    ensures { best.new
-        ≡ stored best.old low
-        (λ (i : ℕ). best_key (behaviour_in behaviour) (sums work.now d) d.rate d.level s.w (s.from + (low + i)))
-        (s.n - low) }
-{
-    let level = d.level;
-    let w = s.w;
-    let at = d.place(
-        w.saturating_sub(level),
-        (s.from + low).saturating_sub(level),
-    );
-    let add = keys::key(10000 * level, level);
-    if behaviour == Behaviour::Static || w <= level {
-        keys::copy(best, low, work, at, s.n - low, add);
-    } else {
-        let other = surrender_key(work, d, w, level);
-        copy_larger(best, low, work, at, s.n - low, add, other);
+// The states of a block over the sums of their date.
+#[derive(Clone, Copy)]
+struct States<'a> {
+    behaviour: Behaviour,
+    work: &'a [u64],
+    d: Date,
+    s: Block,
+    ghost span: { Span work.now d s },
+    ghost other: { behaviour_in behaviour ≢ dynamic },
+}
+
+impl<'a> States<'a> {
+    // The whole account, above m.
+    fn surrender_key(self, m: usize) -> u64
+        ensures { (result
+            ≡ key (cash self.entry.d.rate m self.entry.s.w + sums self.entry.work.now self.entry.d 0 0) self.entry.s.w)
+            × (result < 2 ^ 63) }
+    {
+        let w = self.s.w;
+        let at = self.d.place(0, 0);
+        self.work[at] + keys::key(date::cash(self.d.rate, m, w), w)
+    }
+
+    // The state of guarantee a.
+    fn state_key(self, a: usize) -> u64
+        requires { a < self.d.stride }
+        ensures { result
+            ≡ best_key (behaviour_in self.entry.behaviour) (sums self.entry.work.now self.entry.d) self.entry.d.rate
+            self.entry.d.level self.entry.s.w a }
+    {
+        let w = self.s.w;
+        let m = date::free_amount(self.d.level, a);
+        let at = self.d.place(w.saturating_sub(m), a - m);
+        let stay = self.work[at] + keys::key(10000 * m, m);
+        if self.behaviour == Behaviour::Static || w <= m {
+            return stay;
+        }
+        keys::larger(stay, self.surrender_key(m))
+    }
+
+    // Below the level m is the guarantee itself, and each state leads to another row. By index: it gives the guarantee, too.
+    fn below_level(self, best: &mut Best, n: usize)
+        requires { n ≤ self.s.n }
+        ensures { best.new
+            ≡ stored best.old 0
+            (λ (j : ℕ). best_key (behaviour_in self.entry.behaviour) (sums self.entry.work.now self.entry.d)
+            self.entry.d.rate self.entry.d.level self.entry.s.w (self.entry.s.from + j)) n }
+    {
+        for j in 0..n {
+            best[j] = self.state_key(self.s.from + j);
+        }
+    }
+
+    // From the level on m is the level, and the states lead to one row.
+    fn from_level(self, best: &mut Best, low: usize)
+        requires { low ≡ min self.s.n (self.d.level - self.s.from) }
+        ensures { best.new
+            ≡ stored best.old low
+            (λ (i : ℕ). best_key (behaviour_in self.entry.behaviour) (sums self.entry.work.now self.entry.d)
+            self.entry.d.rate self.entry.d.level self.entry.s.w (self.entry.s.from + (low + i)))
+            (self.entry.s.n - low) }
+    {
+        let level = self.d.level;
+        let Block { w, from, n } = self.s;
+        let at = self.d.place(w.saturating_sub(level), (from + low).saturating_sub(level));
+        let add = keys::key(10000 * level, level);
+        if self.behaviour == Behaviour::Static || w <= level {
+            keys::copy(best, low, self.work, at, n - low, add);
+        } else {
+            let other = self.surrender_key(level);
+            copy_larger(best, low, self.work, at, n - low, add, other);
+        }
     }
 }
 
@@ -87,7 +104,13 @@ pub fn decide_block(behaviour: Behaviour, best: &mut Best, work: &[u64], d: Date
     requires { (behaviour_in behaviour ≢ dynamic) × Span work.now d s }
     ensures { Keys (behaviour_in behaviour) (sums work.now d) d s best.new }
 {
+    let states = States {
+        behaviour,
+        work,
+        d,
+        s,
+    };
     let low = usize::min(s.n, d.level.saturating_sub(s.from));
-    below_level(behaviour, best, work, d, s, low);
-    from_level(behaviour, best, work, d, s, low);
+    states.below_level(best, low);
+    states.from_level(best, low);
 }
