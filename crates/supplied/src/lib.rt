@@ -69,7 +69,7 @@ fn worth(work: &[u64], d: Date, w: usize, a: usize, t: usize) -> usize
     date::cash(d.rate, m, t) + (work[at] / 8192) as usize
 }
 
-// The states of account w.
+// The states of account w. By index: one slice is read and written.
 fn follow_row(work: &mut [u64], layer: &[u16], d: Date, w: usize)
     requires { Following work.old layer.now d (w + 1) }
     ensures { work.new

@@ -3,7 +3,7 @@ use mathlib.Core.Bool.{Bool, true, false, not}
 use mathlib.Core.List.{List, [], ◌∷◌, ◌++◌}
 use mathlib.Core.Path.{◌≡◌, refl, ap, ap₂, sym, ◌∙◌, subst}
 use Prim.Native.Nat.{ℕ, suc, ◌+◌, ◌-◌, ◌*◌, ◌≤◌, ◌<◌, max}
-use native.Mathlib.Nat.{le_trans, le_of_eq, sub-le}
+use native.Mathlib.Nat.{le_trans, sub-le}
 use native.Mathlib.Numerals.{add-one}
 use native.Mathlib.Omega.{arith}
 use lib.Dec.{T, leb, ltb, nltb→le}
@@ -23,7 +23,7 @@ use Rattle.rules.specs.FixedTerm.{State, Held, reach_by, paid_by, after_in, cash
 use Rattle.rules.specs.FixedTerm.{process_of, layout_of, fixed_term}
 use Rattle.rules.specs.Refusals.{Verdict, accepted, refused, verdict, check_each, on_success, short, record_checks, list_checks}
 use Rattle.rules.specs.Operations.{walk_checks, walk_cashes, filled}
-use Rattle.laws.specs.Accepted.{Valid, ValidReturns, not_not, then_accepted}
+use Rattle.laws.specs.Accepted.{ValidReturns, not_not, then_accepted}
 use Rattle.contract.specs.Reading.{terms_in}
 use Rattle.dates.specs.Back.{at}
 use Rattle.dates.specs.Layer.{DateLayer, entry_within, layer_long, layer_entry}

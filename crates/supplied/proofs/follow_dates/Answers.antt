@@ -30,7 +30,8 @@ pub loop-i-preserved : goal.loop-i-preserved
 loop-i-preserved c =
     let some : 0 < c.loop-i.i - 1 = omega (arith, c.loop-i-test.true) in
     let before : c.loop-i.i - 1 < c.args.c.dates = omega (arith, c.loop-i.auto.i, c.loop-i.invariant.0) in
-    (some, first_before c.requires c.layer_of-part.ensures some before (above (goal.at.loop-i-preserved c).In-loop-i) _ c.follow_date.ensures)
+    let so_far = above (goal.at.loop-i-preserved c).In-loop-i in
+    (some, first_before c.requires c.layer_of-part.ensures some before so_far _ c.follow_date.ensures)
 
 pub shape_of-work : goal.shape_of-work
 shape_of-work c = c.loop-i.invariant.1.long

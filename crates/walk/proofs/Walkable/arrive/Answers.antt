@@ -3,7 +3,6 @@ use mathlib.Core.Path.{◌≡◌, refl, ap, ◌∙◌}
 use native.Mathlib.Nat.{le_trans, le_of_eq}
 use native.Mathlib.Omega.{arith}
 use Prim.Native.Nat.{ℕ, ◌*◌}
-use lib.ListN.{get_or}
 use Rattle.returns.specs.Counted.{counted}
 use Rattle.rules.specs.Contract.{word, returns_of}
 use Rattle.rules.specs.Date.{next_account, excess_paid}

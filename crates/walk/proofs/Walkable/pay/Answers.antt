@@ -1,6 +1,6 @@
 -- `walk::Walkable::pay` meets its contract. Assumes nothing.
 use Prim.Native.Nat.{ℕ, ◌+◌, ◌-◌}
-use lib.ListN.{length, set, length-set}
+use lib.ListN.{set}
 use mathlib.Core.Path.{◌≡◌, refl, ap, ap₂, sym, ◌∙◌, subst}
 use native.Mathlib.Nat.{le_trans, le_of_eq}
 use native.Mathlib.Omega.{arith}
@@ -9,7 +9,7 @@ use Rattle.rules.specs.Date.{maturity_value}
 use Rattle.rules.specs.Product.{walk_cash_on, walk_cash_last}
 use Rattle.rules.specs.FixedTerm.{State, cash_in, process_of, fixed_term}
 use Rattle.dates.specs.Back.{at}
-use Rattle.slices.specs.Stored.{stored, stored_push, length_stored}
+use Rattle.slices.specs.Stored.{stored, stored_push}
 use Rattle.walk.specs.Met.{term_of, Met}
 use Rattle.walk.proofs.Laws.{amount_within, amount_small, cash_is, met_up}
 use Rattle.walk.proofs.Walkable.pay.Goals as goal
