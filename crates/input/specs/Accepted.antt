@@ -1,61 +1,59 @@
 -- What accepted inputs show of the bytes. Assumes nothing.
-use Rattle.std.specs.Prelude.{List, ◌++◌, ◌≡◌, ℕ, ◌*◌, ◌≤◌, eqb, length}
-use Rattle.std.proofs.Math.Path.{refl, ap, sym}
+use Rattle.std.specs.Prelude.{List, ◌++◌, ◌≡◌, ℕ, ◌*◌, eqb, length}
+use Rattle.std.proofs.Math.Path.{ap, sym}
 use Rattle.std.proofs.Common.{ap₂, ◌∙◌, subst, le_of_eq, eqb→eq}
 use native.Mathlib.Omega.{arith}
-use Rattle.rules.specs.Contract.{Input, Terms, terms_of, returns_of, rate_bytes, rates_of}
-use Rattle.rules.specs.Refusals.{check_each, Verdict, accepted, refused, verdict, number_of, place_of}
+use Rattle.rules.specs.Contract.{Input, Terms, terms_of, returns_of, rate_bytes}
+use Rattle.rules.specs.Refusals.{check_each, Verdict, accepted, refused, verdict, number_of}
 use Rattle.rules.specs.Refusals.{record_checks, list_checks, rates_checks}
 use Rattle.rules.specs.Refusals.{input_checks}
-use Rattle.laws.specs.Accepted.{Valid, ValidReturns, ValidInput, AllPass, all_pass, pass_right, not_not, valid_returns, Positive}
+use Rattle.laws.specs.Accepted.{Valid, ValidReturns, AllPass, all_pass, pass_right, not_not, valid_returns, Positive}
 use Rattle.laws.specs.Accepted.{zero_accepts, and_then, verdict_append, then_accepted, then_refused, both_terms, both_returns, input_valid}
 use Rattle.contract.specs.declared.Contract.{Contract}
-use Rattle.contract.specs.declared.Outcome.{Outcome}
 use Rattle.contract.specs.Reading.{terms_in, taken, turned, taken_by}
 use Rattle.contract.specs.Accepted.{Read, taken_accepts, turned_refused}
-use Rattle.input.specs.declared.Returns.{Returns}
-use Rattle.input.specs.Reading.{list_read, agreed_by, both_read, input_read}
+use Rattle.input.specs.Given.{Given}
+use Rattle.input.specs.Read.{list_read, agreed_by, both_read, input_read}
 use Rattle.rules.specs.Facts.{check_numbers}
 
--- the returns were read from the list
-pub record Listed (bytes : List ℕ) (rs : Returns) : Type 0 where
+-- n returns were read from the list
+pub record Listed (bytes : List ℕ) (n : ℕ) : Type 0 where
   pub accepts : verdict (list_checks bytes) ≡ accepted
-  pub count : rs.count ≡ (returns_of bytes).count
+  pub count : n ≡ (returns_of bytes).count
   pub valid : ValidReturns (returns_of bytes)
 
-pub list_accepted : (bytes : List ℕ) (rs : Returns) → list_read bytes ≡ taken rs.count → Listed bytes rs
+pub list_accepted : (bytes : List ℕ) (n : ℕ) → list_read bytes ≡ taken n → Listed bytes n
 unfolding list_read
-list_accepted bytes rs e =
+list_accepted bytes n e =
     let both = taken_accepts (verdict (list_checks bytes)) (returns_of bytes).count e in
     record { accepts = both.0; count = sym both.1; valid = valid_returns bytes (all_pass _ both.0) }
 
-pub list_refused : (bytes : List ℕ) (o : Outcome) → list_read bytes ≡ turned o.number o.place
-    → verdict (list_checks bytes) ≡ refused o.number o.place
+pub list_refused : (bytes : List ℕ) {n p : ℕ} → list_read bytes ≡ turned n p → verdict (list_checks bytes) ≡ refused n p
 unfolding list_read
-list_refused bytes o e = turned_refused (verdict (list_checks bytes)) (returns_of bytes).count e
+list_refused bytes e = turned_refused (verdict (list_checks bytes)) (returns_of bytes).count e
 
 -- ---- an agreement that was made or refused, by any verdict
-pub record Agreed (v : Verdict) (bytes list : List ℕ) (c : Contract) (rs : Returns) : Type 0 where
+pub record Agreed (v : Verdict) (bytes list : List ℕ) (c : Terms) (n : ℕ) : Type 0 where
   pub accepts : v ≡ accepted
-  pub terms : terms_in c ≡ terms_of bytes
-  pub count : rs.count ≡ (returns_of list).count
+  pub terms : c ≡ terms_of bytes
+  pub count : n ≡ (returns_of list).count
 
 module _ (v : Verdict) (bytes list : List ℕ) where
-  pub agreed : (c : Contract) (rs : Returns) → agreed_by v bytes list ≡ taken (terms_in c, rs.count) → Agreed v bytes list c rs
+  pub agreed : (c : Terms) (n : ℕ) → agreed_by v bytes list ≡ taken (c, n) → Agreed v bytes list c n
   unfolding agreed_by
-  agreed c rs e =
+  agreed c n e =
       let both = taken_accepts v (terms_of bytes, (returns_of list).count) e in record {
         accepts = both.0;
         terms = sym (ap (λ (x : Terms × ℕ). x.0) both.1);
         count = sym (ap (λ (x : Terms × ℕ). x.1) both.1);
       }
 
-  pub disagreed : (o : Outcome) → agreed_by v bytes list ≡ turned o.number o.place → v ≡ refused o.number o.place
+  pub disagreed : {n p : ℕ} → agreed_by v bytes list ≡ turned n p → v ≡ refused n p
   unfolding agreed_by
-  disagreed o e = turned_refused v (terms_of bytes, (returns_of list).count) e
+  disagreed e = turned_refused v (terms_of bytes, (returns_of list).count) e
 
   -- what an accepted or a refused agreement tells
-  pub agree : {c : Contract} {rs : Returns} → Agreed v bytes list c rs → taken (terms_in c, rs.count) ≡ agreed_by v bytes list
+  pub agree : {c : Terms} {n : ℕ} → Agreed v bytes list c n → taken (c, n) ≡ agreed_by v bytes list
   unfolding agreed_by taken_by
   agree told = rw told.accepts (λ i. taken (told.terms i, told.count i))
 
@@ -64,15 +62,15 @@ module _ (v : Verdict) (bytes list : List ℕ) where
   refuse n p e = rw e
 
 -- ---- a record and a list that were read
-pub record Both (bytes list : List ℕ) (c : Contract) (rs : Returns) : Type 0 where
+pub record Both (bytes list : List ℕ) (c : Terms) (n : ℕ) : Type 0 where
   pub accepts : verdict (record_checks bytes ++ list_checks list) ≡ accepted
-  pub terms : terms_in c ≡ terms_of bytes
-  pub valid : Valid (terms_in c)
-  pub count : rs.count ≡ (returns_of list).count
+  pub terms : c ≡ terms_of bytes
+  pub valid : Valid c
+  pub count : n ≡ (returns_of list).count
   pub returns : ValidReturns (returns_of list)
 
-pub agreed_both : {v : Verdict} {bytes list : List ℕ} {c : Contract} {rs : Returns} → Agreed v bytes list c rs
-    → verdict (record_checks bytes ++ list_checks list) ≡ accepted → Both bytes list c rs
+pub agreed_both : {v : Verdict} {bytes list : List ℕ} {c : Terms} {n : ℕ} → Agreed v bytes list c n
+    → verdict (record_checks bytes ++ list_checks list) ≡ accepted → Both bytes list c n
 agreed_both {bytes = bytes} {list = list} told a = record {
   accepts = a;
   terms = told.terms;
@@ -81,13 +79,12 @@ agreed_both {bytes = bytes} {list = list} told a = record {
   returns = both_returns bytes list a;
 }
 
-pub both_read_lem : (bytes list : List ℕ) (c : Contract) (rs : Returns) → both_read bytes list ≡ taken (terms_in c, rs.count)
-    → Both bytes list c rs
-both_read_lem bytes list c rs e = let told = agreed _ bytes list c rs e in agreed_both told told.accepts
+pub both_read_lem : (bytes list : List ℕ) (c : Terms) (n : ℕ) → both_read bytes list ≡ taken (c, n) → Both bytes list c n
+both_read_lem bytes list c n e = let told = agreed _ bytes list c n e in agreed_both told told.accepts
 
 -- reading both is reading the one and then the other
-pub both_accepted : {bytes list : List ℕ} {c : Contract} {rs : Returns} → Read bytes c → Listed list rs
-    → taken (terms_in c, rs.count) ≡ both_read bytes list
+pub both_accepted : {bytes list : List ℕ} {c : Contract} {n : ℕ} → Read bytes c → Listed list n
+    → taken (terms_in c, n) ≡ both_read bytes list
 both_accepted {bytes} {list} known told =
     agree _ bytes list (record {
       accepts = verdict_append (record_checks bytes) (list_checks list) ∙ ap₂ and_then known.accepts told.accepts;
@@ -111,27 +108,25 @@ given x e same =
 
 -- reading all is reading record and list and then the rates
 module _ (x : Input) where
-  pub input_read_lem : (c : Contract) (rs : Returns) → input_read x ≡ taken (terms_in c, rs.count)
-      → Agreed (verdict (input_checks x)) x.bytes x.list c rs
-  input_read_lem c rs e = agreed _ x.bytes x.list c rs e
+  pub input_read_lem : (c : Terms) (n : ℕ) → input_read x ≡ taken (c, n)
+      → Agreed (verdict (input_checks x)) x.bytes x.list c n
+  input_read_lem c n e = agreed _ x.bytes x.list c n e
 
-  pub input_not_read : (o : Outcome) → input_read x ≡ turned o.number o.place
-      → verdict (input_checks x) ≡ refused o.number o.place
-  input_not_read o e = disagreed _ x.bytes x.list o e
+  pub input_not_read : {n p : ℕ} → input_read x ≡ turned n p → verdict (input_checks x) ≡ refused n p
+  input_not_read e = disagreed _ x.bytes x.list e
 
-  pub both_first : (o : Outcome) → both_read x.bytes x.list ≡ turned o.number o.place
-      → turned o.number o.place ≡ input_read x
+  pub both_first : {n p : ℕ} → both_read x.bytes x.list ≡ turned n p → turned n p ≡ input_read x
   unfolding input_checks
-  both_first o e = refuse _ x.bytes x.list _ _ (then_refused _ _ (disagreed _ x.bytes x.list o e))
+  both_first e = refuse _ x.bytes x.list _ _ (then_refused _ _ (disagreed _ x.bytes x.list e))
 
-  module _ {c : Contract} {rs : Returns} (known : Both x.bytes x.list c rs) where
-    rates_then : verdict (input_checks x) ≡ verdict (rates_checks c.dates x.rates)
+  module _ {c : Terms} {n : ℕ} (known : Both x.bytes x.list c n) where
+    pub rates_then : verdict (input_checks x) ≡ verdict (rates_checks c.dates x.rates)
     unfolding input_checks
     rates_then =
         then_accepted (record_checks x.bytes ++ list_checks x.list) _ known.accepts
         ∙ ap (λ (t : Terms). verdict (rates_checks t.dates x.rates)) (sym known.terms)
 
-    pub rates_passed : number_of (verdict (rates_checks c.dates x.rates)) ≡ 0 → taken (terms_in c, rs.count) ≡ input_read x
+    pub rates_passed : number_of (verdict (rates_checks c.dates x.rates)) ≡ 0 → taken (c, n) ≡ input_read x
     unfolding rates_checks check_each check_numbers Positive
     rates_passed e =
         agree _ x.bytes x.list (record {
@@ -140,11 +135,6 @@ module _ (x : Input) where
           count = known.count;
         })
 
-    pub rates_refused : (number_of (verdict (rates_checks c.dates x.rates)) ≡ 0 → ⊥)
-        → let v = verdict (rates_checks c.dates x.rates) in turned (number_of v) (place_of v) ≡ input_read x
-    unfolding number_of place_of
-    rates_refused h = refuse _ x.bytes x.list _ _ (rates_then ∙ go (verdict (rates_checks c.dates x.rates)) h)
-      where
-        go : (v : Verdict) → (number_of v ≡ 0 → ⊥) → v ≡ refused (number_of v) (place_of v)
-        go accepted h = absurd (h refl)
-        go (refused n p) h = refl
+    pub rates_refused : {number place : ℕ} → verdict (rates_checks c.dates x.rates) ≡ refused number place
+        → turned number place ≡ input_read x
+    rates_refused e = refuse _ x.bytes x.list _ _ (rates_then ∙ e)

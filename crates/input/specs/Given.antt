@@ -6,4 +6,3 @@ use Rattle.laws.specs.Accepted.{ValidInput}
 pub record Given (c : Terms) (list rates : List ℕ) : Type 0 where
   pub valid : ValidInput c (returns_of list) (rates_of rates)
   pub long : rate_bytes * c.dates ≤ length rates
-
