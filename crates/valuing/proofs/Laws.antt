@@ -2,6 +2,7 @@
 use mathlib.Core.Bool.{Bool, true, false, cond}
 use mathlib.Core.List.{List, ◌++◌}
 use mathlib.Core.Logic.{inl, inr, ◌⊎◌}
+use Rattle.std.specs.Prelude.{Ok, Err}
 use mathlib.Core.Path.{◌≡◌, refl, ap, sym, ◌∙◌, subst}
 use Prim.Native.Nat.{ℕ, zero, suc, ◌+◌, ◌-◌, ◌*◌, ◌/◌, ◌%◌, ◌≤◌, ◌<◌}
 use native.Mathlib.Nat.{mod-lt, div-add-mod', div-lt_iff_lt-mul, zero-add}
@@ -9,7 +10,7 @@ use native.Mathlib.Omega.{arith}
 use lib.Dec.{ltb}
 use lib.IntN.{pos, negsuc, ◌-ℤ◌, sub_ℕ}
 use lib.Signed.{mag}
-use borrow.Author.Tests.{le-ltb}
+use borrow.Author.Tests.{lt-ltb, le-ltb}
 use lib.ListN.{length, get_or, drop, replicate}
 use Rattle.decision.specs.Process.{start_value}
 use Rattle.decision.specs.Layers.{layer, layers}
@@ -20,26 +21,27 @@ use Rattle.rules.specs.Date.{Behaviour, maturity_value, margin}
 use Rattle.rules.specs.Product.{contract_value, value_layer, amount_layers, state_value, recorded_amount, entries}
 use Rattle.rules.specs.FixedTerm.{fixed_term, process_of, layout_of, layer_size, State, Held}
 use Rattle.rules.specs.Refusals.{accepted, refused, verdict, number_of, place_of, on_success, short, input_checks, Verdict}
-use Rattle.rules.specs.Operations.{answer, work_after, behaviour_of, filled, work_size, Policy, valued_answer, no_table_checks, valued_work}
+use Rattle.rules.specs.Operations.{Answer, answer, work_after, behaviour_of, filled, work_size, Policy, valued_answer, no_table_checks, valued_work}
 use Rattle.rules.specs.Operations.{valuing_checks}
 use Rattle.laws.specs.Date.{shared}
 use Rattle.laws.specs.Accepted.{Valid, and_then, input_valid}
 use Rattle.laws.specs.FixedTerm.{size_some}
 use Rattle.laws.specs.Valuing.{behaviour_refused, work_refused, work_accepted, table_last, table_verdict, no_table_refused}
-use Rattle.contract.specs.declared.Contract.{Contract}
-use Rattle.contract.specs.declared.Outcome.{Outcome}
-use Rattle.input.specs.declared.Returns as inputs
-use Rattle.input.specs.Accepted.{Agreed, disagreed, input_not_read, agree, refuse}
 use Rattle.contract.specs.Reading.{terms_in, turned, taken}
-use Rattle.input.specs.Reading.{input_read}
+use Rattle.date.specs.Behaviour.{behaviour_in}
+use Rattle.date.specs.declared.behaviour.Behaviour as date
+use Rattle.input.specs.declared.Policy as input
+use Rattle.input.specs.Given.{Given}
+use Rattle.input.specs.Read.{input_read}
+use Rattle.input.specs.Accepted.{Agreed, agreed, disagreed, agree, refuse, input_read_lem, input_not_read}
 use Rattle.laws.specs.AnyOrder.{Reordered}
 use Rattle.laws.proofs.AnyOrder.{any_order_state, any_order_amount}
 use Rattle.returns.specs.Sorted.{Sorted, ordered_input}
 use Rattle.expect.specs.Expected.{expected, shared_same}
 use Rattle.dates.specs.Back.{at, values_on, shared_expects, Valued, Starting}
-use Rattle.valuing.specs.declared.Answer as declared
-use Rattle.valuing.specs.Answered.{answer_of, refusal, valuing_agreed, Settled, Worked, Answered, Reported, Valuing, WorkLent}
-use Rattle.valuing.specs.Answered.{no_table_agreed, ValuingNoTable}
+use Rattle.valuing.specs.declared.Valuation.{Valuation}
+use Rattle.valuing.specs.Answered.{told, refusal, valuing_agreed, Settled, Worked, Answered, Reported, Valuing, WorkLent}
+use Rattle.valuing.specs.Answered.{no_table_agreed, ValuingNoTable, Passed, of_the_bytes}
 use Rattle.valuing.specs.First.{First, first_layer, first_from_lem, first_mature}
 use Rattle.laws.specs.Terms.{table_size}
 use Rattle.rules.specs.Policy.{policy_of}
@@ -135,13 +137,12 @@ of_the_list {b} {c} {ds = ds} same v = record {
 }
 
 -- the first layer at maturity
-pub starting : {c : Terms} {behaviour : ℕ} {list rates work work' : List ℕ} {rs : Returns} (lent : WorkLent behaviour c list rates work)
+pub starting : {c : Terms} {list rates work work' : List ℕ} {rs : Returns} → Given c list rates → (lent : WorkLent c work)
     → Sorted (returns_of list) rs → work' ≡ stored work 0 (flat (c.premium + 1) maturity_value) (layer_size c)
-    → Starting behaviour c work' rs rates
+    → Starting c work' rs rates
 unfolding layer_size
-starting {c} {work = work} lent sorted e = record {
-  known = lent.known;
-  given = ordered_input lent.given sorted;
+starting {c} {work = work} given lent sorted e = record {
+  given = ordered_input given sorted;
   room =
       let l = ap length e ∙ length_stored work 0 (flat (c.premium + 1) maturity_value) ((c.top + 1) * (c.premium + 1)) in
       omega (arith, lent.room);
@@ -149,7 +150,7 @@ starting {c} {work = work} lent sorted e = record {
 }
 
 -- ---- what terms that were read answer
-pub answered : {b : Behaviour} {c : Terms} {rs : Returns} {ds : Rates} {work table work' table' : List ℕ} (r : declared.Answer)
+pub answered : {b : Behaviour} {c : Terms} {rs : Returns} {ds : Rates} {work table work' table' : List ℕ} (r : Valuation)
     (work'' : List ℕ) → layer_size c + layer_size c ≤ length work → ds 0 ≤ rate_most
     → Valued b c rs ds work table work' table' 0 → Settled c rs (ds 0) work' r work'' → Answered b c rs ds work table r work'' table'
 unfolding answer work_after filled on_success number_of place_of fixed_term layout_of
@@ -157,8 +158,8 @@ answered {b} {c} {rs} {ds} r work'' room small d s =
     let value : r.value ≡ contract_value (fixed_term c rs ds) b = s.value_is ∙ contract_value_lem d small in record {
       worked = record {
         answer_is = λ i. record {
-          number = s.number_is i;
-          place = s.place_is i;
+          number = 0;
+          place = 0;
           value = value i;
           margin = (s.margin_is ∙ ap (λ (x : ℕ). margin x c.premium) value) i;
         };
@@ -172,64 +173,64 @@ module _ (x : Input) (behaviour : ℕ) (work : List ℕ) where
   abbrev p : Policy State Held
   p = policy_of x
 
-  pub check_read : (o : Outcome) → input_read x ≡ turned o.number o.place
-      → turned o.number o.place ≡ no_table_agreed x behaviour work
-  check_read o e = refuse _ _ _ _ _ (no_table_refused p behaviour work (input_not_read x o e))
+  pub check_read : {n q : ℕ} → turned n q ≡ input_read x → turned n q ≡ no_table_agreed x behaviour work
+  check_read e = refuse _ _ _ _ _ (no_table_refused p behaviour work (input_not_read x (sym e)))
 
-  module _ {c : Contract} {rs : inputs.Returns} (known : Agreed (verdict (input_checks x)) x.bytes x.list c rs) where
-    pub check_valid : Valid (terms_in c)
-    check_valid = rw known.terms (input_valid x known.accepts).terms
+  module _ {c : Terms} {n : ℕ} (read : taken (c, n) ≡ input_read x) where
+    known : Agreed (verdict (input_checks x)) x.bytes x.list c n
+    known = input_read_lem x c n (sym read)
 
     -- the entries that the terms need are those of the policy
-    same_room : (t : Bool) → short (2 * layer_size (terms_in c)) work ≡ t → short (work_size p) work ≡ t
+    same_room : (t : Bool) → short (2 * layer_size c) work ≡ t → short (work_size p) work ≡ t
     unfolding fixed_term layout_of
     same_room t e = ap (λ (z : Terms). short (2 * layer_size z) work) (sym known.terms) ∙ e
 
-    pub check_behaviour : ltb 2 behaviour ≡ true → turned 10 0 ≡ no_table_agreed x behaviour work
-    check_behaviour e = refuse _ _ _ 10 0 (behaviour_refused p behaviour work known.accepts e)
+    pub check_behaviour : 2 < behaviour → turned 10 0 ≡ no_table_agreed x behaviour work
+    check_behaviour l = refuse _ _ _ 10 0 (behaviour_refused p behaviour work known.accepts (lt-ltb _ _ l))
 
-    pub check_work : ltb 2 behaviour ≡ false → short (2 * layer_size (terms_in c)) work ≡ true
-        → turned 11 0 ≡ no_table_agreed x behaviour work
-    check_work e f = refuse _ _ _ 11 0 (work_refused p behaviour work known.accepts e (same_room true f))
+    pub check_work : behaviour ≤ 2 → length work < 2 * layer_size c → turned 11 0 ≡ no_table_agreed x behaviour work
+    unfolding short
+    check_work l few =
+        refuse _ _ _ 11 0 (work_refused p behaviour work known.accepts (le-ltb _ _ l) (same_room true (lt-ltb _ _ few)))
 
-    pub check_passed : ltb 2 behaviour ≡ false → short (2 * layer_size (terms_in c)) work ≡ false
-        → taken (terms_in c, rs.count) ≡ no_table_agreed x behaviour work
-    check_passed e f =
+    pub check_passed : behaviour ≤ 2 → 2 * layer_size c ≤ length work → taken (c, n) ≡ no_table_agreed x behaviour work
+    unfolding short
+    check_passed l room =
         agree _ _ _ (record {
-          accepts = work_accepted p behaviour work known.accepts e (same_room false f);
+          accepts = work_accepted p behaviour work known.accepts (le-ltb _ _ l) (same_room false (le-ltb _ _ room));
           terms = known.terms;
           count = known.count;
         })
 
 -- .. and that of the table
 module _ (x : Input) (behaviour : ℕ) (work table : List ℕ) where
-  pub table_refused : (o : Outcome) → no_table_agreed x behaviour work ≡ turned o.number o.place
-      → turned o.number o.place ≡ valuing_agreed x behaviour work table
-  table_refused o e =
+  pub table_refused : {n q : ℕ} → turned n q ≡ no_table_agreed x behaviour work → turned n q ≡ valuing_agreed x behaviour work table
+  table_refused e =
       refuse _ _ _ _ _ (table_last (policy_of x) behaviour work table
-      ∙ ap (λ (v : Verdict). and_then v (table_verdict (policy_of x) behaviour work table))
-      (disagreed (verdict (no_table_checks (policy_of x) behaviour work)) _ _ o e))
+      ∙ ap (λ (v : Verdict). and_then v (table_verdict (policy_of x) behaviour work table)) (disagreed _ _ _ (sym e)))
 
-  module _ {c : Contract} {rs : inputs.Returns}
-      (told : Agreed (verdict (no_table_checks (policy_of x) behaviour work)) x.bytes x.list c rs)
-    where
-      last : verdict (valuing_checks (policy_of x) behaviour work table)
-          ≡ cond (short (table_size (terms_in c)) table) (refused 11 0) accepted
-      unfolding verdict entries table_size fixed_term process_of layout_of
-      last =
-          table_last (policy_of x) behaviour work table
-          ∙ ap (λ (v : Verdict). and_then v (table_verdict (policy_of x) behaviour work table)) told.accepts
-          ∙ ap (λ (t : Terms). cond (short (table_size t) table) (refused 11 0) accepted) (sym told.terms)
+  module _ {c : Terms} {n : ℕ} (read : taken (c, n) ≡ no_table_agreed x behaviour work) where
+    told_first : Agreed (verdict (no_table_checks (policy_of x) behaviour work)) x.bytes x.list c n
+    told_first = agreed _ _ _ c n (sym read)
 
-      pub table_short : short (table_size (terms_in c)) table ≡ true → turned 11 0 ≡ valuing_agreed x behaviour work table
-      table_short e = refuse _ _ _ 11 0 (last ∙ rw e)
+    last : verdict (valuing_checks (policy_of x) behaviour work table) ≡ cond (short (table_size c) table) (refused 11 0) accepted
+    unfolding verdict entries table_size fixed_term process_of layout_of
+    last =
+        table_last (policy_of x) behaviour work table
+        ∙ ap (λ (v : Verdict). and_then v (table_verdict (policy_of x) behaviour work table)) told_first.accepts
+        ∙ ap (λ (t : Terms). cond (short (table_size t) table) (refused 11 0) accepted) (sym told_first.terms)
 
-      pub table_passed : short (table_size (terms_in c)) table ≡ false
-          → taken (terms_in c, rs.count) ≡ valuing_agreed x behaviour work table
-      table_passed e = agree _ _ _ (record { accepts = last ∙ rw e; terms = told.terms; count = told.count })
+    pub table_short : length table < table_size c → turned 11 0 ≡ valuing_agreed x behaviour work table
+    unfolding short
+    table_short l = refuse _ _ _ 11 0 (last ∙ rw (lt-ltb _ _ l))
+
+    pub table_passed : table_size c ≤ length table → taken (c, n) ≡ valuing_agreed x behaviour work table
+    unfolding short
+    table_passed l =
+        agree _ _ _ (record { accepts = last ∙ rw (le-ltb _ _ l); terms = told_first.terms; count = told_first.count })
 
 -- ---- what a call answers, on any input: the claim follows from the equations
-pub valuing : (x : Input) (behaviour : ℕ) (work table : List ℕ) {r : declared.Answer} {work' table' : List ℕ}
+pub valuing : (x : Input) (behaviour : ℕ) (work table : List ℕ) {r : Answer} {work' table' : List ℕ}
     → Reported (policy_of x) (verdict (valuing_checks (policy_of x) behaviour work table)) behaviour work table r work' table'
     → Valuing x behaviour work table r work' table'
 valuing x behaviour work table {r} w = record {
@@ -237,9 +238,9 @@ valuing x behaviour work table {r} w = record {
   claim = λ zero_number.
       let v = verdict (valuing_checks (policy_of x) behaviour work table) in
       let number =
-      sym (valued_number (policy_of x) v behaviour) ∙ ap (λ (a : declared.Answer). a.number) (sym w.answer_is) ∙ zero_number in
+      sym (valued_number (policy_of x) v behaviour) ∙ ap (λ (a : Answer). a.number) (sym w.answer_is) ∙ zero_number in
       let yes_to = valuing_accepts x behaviour work table number in
-      rw (ap (λ (a : declared.Answer). a.value) w.answer_is, w.table_is)
+      rw (ap (λ (a : Answer). a.value) w.answer_is, w.table_is)
       (valued_claim x v behaviour table yes_to (valuing_valid x behaviour work table yes_to).terms);
 }
 
@@ -248,7 +249,7 @@ module _ (x : Input) (behaviour : ℕ) (work : List ℕ) where
   abbrev said : Verdict
   said = verdict (no_table_checks (policy_of x) behaviour work)
 
-  no_table : {r : declared.Answer} {work' : List ℕ} → r ≡ answer_of (valued_answer (policy_of x) said behaviour)
+  no_table : {r : Answer} {work' : List ℕ} → r ≡ valued_answer (policy_of x) said behaviour
       → work' ≡ valued_work (policy_of x) said behaviour work
       → ValuingNoTable x behaviour work r work'
   no_table is left = record {
@@ -256,19 +257,18 @@ module _ (x : Input) (behaviour : ℕ) (work : List ℕ) where
     work_is = left;
     claim = λ zero_number rest.
         let number =
-        sym (valued_number (policy_of x) said behaviour) ∙ ap (λ (a : declared.Answer). a.number) (sym is) ∙ zero_number in
-        rw (ap (λ (a : declared.Answer). a.value) is) (no_table_claim x behaviour work number rest);
+        sym (valued_number (policy_of x) said behaviour) ∙ ap (λ (a : Answer). a.number) (sym is) ∙ zero_number in
+        rw (ap (λ (a : Answer). a.value) is) (no_table_claim x behaviour work number rest);
   }
 
-  pub no_table_refuses : {r : declared.Answer} (n q : ℕ) → said ≡ refused n q → r ≡ refusal n q → ValuingNoTable x behaviour work r work
+  pub no_table_refuses : {r : Answer} (n q : ℕ) → said ≡ refused n q → r ≡ refusal n q → ValuingNoTable x behaviour work r work
   unfolding valued_answer valued_work answer work_after filled on_success number_of place_of
   no_table_refuses n q e f = no_table (rw e f) (rw e)
 
-  pub no_table_values : {r : declared.Answer} {work' : List ℕ} {c : Terms} → said ≡ accepted → c ≡ terms_of x.bytes
-      → Worked (behaviour_of behaviour) c (returns_of x.list) (rates_of x.rates) work r work'
-      → ValuingNoTable x behaviour work r work'
+  pub no_table_values : {r : Valuation} {work' : List ℕ} {policy : input.Policy} {b : date.Behaviour} → Passed said x behaviour policy b
+      → Worked (behaviour_in b) (terms_in policy.contract) (returns_of policy.list.now) (rates_of policy.rates.now) work r work'
+      → ValuingNoTable x behaviour work (told (Ok r)) work'
   unfolding valued_answer valued_work work_after filled on_success fixed_term layout_of
-  no_table_values {r} {work'} e same w =
-      let v =
-      subst (λ (t : Terms). Worked (behaviour_of behaviour) t (returns_of x.list) (rates_of x.rates) work r work') same w in
-      no_table (rw e v.answer_is) (rw e v.work_is)
+  no_table_values {r} {work'} passed w =
+      let v = of_the_bytes passed (λ d t list rates. Worked d t (returns_of list) (rates_of rates) work r work') w in
+      no_table (rw passed.accepts v.answer_is) (rw passed.accepts v.work_is)
