@@ -5,7 +5,7 @@ ghost use Rattle.std.specs.Prelude.{◌≤◌, length, IfOk};
 
 use std::io::{self, Read};
 
-// Fills a buffer from a reader, as far as the reader goes.
+// Fills a buffer from a reader, as far as the reader goes. By index: each turn reads behind what is there.
 pub fn fill<R: Read>(reader: &mut R, bytes: &mut [u8]) -> io::Result<usize>
     ensures { IfOk result (λ n. n ≤ length bytes.new) }
 {

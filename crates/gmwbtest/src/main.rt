@@ -9,7 +9,7 @@ use std::fs::File;
 use std::io::{Stdout, Write};
 use std::{fs, io};
 
-// More pieces of a file than a script has.
+// More pieces of a file than a script has: a reader may never end, so they are counted.
 const PIECES: usize = 4096;
 
 // Answers the lines that are whole, and tells how much of the text is left behind them.

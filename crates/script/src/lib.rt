@@ -142,13 +142,19 @@ impl Bytes {
     }
 }
 
-fn check(record: &[u8]) -> Option<Text> {
+fn check(words: &[&[u8]]) -> Option<Text> {
+    let [record] = words else {
+        return None;
+    };
     let record = hex::<64>(record)?;
     let told = Contract::read(record.as_slice());
     line(Outcome::of(&told))
 }
 
-fn sizes_of(record: &[u8]) -> Option<Text> {
+fn sizes_of(words: &[&[u8]]) -> Option<Text> {
+    let [record] = words else {
+        return None;
+    };
     let record = hex::<64>(record)?;
     let told = sizes::needed(record.as_slice());
     let outcome = Outcome::of(&told);
@@ -160,9 +166,11 @@ fn sizes_of(record: &[u8]) -> Option<Text> {
     line(format_args!("{outcome} {work} {table} {map}"))
 }
 
-fn book(record: &[u8], numbers: [&[u8]; 4], buffer: &[u8]) -> Option<Text> {
+fn book(words: &[&[u8]]) -> Option<Text> {
+    let [record, date, account, guarantee, amount, buffer] = words else {
+        return None;
+    };
     let record = hex::<64>(record)?;
-    let [date, account, guarantee, amount] = numbers;
     let withdrawal = Withdrawal {
         date: decimal(date)? as usize,
         account: decimal(account)? as usize,
@@ -176,7 +184,11 @@ fn book(record: &[u8], numbers: [&[u8]; 4], buffer: &[u8]) -> Option<Text> {
 }
 
 impl Desk {
-    fn value(&mut self, bytes: Bytes, behaviour: &[u8], work: &[u8], table: &[u8]) -> Option<Text> {
+    fn value(&mut self, words: &[&[u8]]) -> Option<Text> {
+        let [record, list, rates, behaviour, work, table] = words else {
+            return None;
+        };
+        let bytes = Bytes::read(record, list, rates)?;
         let behaviour = decimal(behaviour)? as usize;
         let work = slice(work, &mut self.work)?;
         let table = self.table.read(table)?;
@@ -190,7 +202,11 @@ impl Desk {
         ))
     }
 
-    fn value_no_table(&mut self, bytes: Bytes, behaviour: &[u8], work: &[u8]) -> Option<Text> {
+    fn value_no_table(&mut self, words: &[&[u8]]) -> Option<Text> {
+        let [record, list, rates, behaviour, work] = words else {
+            return None;
+        };
+        let bytes = Bytes::read(record, list, rates)?;
         let behaviour = decimal(behaviour)? as usize;
         let work = slice(work, &mut self.work)?;
         let told = valuing::value_no_table(bytes.input(), behaviour, work);
@@ -199,9 +215,12 @@ impl Desk {
         line(format_args!("{outcome} {value} {margin} {}", digest(work)))
     }
 
-    fn value_map(&mut self, bytes: Bytes, behaviour: &[u8], slices: [&[u8]; 3]) -> Option<Text> {
+    fn value_map(&mut self, words: &[&[u8]]) -> Option<Text> {
+        let [record, list, rates, behaviour, work, table, map] = words else {
+            return None;
+        };
+        let bytes = Bytes::read(record, list, rates)?;
         let behaviour = decimal(behaviour)? as usize;
-        let [work, table, map] = slices;
         let work = slice(work, &mut self.work)?;
         let table = self.table.read(table)?;
         let mut room = [0u64; 2048];
@@ -221,7 +240,11 @@ impl Desk {
         ))
     }
 
-    fn fee(&mut self, bytes: Bytes, behaviour: &[u8], wanted: &[u8], work: &[u8]) -> Option<Text> {
+    fn fee(&mut self, words: &[&[u8]]) -> Option<Text> {
+        let [record, list, rates, behaviour, wanted, work] = words else {
+            return None;
+        };
+        let bytes = Bytes::read(record, list, rates)?;
         let behaviour = decimal(behaviour)? as usize;
         let wanted = decimal(wanted)?;
         let work = slice(work, &mut self.work)?;
@@ -235,7 +258,11 @@ impl Desk {
         line(format_args!("{outcome} {fee} {value} {margin} {}", digest(work)))
     }
 
-    fn value_table(&mut self, bytes: Bytes, work: &[u8], table: &[u8]) -> Option<Text> {
+    fn value_table(&mut self, words: &[&[u8]]) -> Option<Text> {
+        let [record, list, rates, work, table] = words else {
+            return None;
+        };
+        let bytes = Bytes::read(record, list, rates)?;
         let work = slice(work, &mut self.work)?;
         let table = self.table.read(table)?;
         let told = supplied::value(bytes.input(), work, table);
@@ -249,14 +276,10 @@ impl Desk {
     }
 
     // A walk has no death rates, and puts its cash in the working slice.
-    fn walk(
-        &mut self,
-        record: &[u8],
-        list: &[u8],
-        table: &[u8],
-        path: &[u8],
-        cash: &[u8],
-    ) -> Option<Text> {
+    fn walk(&mut self, words: &[&[u8]]) -> Option<Text> {
+        let [record, list, table, path, cash] = words else {
+            return None;
+        };
         let (record, list) = (hex::<64>(record)?, hex::<512>(list)?);
         let table = self.table.read(table)?;
         let mut room = [0u16; 64];
@@ -268,43 +291,18 @@ impl Desk {
 
     // Nothing, if the line is not understood.
     fn told(&mut self, line: &[u8]) -> Option<Text> {
-        match parts::<9>(line, b' ').as_slice() {
-            [b"check", record] => check(record),
-            [b"sizes", record] => sizes_of(record),
-            [b"book", record, date, account, guarantee, amount, buffer] => {
-                book(record, [date, account, guarantee, amount], buffer)
-            }
-            [b"value", record, list, rates, behaviour, work, table] => {
-                self.value(Bytes::read(record, list, rates)?, behaviour, work, table)
-            }
-            [b"value_no_table", record, list, rates, behaviour, work] => {
-                self.value_no_table(Bytes::read(record, list, rates)?, behaviour, work)
-            }
-            [
-                b"value_map",
-                record,
-                list,
-                rates,
-                behaviour,
-                work,
-                table,
-                map,
-            ] => {
-                self.value_map(
-                    Bytes::read(record, list, rates)?,
-                    behaviour,
-                    [work, table, map],
-                )
-            }
-            [b"fee", record, list, rates, behaviour, wanted, work] => {
-                self.fee(Bytes::read(record, list, rates)?, behaviour, wanted, work)
-            }
-            [b"value_table", record, list, rates, work, table] => {
-                self.value_table(Bytes::read(record, list, rates)?, work, table)
-            }
-            [b"walk", record, list, table, path, cash] => self.walk(
-                record, list, table, path, cash,
-            ),
+        let parts = parts::<9>(line, b' ');
+        let (name, words) = parts.as_slice().split_first()?;
+        match *name {
+            b"check" => check(words),
+            b"sizes" => sizes_of(words),
+            b"book" => book(words),
+            b"value" => self.value(words),
+            b"value_no_table" => self.value_no_table(words),
+            b"value_map" => self.value_map(words),
+            b"fee" => self.fee(words),
+            b"value_table" => self.value_table(words),
+            b"walk" => self.walk(words),
             _ => None,
         }
     }
