@@ -1,14 +1,6 @@
--- `gmwbtest::run` meets its contract. Assumes nothing.
-use Prim.Native.Nat.{◌-◌, ◌≤◌}
-use borrow.Author.Rules.{rules}
-use lib.ListN.{length}
-use mathlib.Core.Path.{◌≡◌}
+-- `gmwbtest::run`: what is held lies within the text. Assumes nothing.
+use Rattle.std.proofs.Common.{length, ◌≤◌}
 use Rattle.gmwbtest.proofs.run.Given as goal
 
-abbrev pub invariant-loop-piece : goal.invariant-loop-piece
-invariant-loop-piece l = (l.piece ≤ 4096) × (l.held ≤ length l.text)
-    × (l.last ≤ length l.table) × (length l.table ≡ length l.initial.table) × (length l.work ≡ length l.initial.work)
-    × (length l.text ≡ length l.initial.text)
-
-abbrev pub decreases-loop-piece : goal.decreases-loop-piece
-decreases-loop-piece l = 4096 - l.piece
+abbrev pub invariant-loop : goal.invariant-loop
+invariant-loop l = l.held ≤ length l.text
