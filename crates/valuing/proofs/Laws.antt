@@ -2,6 +2,7 @@
 use mathlib.Core.Bool.{Bool, true, false, cond}
 use mathlib.Core.List.{List, ◌++◌}
 use mathlib.Core.Logic.{inl, inr, ◌⊎◌}
+use Rattle.std.specs.Prelude.{Ok, Err}
 use mathlib.Core.Path.{◌≡◌, refl, ap, sym, ◌∙◌, subst}
 use Prim.Native.Nat.{ℕ, zero, suc, ◌+◌, ◌-◌, ◌*◌, ◌/◌, ◌%◌, ◌≤◌, ◌<◌}
 use native.Mathlib.Nat.{mod-lt, div-add-mod', div-lt_iff_lt-mul, zero-add}
@@ -9,7 +10,7 @@ use native.Mathlib.Omega.{arith}
 use lib.Dec.{ltb}
 use lib.IntN.{pos, negsuc, ◌-ℤ◌, sub_ℕ}
 use lib.Signed.{mag}
-use borrow.Author.Tests.{le-ltb}
+use borrow.Author.Tests.{lt-ltb, le-ltb}
 use lib.ListN.{length, get_or, drop, replicate}
 use Rattle.decision.specs.Process.{start_value}
 use Rattle.decision.specs.Layers.{layer, layers}
@@ -20,25 +21,23 @@ use Rattle.rules.specs.Date.{Behaviour, maturity_value, margin}
 use Rattle.rules.specs.Product.{contract_value, value_layer, amount_layers, state_value, recorded_amount, entries}
 use Rattle.rules.specs.FixedTerm.{fixed_term, process_of, layout_of, layer_size, State, Held}
 use Rattle.rules.specs.Refusals.{accepted, refused, verdict, number_of, place_of, on_success, short, input_checks, Verdict}
-use Rattle.rules.specs.Operations.{answer, work_after, behaviour_of, filled, work_size, Policy, valued_answer, no_table_checks, valued_work}
+use Rattle.rules.specs.Operations.{Answer, answer, work_after, behaviour_of, filled, work_size, Policy, valued_answer, no_table_checks, valued_work}
 use Rattle.rules.specs.Operations.{valuing_checks}
 use Rattle.laws.specs.Date.{shared}
 use Rattle.laws.specs.Accepted.{Valid, and_then, input_valid}
 use Rattle.laws.specs.FixedTerm.{size_some}
 use Rattle.laws.specs.Valuing.{behaviour_refused, work_refused, work_accepted, table_last, table_verdict, no_table_refused}
-use Rattle.contract.specs.declared.Contract.{Contract}
-use Rattle.contract.specs.declared.Outcome.{Outcome}
-use Rattle.input.specs.declared.Returns as inputs
-use Rattle.input.specs.Accepted.{Agreed, disagreed, input_not_read, agree, refuse}
-use Rattle.contract.specs.Reading.{terms_in, turned, taken}
-use Rattle.input.specs.Reading.{input_read}
+use Rattle.contract.specs.Reading.{turned, taken, taken_by}
+use Rattle.contract.specs.Accepted.{taken_accepts, turned_refused}
+use Rattle.input.specs.Given.{Given}
+use Rattle.input.specs.Read.{agreed_by, input_read}
 use Rattle.laws.specs.AnyOrder.{Reordered}
 use Rattle.laws.proofs.AnyOrder.{any_order_state, any_order_amount}
 use Rattle.returns.specs.Sorted.{Sorted, ordered_input}
 use Rattle.expect.specs.Expected.{expected, shared_same}
 use Rattle.dates.specs.Back.{at, values_on, shared_expects, Valued, Starting}
-use Rattle.valuing.specs.declared.Answer as declared
-use Rattle.valuing.specs.Answered.{answer_of, refusal, valuing_agreed, Settled, Worked, Answered, Reported, Valuing, WorkLent}
+use Rattle.valuing.specs.declared.Valuation.{Valuation}
+use Rattle.valuing.specs.Answered.{told, refusal, valuing_agreed, Settled, Worked, Answered, Reported, Valuing, WorkLent}
 use Rattle.valuing.specs.Answered.{no_table_agreed, ValuingNoTable}
 use Rattle.valuing.specs.First.{First, first_layer, first_from_lem, first_mature}
 use Rattle.laws.specs.Terms.{table_size}
@@ -135,13 +134,12 @@ of_the_list {b} {c} {ds = ds} same v = record {
 }
 
 -- the first layer at maturity
-pub starting : {c : Terms} {behaviour : ℕ} {list rates work work' : List ℕ} {rs : Returns} (lent : WorkLent behaviour c list rates work)
+pub starting : {c : Terms} {list rates work work' : List ℕ} {rs : Returns} → Given c list rates → (lent : WorkLent c work)
     → Sorted (returns_of list) rs → work' ≡ stored work 0 (flat (c.premium + 1) maturity_value) (layer_size c)
-    → Starting behaviour c work' rs rates
+    → Starting c work' rs rates
 unfolding layer_size
-starting {c} {work = work} lent sorted e = record {
-  known = lent.known;
-  given = ordered_input lent.given sorted;
+starting {c} {work = work} given lent sorted e = record {
+  given = ordered_input given sorted;
   room =
       let l = ap length e ∙ length_stored work 0 (flat (c.premium + 1) maturity_value) ((c.top + 1) * (c.premium + 1)) in
       omega (arith, lent.room);
@@ -149,7 +147,7 @@ starting {c} {work = work} lent sorted e = record {
 }
 
 -- ---- what terms that were read answer
-pub answered : {b : Behaviour} {c : Terms} {rs : Returns} {ds : Rates} {work table work' table' : List ℕ} (r : declared.Answer)
+pub answered : {b : Behaviour} {c : Terms} {rs : Returns} {ds : Rates} {work table work' table' : List ℕ} (r : Valuation)
     (work'' : List ℕ) → layer_size c + layer_size c ≤ length work → ds 0 ≤ rate_most
     → Valued b c rs ds work table work' table' 0 → Settled c rs (ds 0) work' r work'' → Answered b c rs ds work table r work'' table'
 unfolding answer work_after filled on_success number_of place_of fixed_term layout_of
@@ -157,8 +155,8 @@ answered {b} {c} {rs} {ds} r work'' room small d s =
     let value : r.value ≡ contract_value (fixed_term c rs ds) b = s.value_is ∙ contract_value_lem d small in record {
       worked = record {
         answer_is = λ i. record {
-          number = s.number_is i;
-          place = s.place_is i;
+          number = 0;
+          place = 0;
           value = value i;
           margin = (s.margin_is ∙ ap (λ (x : ℕ). margin x c.premium) value) i;
         };
@@ -172,64 +170,82 @@ module _ (x : Input) (behaviour : ℕ) (work : List ℕ) where
   abbrev p : Policy State Held
   p = policy_of x
 
-  pub check_read : (o : Outcome) → input_read x ≡ turned o.number o.place
-      → turned o.number o.place ≡ no_table_agreed x behaviour work
-  check_read o e = refuse _ _ _ _ _ (no_table_refused p behaviour work (input_not_read x o e))
+  refuse : (n q : ℕ) → verdict (no_table_checks p behaviour work) ≡ refused n q → turned n q ≡ no_table_agreed x behaviour work
+  unfolding agreed_by taken_by
+  refuse n q e = rw e
 
-  module _ {c : Contract} {rs : inputs.Returns} (known : Agreed (verdict (input_checks x)) x.bytes x.list c rs) where
-    pub check_valid : Valid (terms_in c)
-    check_valid = rw known.terms (input_valid x known.accepts).terms
+  pub check_read : (n q : ℕ) → turned n q ≡ input_read x → turned n q ≡ no_table_agreed x behaviour work
+  unfolding agreed_by
+  check_read n q e =
+      refuse n q (no_table_refused p behaviour work (turned_refused _ (terms_of x.bytes, (returns_of x.list).count) (sym e)))
+
+  module _ {c : Terms} {n : ℕ} (read : taken (c, n) ≡ input_read x) where
+    known : (verdict (input_checks x) ≡ accepted) × (c ≡ terms_of x.bytes) × (n ≡ (returns_of x.list).count)
+    unfolding agreed_by
+    known =
+        let both = taken_accepts _ (terms_of x.bytes, (returns_of x.list).count) (sym read) in
+        (both.0, (sym (ap (λ (t : Terms × ℕ). t.0) both.1), sym (ap (λ (t : Terms × ℕ). t.1) both.1)))
 
     -- the entries that the terms need are those of the policy
-    same_room : (t : Bool) → short (2 * layer_size (terms_in c)) work ≡ t → short (work_size p) work ≡ t
+    same_room : (t : Bool) → short (2 * layer_size c) work ≡ t → short (work_size p) work ≡ t
     unfolding fixed_term layout_of
-    same_room t e = ap (λ (z : Terms). short (2 * layer_size z) work) (sym known.terms) ∙ e
+    same_room t e = ap (λ (z : Terms). short (2 * layer_size z) work) (sym known.1) ∙ e
 
-    pub check_behaviour : ltb 2 behaviour ≡ true → turned 10 0 ≡ no_table_agreed x behaviour work
-    check_behaviour e = refuse _ _ _ 10 0 (behaviour_refused p behaviour work known.accepts e)
+    pub check_behaviour : 2 < behaviour → turned 10 0 ≡ no_table_agreed x behaviour work
+    check_behaviour l = refuse 10 0 (behaviour_refused p behaviour work known.0 (lt-ltb _ _ l))
 
-    pub check_work : ltb 2 behaviour ≡ false → short (2 * layer_size (terms_in c)) work ≡ true
-        → turned 11 0 ≡ no_table_agreed x behaviour work
-    check_work e f = refuse _ _ _ 11 0 (work_refused p behaviour work known.accepts e (same_room true f))
+    pub check_work : behaviour ≤ 2 → length work < 2 * layer_size c → turned 11 0 ≡ no_table_agreed x behaviour work
+    unfolding short
+    check_work l short =
+        refuse 11 0 (work_refused p behaviour work known.0 (le-ltb _ _ l) (same_room true (lt-ltb _ _ short)))
 
-    pub check_passed : ltb 2 behaviour ≡ false → short (2 * layer_size (terms_in c)) work ≡ false
-        → taken (terms_in c, rs.count) ≡ no_table_agreed x behaviour work
-    check_passed e f =
-        agree _ _ _ (record {
-          accepts = work_accepted p behaviour work known.accepts e (same_room false f);
-          terms = known.terms;
-          count = known.count;
-        })
+    pub check_passed : behaviour ≤ 2 → 2 * layer_size c ≤ length work → taken (c, n) ≡ no_table_agreed x behaviour work
+    unfolding short agreed_by taken_by
+    check_passed l room =
+        rw (work_accepted p behaviour work known.0 (le-ltb _ _ l) (same_room false (le-ltb _ _ room)))
+        (λ i. taken (known.1 i, known.2 i))
 
 -- .. and that of the table
 module _ (x : Input) (behaviour : ℕ) (work table : List ℕ) where
-  pub table_refused : (o : Outcome) → no_table_agreed x behaviour work ≡ turned o.number o.place
-      → turned o.number o.place ≡ valuing_agreed x behaviour work table
-  table_refused o e =
-      refuse _ _ _ _ _ (table_last (policy_of x) behaviour work table
+  refuse_table : (n q : ℕ) → verdict (valuing_checks (policy_of x) behaviour work table) ≡ refused n q
+      → turned n q ≡ valuing_agreed x behaviour work table
+  unfolding agreed_by taken_by
+  refuse_table n q e = rw e
+
+  pub table_refused : (n q : ℕ) → turned n q ≡ no_table_agreed x behaviour work → turned n q ≡ valuing_agreed x behaviour work table
+  unfolding agreed_by
+  table_refused n q e =
+      refuse_table n q (table_last (policy_of x) behaviour work table
       ∙ ap (λ (v : Verdict). and_then v (table_verdict (policy_of x) behaviour work table))
-      (disagreed (verdict (no_table_checks (policy_of x) behaviour work)) _ _ o e))
+      (turned_refused _ (terms_of x.bytes, (returns_of x.list).count) (sym e)))
 
-  module _ {c : Contract} {rs : inputs.Returns}
-      (told : Agreed (verdict (no_table_checks (policy_of x) behaviour work)) x.bytes x.list c rs)
-    where
-      last : verdict (valuing_checks (policy_of x) behaviour work table)
-          ≡ cond (short (table_size (terms_in c)) table) (refused 11 0) accepted
-      unfolding verdict entries table_size fixed_term process_of layout_of
-      last =
-          table_last (policy_of x) behaviour work table
-          ∙ ap (λ (v : Verdict). and_then v (table_verdict (policy_of x) behaviour work table)) told.accepts
-          ∙ ap (λ (t : Terms). cond (short (table_size t) table) (refused 11 0) accepted) (sym told.terms)
+  module _ {c : Terms} {n : ℕ} (read : taken (c, n) ≡ no_table_agreed x behaviour work) where
+    agreed : (verdict (no_table_checks (policy_of x) behaviour work) ≡ accepted) × (c ≡ terms_of x.bytes)
+        × (n ≡ (returns_of x.list).count)
+    unfolding agreed_by
+    agreed =
+        let both = taken_accepts _ (terms_of x.bytes, (returns_of x.list).count) (sym read) in
+        (both.0, (sym (ap (λ (t : Terms × ℕ). t.0) both.1), sym (ap (λ (t : Terms × ℕ). t.1) both.1)))
 
-      pub table_short : short (table_size (terms_in c)) table ≡ true → turned 11 0 ≡ valuing_agreed x behaviour work table
-      table_short e = refuse _ _ _ 11 0 (last ∙ rw e)
+    last : verdict (valuing_checks (policy_of x) behaviour work table)
+        ≡ cond (short (table_size c) table) (refused 11 0) accepted
+    unfolding verdict entries table_size fixed_term process_of layout_of
+    last =
+        table_last (policy_of x) behaviour work table
+        ∙ ap (λ (v : Verdict). and_then v (table_verdict (policy_of x) behaviour work table)) agreed.0
+        ∙ ap (λ (t : Terms). cond (short (table_size t) table) (refused 11 0) accepted) (sym agreed.1)
 
-      pub table_passed : short (table_size (terms_in c)) table ≡ false
-          → taken (terms_in c, rs.count) ≡ valuing_agreed x behaviour work table
-      table_passed e = agree _ _ _ (record { accepts = last ∙ rw e; terms = told.terms; count = told.count })
+    pub table_short : length table < table_size c → turned 11 0 ≡ valuing_agreed x behaviour work table
+    unfolding short
+    table_short l = refuse_table 11 0 (last ∙ rw (lt-ltb _ _ l))
+
+    pub table_passed : table_size c ≤ length table → taken (c, n) ≡ valuing_agreed x behaviour work table
+    unfolding short agreed_by taken_by
+    table_passed l =
+        rw (last ∙ rw (le-ltb _ _ l)) (λ i. taken (agreed.1 i, agreed.2 i))
 
 -- ---- what a call answers, on any input: the claim follows from the equations
-pub valuing : (x : Input) (behaviour : ℕ) (work table : List ℕ) {r : declared.Answer} {work' table' : List ℕ}
+pub valuing : (x : Input) (behaviour : ℕ) (work table : List ℕ) {r : Answer} {work' table' : List ℕ}
     → Reported (policy_of x) (verdict (valuing_checks (policy_of x) behaviour work table)) behaviour work table r work' table'
     → Valuing x behaviour work table r work' table'
 valuing x behaviour work table {r} w = record {
@@ -237,9 +253,9 @@ valuing x behaviour work table {r} w = record {
   claim = λ zero_number.
       let v = verdict (valuing_checks (policy_of x) behaviour work table) in
       let number =
-      sym (valued_number (policy_of x) v behaviour) ∙ ap (λ (a : declared.Answer). a.number) (sym w.answer_is) ∙ zero_number in
+      sym (valued_number (policy_of x) v behaviour) ∙ ap (λ (a : Answer). a.number) (sym w.answer_is) ∙ zero_number in
       let yes_to = valuing_accepts x behaviour work table number in
-      rw (ap (λ (a : declared.Answer). a.value) w.answer_is, w.table_is)
+      rw (ap (λ (a : Answer). a.value) w.answer_is, w.table_is)
       (valued_claim x v behaviour table yes_to (valuing_valid x behaviour work table yes_to).terms);
 }
 
@@ -248,7 +264,7 @@ module _ (x : Input) (behaviour : ℕ) (work : List ℕ) where
   abbrev said : Verdict
   said = verdict (no_table_checks (policy_of x) behaviour work)
 
-  no_table : {r : declared.Answer} {work' : List ℕ} → r ≡ answer_of (valued_answer (policy_of x) said behaviour)
+  no_table : {r : Answer} {work' : List ℕ} → r ≡ valued_answer (policy_of x) said behaviour
       → work' ≡ valued_work (policy_of x) said behaviour work
       → ValuingNoTable x behaviour work r work'
   no_table is left = record {
@@ -256,17 +272,17 @@ module _ (x : Input) (behaviour : ℕ) (work : List ℕ) where
     work_is = left;
     claim = λ zero_number rest.
         let number =
-        sym (valued_number (policy_of x) said behaviour) ∙ ap (λ (a : declared.Answer). a.number) (sym is) ∙ zero_number in
-        rw (ap (λ (a : declared.Answer). a.value) is) (no_table_claim x behaviour work number rest);
+        sym (valued_number (policy_of x) said behaviour) ∙ ap (λ (a : Answer). a.number) (sym is) ∙ zero_number in
+        rw (ap (λ (a : Answer). a.value) is) (no_table_claim x behaviour work number rest);
   }
 
-  pub no_table_refuses : {r : declared.Answer} (n q : ℕ) → said ≡ refused n q → r ≡ refusal n q → ValuingNoTable x behaviour work r work
+  pub no_table_refuses : {r : Answer} (n q : ℕ) → said ≡ refused n q → r ≡ refusal n q → ValuingNoTable x behaviour work r work
   unfolding valued_answer valued_work answer work_after filled on_success number_of place_of
   no_table_refuses n q e f = no_table (rw e f) (rw e)
 
-  pub no_table_values : {r : declared.Answer} {work' : List ℕ} {c : Terms} → said ≡ accepted → c ≡ terms_of x.bytes
+  pub no_table_values : {r : Valuation} {work' : List ℕ} {c : Terms} → said ≡ accepted → c ≡ terms_of x.bytes
       → Worked (behaviour_of behaviour) c (returns_of x.list) (rates_of x.rates) work r work'
-      → ValuingNoTable x behaviour work r work'
+      → ValuingNoTable x behaviour work (told (Ok r)) work'
   unfolding valued_answer valued_work work_after filled on_success fixed_term layout_of
   no_table_values {r} {work'} e same w =
       let v =

@@ -1,5 +1,5 @@
 -- What the calls that value share: the first layer as the rules write it, and terms and returns that were read. Assumes nothing.
-use Rattle.std.specs.Prelude.{List, ◌++◌, ◌≡◌, ℕ, ◌+◌, ◌*◌, ◌/◌, ◌%◌, ◌≤◌, ◌<◌, length, drop, replicate}
+use Rattle.std.specs.Prelude.{List, ◌++◌, ◌≡◌, ℕ, ◌+◌, ◌*◌, ◌/◌, ◌%◌, ◌≤◌, ◌<◌, length, drop, replicate, Ok, Err}
 use Rattle.std.proofs.Common.{inr, subst, sym, ◌∙◌, le_trans, le_of_eq, div-lt_iff_lt-mul}
 use Rattle.std.proofs.Math.Path.{ap}
 use Rattle.std.proofs.Math.Nat.{mod-lt, div-add-mod'}
@@ -8,21 +8,25 @@ use Rattle.std.proofs.Math.ListN.{get_or}
 use Rattle.decision.specs.Index.{tabulate}
 use Rattle.slices.specs.Stored.{stored, length_stored, stored_out, stored_zeros}
 use Rattle.slices.specs.Rows.{cells, flat, layer_stored}
-use Rattle.rules.specs.Contract.{Terms, terms_of, Input}
-use Rattle.rules.specs.Date.{maturity_value}
+use Rattle.rules.specs.Contract.{Terms, terms_of, returns_of, Input}
+use Rattle.rules.specs.Date.{Behaviour, maturity_value}
 use Rattle.rules.specs.FixedTerm.{layer_size, fixed_term, layout_of, process_of}
-use Rattle.rules.specs.Refusals.{accepted, verdict}
+use Rattle.rules.specs.Refusals.{Verdict, accepted, refused, verdict}
 use Rattle.laws.specs.Bounds.{state_most}
-use Rattle.contract.specs.declared.Outcome.{Outcome}
-use Rattle.contract.specs.declared.Contract.{Contract}
-use Rattle.input.specs.declared.Returns.{Returns}
+use Rattle.contract.specs.declared.refusal.Refusal.{Refusal}
+use Rattle.contract.specs.Refusal.{number_in, place_in}
 use Rattle.contract.specs.Reading.{terms_in}
-use Rattle.input.specs.Accepted.{Agreed, Given, given}
-use Rattle.valuing.specs.declared.Answer as declared
-use Rattle.valuing.specs.Answered.{refusal, Settling, WorkLent, TableLent}
+use Rattle.contract.specs.Accepted.{taken_accepts, turned_refused}
+use Rattle.date.specs.Behaviour.{behaviour_in}
+use Rattle.date.specs.declared.behaviour.Behaviour as date
+use Rattle.input.specs.declared.Policy as input
+use Rattle.input.specs.Read.{agreed_by}
+use Rattle.expect.specs.Expected.{Values}
+use Rattle.laws.specs.Accepted.{Valid}
+use Rattle.valuing.specs.Answered.{Checked, checked_tells, WorkLent, TableLent}
 use Rattle.rules.specs.Product.{entries}
 use Rattle.laws.specs.Terms.{table_size}
-use Rattle.rules.specs.Operations.{no_table_checks, valuing_checks}
+use Rattle.rules.specs.Operations.{behaviour_of, no_table_checks, valuing_checks}
 use Rattle.rules.specs.Policy.{policy_of}
 use Rattle.laws.specs.Valuing.{valuing_no_table, no_table_room, no_table_read}
 
@@ -68,40 +72,58 @@ first_mature c work room e w a h l =
     ap (λ (xs : List ℕ). cells xs 0 (c.premium + 1) w a) e
     ∙ (layer_stored work 0 (c.premium + 1) (c.top + 1) maturity_value (omega arith)).cell w a (omega arith) (omega arith)
 
-pub settling : {f : ℕ → ℕ → ℕ} {c : Terms} {list rates work work' : List ℕ} → Given c list rates
+pub settling : {f : ℕ → ℕ → ℕ} {c : Terms} {work work' : List ℕ} → Valid c
     → layer_size c + layer_size c ≤ length work → First f c work work' → ((w a : ℕ) → w ≤ c.top → a ≤ c.premium → f w a ≤ state_most c 1)
-    → Settling c work' list rates
-settling given room v most = record {
-  given = given;
-  first = record {
-    layers = record { valid = given.valid.terms; room = omega (arith, v.long) };
-    small = λ w a h l. le_trans (le_of_eq (v.values w a h l)) (most w a h l);
-  };
+    → Values c 0 work'
+settling valid room v most = record {
+  layers = record { valid = valid; room = omega (arith, v.long) };
+  small = λ w a h l. le_trans (le_of_eq (v.values w a h l)) (most w a h l);
 }
 
--- ---- what was read
-abbrev pub refused_by : Outcome → declared.Answer
-refused_by o = refusal o.number o.place
+-- ---- what was read: by any verdict, what passed is what was given ..
+pub record Passed (v : Verdict) (x : Input) (behaviour : ℕ) (policy : input.Policy) (b : date.Behaviour) : Type 0 where
+  pub accepts : v ≡ accepted
+  pub terms : terms_in policy.contract ≡ terms_of x.bytes
+  pub same : Checked x behaviour (policy, b)
+
+module _ {v : Verdict} {x : Input} where
+  pub passed : {behaviour : ℕ} {policy : input.Policy} {b : date.Behaviour}
+      → checked_tells (Ok (policy, b)) ≡ agreed_by v x.bytes x.list → Checked x behaviour (policy, b) → Passed v x behaviour policy b
+  unfolding agreed_by
+  passed e same =
+      let both = taken_accepts v (terms_of x.bytes, (returns_of x.list).count) (sym e) in
+      record { accepts = both.0; terms = sym (ap (λ (t : Terms × ℕ). t.0) both.1); same = same }
+
+  -- .. and a refusal is the verdict's
+  pub turned_away : {r : Refusal} → checked_tells (Err r) ≡ agreed_by v x.bytes x.list → v ≡ refused (number_in r) (place_in r)
+  unfolding agreed_by
+  turned_away e = turned_refused v (terms_of x.bytes, (returns_of x.list).count) (sym e)
+
+  -- what holds of a policy that passed holds of the bytes
+  pub of_the_bytes : {behaviour : ℕ} {policy : input.Policy} {b : date.Behaviour} → Passed v x behaviour policy b
+      → (P : Behaviour → Terms → List ℕ → List ℕ → Type 0)
+      → P (behaviour_in b) (terms_in policy.contract) policy.list.now policy.rates.now
+      → P (behaviour_of behaviour) (terms_of x.bytes) x.list x.rates
+  of_the_bytes {behaviour} {policy} {b} told P h =
+      subst (λ (d : Behaviour). P d (terms_of x.bytes) x.list x.rates) told.same.behaviour_is
+      (subst (λ (t : Terms). P (behaviour_in b) t x.list x.rates) told.terms
+      (subst (λ (l : List ℕ). P (behaviour_in b) (terms_in policy.contract) l x.rates) told.same.list_is
+      (subst (λ (d : List ℕ). P (behaviour_in b) (terms_in policy.contract) policy.list.now d) told.same.rates_is h)))
 
 -- what a valuation that is accepted was given: with no table ..
-pub work_lent : (x : Input) (behaviour : ℕ) (work : List ℕ) {c : Contract}
-    → verdict (no_table_checks (policy_of x) behaviour work) ≡ accepted → terms_in c ≡ terms_of x.bytes
-    → WorkLent behaviour (terms_in c) x.list x.rates work
+pub work_lent : (x : Input) (behaviour : ℕ) (work : List ℕ) {c : Terms}
+    → verdict (no_table_checks (policy_of x) behaviour work) ≡ accepted → c ≡ terms_of x.bytes → WorkLent c work
 unfolding fixed_term layout_of
 work_lent x behaviour work accepts terms =
-    let room = no_table_room (policy_of x) behaviour work accepts in record {
-      known = room.known;
-      given = given x (no_table_read (policy_of x) behaviour work accepts) terms;
-      room = rw terms (let l = room.layers in omega arith);
-    }
+    let room = no_table_room (policy_of x) behaviour work accepts in
+    record { room = rw terms (let l = room.layers in omega arith) }
 
 -- .. and with one
-pub table_lent : (x : Input) (behaviour : ℕ) (work table : List ℕ) {c : Contract} {rs : Returns}
-    → Agreed (verdict (valuing_checks (policy_of x) behaviour work table)) x.bytes x.list c rs
-    → TableLent behaviour (terms_in c) x.list x.rates work table
+pub table_lent : (x : Input) (behaviour : ℕ) (work table : List ℕ) {c : Terms}
+    → verdict (valuing_checks (policy_of x) behaviour work table) ≡ accepted → c ≡ terms_of x.bytes → TableLent c work table
 unfolding entries table_size fixed_term process_of layout_of
-table_lent x behaviour work table told =
-    let both = valuing_no_table (policy_of x) behaviour work table told.accepts in record {
-      first = work_lent x behaviour work both.0 told.terms;
-      room_table = subst (λ (t : Terms). table_size t ≤ length table) (sym told.terms) both.1;
+table_lent x behaviour work table accepts terms =
+    let both = valuing_no_table (policy_of x) behaviour work table accepts in record {
+      first = work_lent x behaviour work both.0 terms;
+      room_table = subst (λ (t : Terms). table_size t ≤ length table) (sym terms) both.1;
     }

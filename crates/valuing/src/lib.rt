@@ -1,23 +1,24 @@
 // Valuing a contract under one of the three behaviours.
 #![tactic(auto)]
 
-ghost use Rattle.std.specs.Prelude.{◌≡◌, ◌≤◌};
+ghost use Rattle.std.specs.Prelude.{◌≡◌, ◌≤◌, IfOk};
 ghost use Rattle.rules.specs.Contract.{top_most, returns_of, rates_of};
 ghost use Rattle.laws.specs.Bounds.{entry_most};
 ghost use Rattle.rules.specs.Date.{margin};
-ghost use Rattle.rules.specs.Operations.{behaviour_of};
+ghost use Rattle.date.specs.Behaviour.{behaviour_in};
 ghost use Rattle.contract.specs.Reading.{terms_in};
-ghost use Rattle.input.specs.Reading.{agreement_tells};
-ghost use Rattle.valuing.specs.Answered.{refusal, no_table_agreed, valuing_agreed, WorkLent, Settling, Settled, Worked, Answered};
-ghost use Rattle.valuing.specs.Answered.{Valuing, ValuingNoTable};
+ghost use Rattle.input.specs.Reading.{input_of};
+ghost use Rattle.expect.specs.Expected.{Values};
+ghost use Rattle.valuing.specs.Answered.{told, checked_tells, Checked, no_table_agreed, valuing_agreed, WorkLent, Settled};
+ghost use Rattle.valuing.specs.Answered.{Worked, Answered, Valuing, ValuingNoTable};
 
-use contract::{Contract, Outcome};
-use input::Agreement;
+use contract::{Contract, Refusal};
+use date::Behaviour;
+use input::{Input, Policy};
 
+// What a contract is worth, and by how much that is above the premium.
 #[derive(Clone, Copy)]
-pub struct Answer {
-    pub number: u32,
-    pub place: u64,
+pub struct Valuation {
     pub value: u64,
     pub margin: i64,
 }
@@ -29,160 +30,96 @@ fn margin(value: u64, premium: usize) -> i64
     (value as i64) - ((10000 * premium) as i64)
 }
 
-pub fn refused(outcome: Outcome) -> Answer
-    ensures { result ≡ refusal outcome.number outcome.place }
+// The valuation and the working slice, once the first layer holds the values of date 1.
+pub fn settle(work: &mut [u64], policy: Policy) -> Valuation
+    requires { Values (terms_in policy.contract) 0 work.old }
+    ensures { Settled (terms_in policy.contract) (returns_of policy.list.now) (rates_of policy.rates.now 0)
+        work.old result work.new }
 {
-    Answer {
-        number: outcome.number,
-        place: outcome.place,
-        value: 0,
-        margin: 0,
-    }
-}
-
-// The answer and the working slice, once the first layer holds the values of date 1.
-pub fn settle(work: &mut [u64], list: &[u8], rates: &[u8], c: Contract) -> Answer
-    requires { Settling (terms_in c) work.old list.now rates.now }
-    ensures { Settled (terms_in c) (returns_of list.now) (rates_of rates.now 0) work.old result
-        work.new }
-{
-    let value = expect::start_value(&work[..], list, input::rate_of(rates, 0), c);
+    let c = policy.contract;
+    let value = expect::start_value(&work[..], policy.list, input::rate_of(policy.rates, 0), c);
     let size = c.layer_size();
     dates::clear(work, size, size);
-    Answer {
-        number: 0,
-        place: 0,
+    Valuation {
         value,
         margin: margin(value, c.premium),
     }
 }
 
 // What a valuation is given, checked in order: record, list, rates, behaviour, the length of the working slice.
-pub fn check_no_table(
-    bytes: &[u8],
-    list: &[u8],
-    rates: &[u8],
+pub fn check_no_table<'a>(
+    input: Input<'a>,
     behaviour: usize,
     work: &[u64],
-) -> Agreement
-    ensures { agreement_tells result
-        ≡ no_table_agreed (record { bytes = bytes.entry.now; list = list.now; rates = rates.now }) behaviour
-        work.now }
+) -> Result<(Policy<'a>, Behaviour), Refusal>
+    ensures tells { checked_tells result ≡ no_table_agreed (input_of input) behaviour work.now }
+    ensures checked { IfOk result (Checked (input_of input) behaviour) }
 {
-    let agreement = input::read_all(bytes, list, rates);
-    let Agreement::Accepted(c, _) = agreement else {
-        return agreement;
-    };
-    if 2 < behaviour {
-        return Agreement::Refused(Outcome {
-            number: 10,
-            place: 0,
-        });
+    let policy = Policy::read(input)?;
+    let behaviour = Behaviour::try_from(behaviour)?;
+    if work.len() < 2 * policy.contract.layer_size() {
+        return Err(Refusal::Short);
     }
-    if work.len() < 2 * c.layer_size() {
-        return Agreement::Refused(Outcome {
-            number: 11,
-            place: 0,
-        });
-    }
-    agreement
+    Ok((policy, behaviour))
 }
 
 // .. and then the length of the table.
-pub fn check(
-    bytes: &[u8],
-    list: &[u8],
-    rates: &[u8],
+pub fn check<'a>(
+    input: Input<'a>,
     behaviour: usize,
     work: &[u64],
     table: &[u16],
-) -> Agreement
-    ensures { agreement_tells result
-        ≡ valuing_agreed (record { bytes = bytes.entry.now; list = list.now; rates = rates.now }) behaviour
-        work.now table.now }
+) -> Result<(Policy<'a>, Behaviour), Refusal>
+    ensures tells { checked_tells result ≡ valuing_agreed (input_of input) behaviour work.now table.now }
+    ensures checked { IfOk result (Checked (input_of input) behaviour) }
 {
-    let agreement = check_no_table(bytes, list, rates, behaviour, work);
-    let Agreement::Accepted(c, _) = agreement else {
-        return agreement;
-    };
-    if table.len() < c.table_size() {
-        return Agreement::Refused(Outcome {
-            number: 11,
-            place: 0,
-        });
+    let (policy, behaviour) = check_no_table(input, behaviour, work)?;
+    if table.len() < policy.contract.table_size() {
+        return Err(Refusal::Short);
     }
-    agreement
+    Ok((policy, behaviour))
 }
 
-// Values a contract whose checks have passed, over the working slice and as much of a table as is lent.
-pub fn valued(
-    c: Contract,
-    list: &[u8],
-    rates: &[u8],
-    behaviour: usize,
-    work: &mut [u64],
-    table: &mut [u16],
-) -> Answer
-    requires { WorkLent behaviour (terms_in c) list.now rates.now work.old }
-    ensures { Answered (behaviour_of behaviour) (terms_in c) (returns_of list.now) (rates_of rates.now)
-        work.old table.old result work.new table.new }
+// Values a policy over a working slice that is long enough and as much of a table as is lent.
+pub fn valued(policy: Policy, behaviour: Behaviour, work: &mut [u64], table: &mut [u16]) -> Valuation
+    requires { WorkLent (terms_in policy.contract) work.old }
+    ensures { Answered (behaviour_in behaviour) (terms_in policy.contract) (returns_of policy.list.now)
+        (rates_of policy.rates.now) work.old table.old result work.new table.new }
 {
+    let c = policy.contract;
     let mut order = [0u32; Contract::RETURNS_MOST];
-    let count = returns::sort(&mut order, list);
+    let count = returns::sort(&mut order, policy.list);
     dates::fill_maturity(work, c.premium + 1, c.top + 1);
-    dates::all_dates(behaviour, work, table, &order[0..count], rates, c);
-    settle(work, list, rates, c)
+    dates::all_dates(behaviour, work, table, &order[0..count], policy.rates, c);
+    settle(work, policy)
 }
 
 // .. over the working slice alone.
-pub fn valued_no_table(
-    c: Contract,
-    list: &[u8],
-    rates: &[u8],
-    behaviour: usize,
-    work: &mut [u64],
-) -> Answer
-    requires { WorkLent behaviour (terms_in c) list.now rates.now work.old }
-    ensures { Worked (behaviour_of behaviour) (terms_in c) (returns_of list.now) (rates_of rates.now)
-        work.old result work.new }
+pub fn valued_no_table(policy: Policy, behaviour: Behaviour, work: &mut [u64]) -> Valuation
+    requires { WorkLent (terms_in policy.contract) work.old }
+    ensures { Worked (behaviour_in behaviour) (terms_in policy.contract) (returns_of policy.list.now)
+        (rates_of policy.rates.now) work.old result work.new }
 {
-    let mut none = [0u16; 1];
-    valued(c, list, rates, behaviour, work, &mut none[0..0])
+    valued(policy, behaviour, work, &mut [])
 }
 
-// Values a contract: fills the table and answers number, place, value and margin.
+// Values a contract, and fills the table.
 pub fn value(
-    bytes: &[u8],
-    list: &[u8],
-    rates: &[u8],
+    input: Input,
     behaviour: usize,
     work: &mut [u64],
     table: &mut [u16],
-) -> Answer
-    ensures { Valuing (record { bytes = bytes.entry.now; list = list.now; rates = rates.now }) behaviour
-        work.old table.old result work.new table.new }
+) -> Result<Valuation, Refusal>
+    ensures { Valuing (input_of input) behaviour work.old table.old (told result) work.new table.new }
 {
-    let agreement = check(bytes, list, rates, behaviour, &work[..], &table[..]);
-    let Agreement::Accepted(c, _) = agreement else {
-        return refused(agreement.outcome());
-    };
-    valued(c, list, rates, behaviour, work, table)
+    let (policy, behaviour) = check(input, behaviour, &work[..], &table[..])?;
+    Ok(valued(policy, behaviour, work, table))
 }
 
-// .. with no table: answers number, place, value and margin.
-pub fn value_no_table(
-    bytes: &[u8],
-    list: &[u8],
-    rates: &[u8],
-    behaviour: usize,
-    work: &mut [u64],
-) -> Answer
-    ensures { ValuingNoTable (record { bytes = bytes.entry.now; list = list.now; rates = rates.now }) behaviour
-        work.old result work.new }
+// .. with no table.
+pub fn value_no_table(input: Input, behaviour: usize, work: &mut [u64]) -> Result<Valuation, Refusal>
+    ensures { ValuingNoTable (input_of input) behaviour work.old (told result) work.new }
 {
-    let agreement = check_no_table(bytes, list, rates, behaviour, &work[..]);
-    let Agreement::Accepted(c, _) = agreement else {
-        return refused(agreement.outcome());
-    };
-    valued_no_table(c, list, rates, behaviour, work)
+    let (policy, behaviour) = check_no_table(input, behaviour, &work[..])?;
+    Ok(valued_no_table(policy, behaviour, work))
 }

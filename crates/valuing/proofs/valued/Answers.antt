@@ -10,28 +10,31 @@ use Rattle.valuing.proofs.valued.Goals as goal
 pub fill_maturity-requires : goal.fill_maturity-requires
 unfolding layer_size
 fill_maturity-requires c =
+    let given = c.args.policy.given in
+    let v = given.valid.terms in
     let pre = c.requires in
-    let v = pre.given.valid.terms in
     (omega (arith, v.top), omega (arith, v.top, v.premium), omega (arith, pre.room))
 
 pub all_dates-requires : goal.all_dates-requires
 unfolding layer_size
 all_dates-requires c =
     let start = c in
-    starting start.requires (part_sorted c.sort-count.ensures) c.fill_maturity.ensures
+    starting start.args.policy.given start.requires (part_sorted c.sort-count.ensures) c.fill_maturity.ensures
 
 pub settle-requires : goal.settle-requires
 unfolding layer_size
 settle-requires c =
     let pre = c.requires in
+    let given = c.args.policy.given in
     let sorted = part_sorted c.sort-count.ensures in
     let v = from_start _ c.fill_maturity.ensures (of_the_list sorted.same c.all_dates.ensures) in
-    settling pre.given pre.room (first v) (values_most _ _ _ _ pre.given.valid 1)
+    settling given.valid.terms pre.room (first v) (values_most _ _ _ _ given.valid 1)
 
 pub returns : goal.returns
 unfolding layer_size
 returns c =
     let pre = c.requires in
+    let given = c.args.policy.given in
     let sorted = part_sorted c.sort-count.ensures in
     let v = from_start _ c.fill_maturity.ensures (of_the_list sorted.same c.all_dates.ensures) in
-    answered _ _ pre.room (pre.given.valid.rates.rate 0) v c.settle.ensures
+    answered _ _ pre.room (given.valid.rates.rate 0) v c.settle.ensures
