@@ -56,7 +56,7 @@ work_left bytes list b work =
     work_after (program_of bytes list) (program_verdict bytes list) (value_layer (program_of bytes list).product b) work
 
 -- ---- what one line asks
-module _ {list : List ℕ} (v : ValidReturns (returns_of list)) {k : ℕ} (h : k < (returns_of list).count) where
+module _ (list : List ℕ) (v : ValidReturns (returns_of list)) {k : ℕ} (h : k < (returns_of list).count) where
   pub return_within : 4 * k + 4 ≤ length list
   unfolding returns_of
   return_within = let d = div-add-mod' (length list) 4 in omega arith
@@ -64,6 +64,13 @@ module _ {list : List ℕ} (v : ValidReturns (returns_of list)) {k : ℕ} (h : k
   pub factor_le : word list (4 * k) ≤ factor_most
   unfolding returns_of
   factor_le = omega (arith, v.factor k h)
+
+-- a table with room for every decision date has room for one
+pub one_layer : (c : Terms) (n : ℕ) → 2 ≤ c.dates → table_size c ≤ n → layer_size c ≤ n
+unfolding table_size
+one_layer c n h l =
+    let d : 1 ≤ c.dates - 1 = omega arith in
+    le_trans (le_of_eq (sym (one-mul (layer_size c)))) (le_trans (mul-le-mul_right (layer_size c) d) l)
 
 module _ {c : Terms} (v : Valid c) (w : ℕ) (h : w ≤ c.top) where
   pub row_small : w * (c.premium + 1) ≤ top_most * (top_most + 1)
@@ -73,6 +80,10 @@ module _ {c : Terms} (v : Valid c) (w : ℕ) (h : w ≤ c.top) where
   pub entry_within : w * (c.premium + 1) + c.premium < layer_size c
   unfolding layer_size
   entry_within = two_digits w c.premium (c.top + 1) (c.premium + 1) (omega arith) (omega arith)
+
+  -- .. of a table
+  pub entry_in : {n : ℕ} → 2 ≤ c.dates → table_size c ≤ n → w * (c.premium + 1) + c.premium < n
+  entry_in {n} later room = let layer = one_layer c n later room in omega (arith, entry_within, layer)
 
 -- the amounts in the entry of account w
 pub table_line_lem : (c : Terms) (list statics mixeds dynamics : List ℕ) (k : ℕ) {w a b d : ℕ}
@@ -87,10 +98,3 @@ table_line_lem c list statics mixeds dynamics k ew ea eb ed =
     let mixed_is = eb ∙ ap (λ (x : ℕ). get_or mixeds (x * (c.premium + 1) + c.premium) 0) ew in
     let dynamic_is = ed ∙ ap (λ (x : ℕ). get_or dynamics (x * (c.premium + 1) + c.premium) 0) ew in
     λ i. line (decimal k) (ew i ∷ c.premium ∷ static_is i ∷ mixed_is i ∷ dynamic_is i ∷ [])
-
--- a table with room for every decision date has room for one
-pub one_layer : (c : Terms) (n : ℕ) → 2 ≤ c.dates → table_size c ≤ n → layer_size c ≤ n
-unfolding table_size
-one_layer c n h l =
-    let d : 1 ≤ c.dates - 1 = omega arith in
-    le_trans (le_of_eq (sym (one-mul (layer_size c)))) (le_trans (mul-le-mul_right (layer_size c) d) l)

@@ -4,7 +4,6 @@ use Rattle.std.specs.Prelude.{get_or}
 use Rattle.std.proofs.Common.{append_assoc, append-nil, ap, sym, ◌∙◌, le_refl, mod-eq_of_lt, add-one, arith, length-take-le, take-suc}
 use Rattle.std.proofs.Common.{take-suc-set, drop-set-lt, lt-ltb, le-ltb}
 use Rattle.rules.specs.Printed.{digits, decimal, numbered, lines_of}
-
 use Rattle.std.proofs.Math.ListN.{length-set}
 use Rattle.report.specs.declared.Text as declared
 
@@ -66,9 +65,18 @@ put_eq {t = t} e p = record {
   kept = p.kept;
 }
 
+-- what a buffer shows that was empty
+pub put_shown : {most : ℕ} {t u : declared.Text} {text a : List ℕ} → Put most t text u → t.at ≡ 0 → text ≡ a → take u.at u.bytes.now ≡ a
+put_shown p start e = p.holds ∙ rw start e
+
 -- n counts bytes at the start of xs; both parts are stated, so that a caller may lend `&xs[..n]` with no proof of its own
 abbrev pub Counts : ℕ → List ℕ → Type 0
 Counts n xs = (n ≤ length xs) × (n ≡ length (take n xs))
+
+pub put_counts : {most : ℕ} {t u : declared.Text} {text : List ℕ} → Put most t text u → t.at ≡ 0 → most ≤ length t.bytes.now
+    → Counts u.at u.bytes.now
+put_counts {u = u} p start room =
+    let l : u.at ≤ length u.bytes.now = omega (arith, p.within, p.long) in (l, sym (length-take-le u.at u.bytes.now l))
 
 -- ---- digits
 pub digits_none : (places x : ℕ) → places ≡ 0 → digits places x ≡ []
@@ -85,10 +93,10 @@ unfolding digits
 digits_more zero x h l = absurd (omega arith)
 digits_more (suc places) x h l = let e : suc places - 1 ≡ places = omega arith in rw (le-ltb x 10 l, e)
 
-
 -- ---- what loops hold
 -- one more byte of a text
-pub put_next : {i : ℕ} {t u v : declared.Text} (text : List ℕ) → i < length text → Put i t (take i text) u → Put 1 u (get_or text i 0 ∷ []) v
+pub put_next : {i : ℕ} {t u v : declared.Text} (text : List ℕ) → i < length text → Put i t (take i text) u
+    → Put 1 u (get_or text i 0 ∷ []) v
     → Put (i + 1) t (take (i + 1) text) v
 put_next {i = i} text h p q = put_eq (sym (ap (λ (k : ℕ). take k text) (add-one i) ∙ take-suc text i 0 h)) (put_then p q)
 

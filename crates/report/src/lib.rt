@@ -6,7 +6,8 @@ ghost use Rattle.std.specs.Prelude.{◌≡◌, [], ◌∷◌, ◌++◌, ◌+◌,
 ghost use Rattle.rules.specs.Contract.{terms_of, returns_of, rate_bytes, dates_most};
 ghost use Rattle.rules.specs.Date.{static, mixed, dynamic};
 ghost use Rattle.rules.specs.Refusals.{verdict, on_success, record_checks};
-ghost use Rattle.rules.specs.Printed.{digits, decimal, numbered, line, name_of, refused_word, lines_of, line_count, program_of, program_verdict, printed};
+ghost use Rattle.rules.specs.Printed.{digits, decimal, numbered, line, name_of, refused_word, lines_of, line_count};
+ghost use Rattle.rules.specs.Printed.{program_of, program_verdict, printed};
 ghost use Rattle.contract.specs.Refusal.{number_in, place_in, verdict_in};
 ghost use Rattle.contract.specs.Reading.{terms_in};
 ghost use Rattle.report.specs.Text.{Put, Room, Counts};
@@ -182,7 +183,7 @@ fn value_all(
     dynamics: &mut [u16; TABLE],
 ) -> Result<Values, Refusal>
     ensures verdict { verdict_in result ≡ program_verdict bytes.now list.now }
-    ensures values { IfOk result (λ values. Valued (program_of bytes.now list.now).product values.statics values.mixeds values.dynamics) }
+    ensures values { IfOk result (λ v. Valued (program_of bytes.now list.now).product v.statics v.mixeds v.dynamics) }
     ensures work_after { work.new ≡ work_left bytes.now list.now dynamic work.old }
     ensures statics_after { statics.new ≡ table_left bytes.now list.now static statics.old }
     ensures mixeds_after { mixeds.new ≡ table_left bytes.now list.now mixed mixeds.old }
@@ -190,15 +191,30 @@ fn value_all(
 {
     let zeros = [0u8; Contract::RATE_BYTES * Contract::DATES_MOST];
     let n = rates_length(bytes);
-    let input = Input { bytes, list, rates: &zeros[..n] };
+    let input = Input {
+        bytes,
+        list,
+        rates: &zeros[..n],
+    };
     let statics = valuing::value(input, 0, work, statics)?.value;
     let mixeds = valuing::value(input, 1, work, mixeds)?.value;
     let dynamics = valuing::value(input, 2, work, dynamics)?.value;
-    Ok(Values { statics, mixeds, dynamics })
+    Ok(Values {
+        statics,
+        mixeds,
+        dynamics,
+    })
 }
 
 // The lines of the tables that a valuation leaves.
-fn all_lines(text: &mut Text, bytes: &[u8], list: &[u8], statics: &[u16], mixeds: &[u16], dynamics: &[u16])
+fn all_lines(
+    text: &mut Text,
+    bytes: &[u8],
+    list: &[u8],
+    statics: &[u16],
+    mixeds: &[u16],
+    dynamics: &[u16],
+)
     requires filled { Filled bytes.now list.now statics.now mixeds.now dynamics.now }
     requires room { Room 8064 text.old }
     ensures { Put 8064 text.old
@@ -208,7 +224,12 @@ fn all_lines(text: &mut Text, bytes: &[u8], list: &[u8], statics: &[u16], mixeds
         text.new }
 {
     if let Ok(agreement) = Agreement::read(bytes, list) {
-        let tables = Tables { agreement, statics, mixeds, dynamics };
+        let tables = Tables {
+            agreement,
+            statics,
+            mixeds,
+            dynamics,
+        };
         tables.lines(text);
     }
 }

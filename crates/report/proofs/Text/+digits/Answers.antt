@@ -9,10 +9,11 @@ returns-then-places-eq0 t c = put_eq (sym (digits_none _ _ c.if-places-eq0.true)
 
 pub returns : goal.returns
 returns t c = elim c.if-x-ge10.branch [
-    then-x-ge10 w ↦
-    put_most {m = (c.args.places - 1) + 1} (omega (arith, c.if-places-eq0.false))
-    (put_eq (sym (digits_more _ _ (omega (arith, c.if-places-eq0.false)) w.if-x-ge10.true))
-    (put_then w.digits.ensures (rw w.self-is at c.byte.ensures)))
+  | then-x-ge10 w ↦
+      put_most {m = (c.args.places - 1) + 1} (omega (arith, c.if-places-eq0.false))
+      (put_eq (sym (digits_more _ _ (omega (arith, c.if-places-eq0.false)) w.if-x-ge10.true))
+      (put_then w.digits.ensures (rw w.self-is at c.byte.ensures)))
   | else-x-ge10 w ↦
-    put_most {m = 1} (omega (arith, c.if-places-eq0.false))
-    (put_eq (sym (digits_one _ _ (omega (arith, c.if-places-eq0.false)) w.if-x-ge10.false)) (rw w.self-is at c.byte.ensures)) ]
+      put_most {m = 1} (omega (arith, c.if-places-eq0.false))
+      (put_eq (sym (digits_one _ _ (omega (arith, c.if-places-eq0.false)) w.if-x-ge10.false)) (rw w.self-is at c.byte.ensures))
+]
