@@ -1,24 +1,25 @@
 -- What valuing with a map answers, by the verdict. Assumes nothing.
 use mathlib.Core.Bool.{true, false}
 use mathlib.Core.List.{List, ◌++◌}
-use mathlib.Core.Path.{◌≡◌, ap, ap₂, sym, ◌∙◌}
-use Prim.Native.Nat.{ℕ}
-use lib.ListN.{drop}
+use mathlib.Core.Path.{◌≡◌, refl, ap, ap₂, sym, ◌∙◌}
+use Prim.Native.Nat.{ℕ, ◌≤◌, ◌<◌}
+use borrow.Author.Tests.{lt-ltb, le-ltb}
+use Rattle.std.specs.Prelude.{Ok}
+use lib.ListN.{drop, length}
 use Rattle.rules.specs.Contract.{Terms, returns_of, rates_of, Input}
 use Rattle.rules.specs.Refusals.{refused, on_success, short, verdict, Verdict}
-use Rattle.rules.specs.Operations.{behaviour_of, Policy, valuing_checks, filled}
+use Rattle.rules.specs.Operations.{Answer, behaviour_of, Policy, valuing_checks, filled}
 use Rattle.rules.specs.Map.{surrender_map, surrender_count, map_size, count_after, map_after, mapping_checks, surrendered}
 use Rattle.laws.specs.Accepted.{success_reports}
 use Rattle.laws.specs.Map.{mapping_short, mapping_same, mapping_accepts, mapping_valid}
-use Rattle.contract.specs.declared.Contract.{Contract}
-use Rattle.input.specs.declared.Returns.{Returns}
-use Rattle.input.specs.Accepted.{Agreed}
 use Rattle.contract.specs.Reading.{terms_in}
-use Rattle.valuing.specs.declared.Answer.{Answer}
-use Rattle.valuing.specs.Answered.{Answered, Reported, reported, reported_refused}
+use Rattle.date.specs.Behaviour.{behaviour_in}
+use Rattle.date.specs.declared.behaviour.Behaviour as date
+use Rattle.input.specs.declared.Policy as input
+use Rattle.valuing.specs.declared.Valuation.{Valuation}
+use Rattle.valuing.specs.Answered.{told, Passed, Answered, Reported, reported, reported_refused}
 use Rattle.valuing.specs.First.{table_lent}
-use Rattle.mapping.specs.declared.Mapped as declared
-use Rattle.mapping.specs.Mapped.{map_refusal, Mapping}
+use Rattle.mapping.specs.Mapped.{Told, map_refusal, Mapping}
 use Rattle.rules.specs.FixedTerm.{State, Held, fixed_term, process_of, layout_of}
 use Rattle.rules.specs.Policy.{policy_of}
 use Rattle.laws.specs.ThirdDemand.{valued_number, valued_claim}
@@ -34,7 +35,7 @@ module _ (x : Input) (behaviour : ℕ) (work table map : List ℕ) where
   said = verdict (mapping_checks (policy_of x) behaviour work table map)
 
   -- the equations, and the claim that follows from them
-  whole : {r : declared.Mapped} {work' table' map' : List ℕ} → Reported p said behaviour work table r.answer work' table'
+  whole : {r : Told} {work' table' map' : List ℕ} → Reported p said behaviour work table r.answer work' table'
       → r.count ≡ count_after p said behaviour table → map' ≡ map_after p said behaviour table map
       → Mapping x behaviour work table map r work' table' map'
   whole {r = r} w e f = record {
@@ -48,38 +49,38 @@ module _ (x : Input) (behaviour : ℕ) (work table map : List ℕ) where
         (valued_claim x said behaviour table yes_to (mapping_valid x behaviour work table map yes_to));
   }
 
-  pub refused_whole : {r : declared.Mapped} (n q : ℕ) → said ≡ refused n q → r ≡ map_refusal n q
-      → Mapping x behaviour work table map r work table map
+  pub refused_whole : (n q : ℕ) → said ≡ refused n q → Mapping x behaviour work table map (map_refusal n q) work table map
   unfolding count_after map_after filled on_success
-  refused_whole n q e f =
-      whole (reported_refused p behaviour n q e (ap (λ (m : declared.Mapped). m.answer) f))
-      (ap (λ (m : declared.Mapped). m.count) f ∙ rw e)
-      (rw e)
+  refused_whole n q e = whole (reported_refused p behaviour n q e refl) (rw e) (rw e)
 
-  module _ {c : Contract} {rs : Returns}
-      (told : Agreed (verdict (valuing_checks (policy_of x) behaviour work table)) x.bytes x.list c rs)
+  module _ {policy : input.Policy} {b : date.Behaviour}
+      (passed : Passed (verdict (valuing_checks (policy_of x) behaviour work table)) x behaviour policy b)
     where
+      abbrev c : Terms
+      c = terms_in policy.contract
+
       -- the map of the terms is the policy's
-      same_map : (t : Bool) → short (map_size (frame (terms_in c))) map ≡ t → short (map_size p.product) map ≡ t
+      same_map : (t : Bool) → short (map_size (frame c)) map ≡ t → short (map_size p.product) map ≡ t
       unfolding map_size entries fixed_term process_of layout_of
-      same_map t e = ap (λ (z : Terms). short (map_size (frame z)) map) (sym told.terms) ∙ e
+      same_map t e = ap (λ (z : Terms). short (map_size (frame z)) map) (sym passed.terms) ∙ e
 
-      pub too_short : {r : declared.Mapped} → short (map_size (frame (terms_in c))) map ≡ true → r ≡ map_refusal 16 0
-          → Mapping x behaviour work table map r work table map
-      too_short s f = refused_whole 16 0 (mapping_short p behaviour work table map told.accepts (same_map true s)) f
+      pub too_short : length map < map_size (frame c) → Mapping x behaviour work table map (map_refusal 16 0) work table map
+      unfolding short
+      too_short l = refused_whole 16 0 (mapping_short p behaviour work table map passed.accepts (same_map true (lt-ltb _ _ l)))
 
-      pub filled_whole : {r : declared.Mapped} {work' table' map' : List ℕ} → short (map_size (frame (terms_in c))) map ≡ false
-          → Answered (behaviour_of behaviour) (terms_in c) (returns_of x.list) (rates_of x.rates) work table r.answer work' table'
-          → r.count ≡ surrender_count (frame (terms_in c)) table'
-          → map' ≡ surrender_map (frame (terms_in c)) table' ++ drop (map_size (frame (terms_in c))) map
-          → Mapping x behaviour work table map r work' table' map'
-      unfolding count_after map_after filled map_size surrender_map surrender_count surrendered entries fixed_term process_of layout_of
-      filled_whole s a e f =
-          let yes_to = mapping_same p behaviour work table map (same_map false s) ∙ told.accepts in
-          let w = reported x behaviour yes_to told.terms (table_lent x behaviour work table told).room_table a in
+      pub filled_whole : {v : Valuation} {n : ℕ} {work' table' map' : List ℕ} → map_size (frame c) ≤ length map
+          → Answered (behaviour_in b) c (returns_of policy.list.now) (rates_of policy.rates.now) work table v work' table'
+          → n ≡ surrender_count (frame c) table'
+          → map' ≡ surrender_map (frame c) table' ++ drop (map_size (frame c)) map
+          → Mapping x behaviour work table map (record { answer = told (Ok v); count = n }) work' table' map'
+      unfolding short count_after map_after filled map_size surrender_map surrender_count surrendered entries fixed_term process_of layout_of
+      filled_whole l a e f =
+          let yes_to = mapping_same p behaviour work table map (same_map false (le-ltb _ _ l)) ∙ passed.accepts in
+          let room = (table_lent x behaviour work table passed.accepts passed.terms).room_table in
+          let w = reported x behaviour (record { accepts = yes_to; terms = passed.terms; same = passed.same }) room a in
           whole w
-          (e ∙ ap₂ (λ (z : Terms) (left : List ℕ). surrender_count (frame z) left) told.terms w.table_is
+          (e ∙ ap₂ (λ (z : Terms) (left : List ℕ). surrender_count (frame z) left) passed.terms w.table_is
           ∙ sym (success_reports _ _ yes_to))
           (f
-          ∙ ap₂ (λ (z : Terms) (left : List ℕ). surrender_map (frame z) left ++ drop (map_size (frame z)) map) told.terms w.table_is
+          ∙ ap₂ (λ (z : Terms) (left : List ℕ). surrender_map (frame z) left ++ drop (map_size (frame z)) map) passed.terms w.table_is
           ∙ sym (success_reports _ _ yes_to))

@@ -27,10 +27,13 @@ use Rattle.laws.specs.Date.{shared}
 use Rattle.laws.specs.Accepted.{Valid, and_then, input_valid}
 use Rattle.laws.specs.FixedTerm.{size_some}
 use Rattle.laws.specs.Valuing.{behaviour_refused, work_refused, work_accepted, table_last, table_verdict, no_table_refused}
-use Rattle.contract.specs.Reading.{turned, taken, taken_by}
-use Rattle.contract.specs.Accepted.{taken_accepts, turned_refused}
+use Rattle.contract.specs.Reading.{terms_in, turned, taken}
+use Rattle.date.specs.Behaviour.{behaviour_in}
+use Rattle.date.specs.declared.behaviour.Behaviour as date
+use Rattle.input.specs.declared.Policy as input
 use Rattle.input.specs.Given.{Given}
-use Rattle.input.specs.Read.{agreed_by, input_read}
+use Rattle.input.specs.Read.{input_read}
+use Rattle.input.specs.Accepted.{Agreed, agreed, disagreed, agree, refuse, input_read_lem, input_not_read}
 use Rattle.laws.specs.AnyOrder.{Reordered}
 use Rattle.laws.proofs.AnyOrder.{any_order_state, any_order_amount}
 use Rattle.returns.specs.Sorted.{Sorted, ordered_input}
@@ -38,7 +41,7 @@ use Rattle.expect.specs.Expected.{expected, shared_same}
 use Rattle.dates.specs.Back.{at, values_on, shared_expects, Valued, Starting}
 use Rattle.valuing.specs.declared.Valuation.{Valuation}
 use Rattle.valuing.specs.Answered.{told, refusal, valuing_agreed, Settled, Worked, Answered, Reported, Valuing, WorkLent}
-use Rattle.valuing.specs.Answered.{no_table_agreed, ValuingNoTable}
+use Rattle.valuing.specs.Answered.{no_table_agreed, ValuingNoTable, Passed, of_the_bytes}
 use Rattle.valuing.specs.First.{First, first_layer, first_from_lem, first_mature}
 use Rattle.laws.specs.Terms.{table_size}
 use Rattle.rules.specs.Policy.{policy_of}
@@ -170,79 +173,61 @@ module _ (x : Input) (behaviour : ℕ) (work : List ℕ) where
   abbrev p : Policy State Held
   p = policy_of x
 
-  refuse : (n q : ℕ) → verdict (no_table_checks p behaviour work) ≡ refused n q → turned n q ≡ no_table_agreed x behaviour work
-  unfolding agreed_by taken_by
-  refuse n q e = rw e
-
-  pub check_read : (n q : ℕ) → turned n q ≡ input_read x → turned n q ≡ no_table_agreed x behaviour work
-  unfolding agreed_by
-  check_read n q e =
-      refuse n q (no_table_refused p behaviour work (turned_refused _ (terms_of x.bytes, (returns_of x.list).count) (sym e)))
+  pub check_read : {n q : ℕ} → turned n q ≡ input_read x → turned n q ≡ no_table_agreed x behaviour work
+  check_read e = refuse _ _ _ _ _ (no_table_refused p behaviour work (input_not_read x (sym e)))
 
   module _ {c : Terms} {n : ℕ} (read : taken (c, n) ≡ input_read x) where
-    known : (verdict (input_checks x) ≡ accepted) × (c ≡ terms_of x.bytes) × (n ≡ (returns_of x.list).count)
-    unfolding agreed_by
-    known =
-        let both = taken_accepts _ (terms_of x.bytes, (returns_of x.list).count) (sym read) in
-        (both.0, (sym (ap (λ (t : Terms × ℕ). t.0) both.1), sym (ap (λ (t : Terms × ℕ). t.1) both.1)))
+    known : Agreed (verdict (input_checks x)) x.bytes x.list c n
+    known = input_read_lem x c n (sym read)
 
     -- the entries that the terms need are those of the policy
     same_room : (t : Bool) → short (2 * layer_size c) work ≡ t → short (work_size p) work ≡ t
     unfolding fixed_term layout_of
-    same_room t e = ap (λ (z : Terms). short (2 * layer_size z) work) (sym known.1) ∙ e
+    same_room t e = ap (λ (z : Terms). short (2 * layer_size z) work) (sym known.terms) ∙ e
 
     pub check_behaviour : 2 < behaviour → turned 10 0 ≡ no_table_agreed x behaviour work
-    check_behaviour l = refuse 10 0 (behaviour_refused p behaviour work known.0 (lt-ltb _ _ l))
+    check_behaviour l = refuse _ _ _ 10 0 (behaviour_refused p behaviour work known.accepts (lt-ltb _ _ l))
 
     pub check_work : behaviour ≤ 2 → length work < 2 * layer_size c → turned 11 0 ≡ no_table_agreed x behaviour work
     unfolding short
-    check_work l short =
-        refuse 11 0 (work_refused p behaviour work known.0 (le-ltb _ _ l) (same_room true (lt-ltb _ _ short)))
+    check_work l few =
+        refuse _ _ _ 11 0 (work_refused p behaviour work known.accepts (le-ltb _ _ l) (same_room true (lt-ltb _ _ few)))
 
     pub check_passed : behaviour ≤ 2 → 2 * layer_size c ≤ length work → taken (c, n) ≡ no_table_agreed x behaviour work
-    unfolding short agreed_by taken_by
+    unfolding short
     check_passed l room =
-        rw (work_accepted p behaviour work known.0 (le-ltb _ _ l) (same_room false (le-ltb _ _ room)))
-        (λ i. taken (known.1 i, known.2 i))
+        agree _ _ _ (record {
+          accepts = work_accepted p behaviour work known.accepts (le-ltb _ _ l) (same_room false (le-ltb _ _ room));
+          terms = known.terms;
+          count = known.count;
+        })
 
 -- .. and that of the table
 module _ (x : Input) (behaviour : ℕ) (work table : List ℕ) where
-  refuse_table : (n q : ℕ) → verdict (valuing_checks (policy_of x) behaviour work table) ≡ refused n q
-      → turned n q ≡ valuing_agreed x behaviour work table
-  unfolding agreed_by taken_by
-  refuse_table n q e = rw e
-
-  pub table_refused : (n q : ℕ) → turned n q ≡ no_table_agreed x behaviour work → turned n q ≡ valuing_agreed x behaviour work table
-  unfolding agreed_by
-  table_refused n q e =
-      refuse_table n q (table_last (policy_of x) behaviour work table
-      ∙ ap (λ (v : Verdict). and_then v (table_verdict (policy_of x) behaviour work table))
-      (turned_refused _ (terms_of x.bytes, (returns_of x.list).count) (sym e)))
+  pub table_refused : {n q : ℕ} → turned n q ≡ no_table_agreed x behaviour work → turned n q ≡ valuing_agreed x behaviour work table
+  table_refused e =
+      refuse _ _ _ _ _ (table_last (policy_of x) behaviour work table
+      ∙ ap (λ (v : Verdict). and_then v (table_verdict (policy_of x) behaviour work table)) (disagreed _ _ _ (sym e)))
 
   module _ {c : Terms} {n : ℕ} (read : taken (c, n) ≡ no_table_agreed x behaviour work) where
-    agreed : (verdict (no_table_checks (policy_of x) behaviour work) ≡ accepted) × (c ≡ terms_of x.bytes)
-        × (n ≡ (returns_of x.list).count)
-    unfolding agreed_by
-    agreed =
-        let both = taken_accepts _ (terms_of x.bytes, (returns_of x.list).count) (sym read) in
-        (both.0, (sym (ap (λ (t : Terms × ℕ). t.0) both.1), sym (ap (λ (t : Terms × ℕ). t.1) both.1)))
+    told_first : Agreed (verdict (no_table_checks (policy_of x) behaviour work)) x.bytes x.list c n
+    told_first = agreed _ _ _ c n (sym read)
 
-    last : verdict (valuing_checks (policy_of x) behaviour work table)
-        ≡ cond (short (table_size c) table) (refused 11 0) accepted
+    last : verdict (valuing_checks (policy_of x) behaviour work table) ≡ cond (short (table_size c) table) (refused 11 0) accepted
     unfolding verdict entries table_size fixed_term process_of layout_of
     last =
         table_last (policy_of x) behaviour work table
-        ∙ ap (λ (v : Verdict). and_then v (table_verdict (policy_of x) behaviour work table)) agreed.0
-        ∙ ap (λ (t : Terms). cond (short (table_size t) table) (refused 11 0) accepted) (sym agreed.1)
+        ∙ ap (λ (v : Verdict). and_then v (table_verdict (policy_of x) behaviour work table)) told_first.accepts
+        ∙ ap (λ (t : Terms). cond (short (table_size t) table) (refused 11 0) accepted) (sym told_first.terms)
 
     pub table_short : length table < table_size c → turned 11 0 ≡ valuing_agreed x behaviour work table
     unfolding short
-    table_short l = refuse_table 11 0 (last ∙ rw (lt-ltb _ _ l))
+    table_short l = refuse _ _ _ 11 0 (last ∙ rw (lt-ltb _ _ l))
 
     pub table_passed : table_size c ≤ length table → taken (c, n) ≡ valuing_agreed x behaviour work table
-    unfolding short agreed_by taken_by
+    unfolding short
     table_passed l =
-        rw (last ∙ rw (le-ltb _ _ l)) (λ i. taken (agreed.1 i, agreed.2 i))
+        agree _ _ _ (record { accepts = last ∙ rw (le-ltb _ _ l); terms = told_first.terms; count = told_first.count })
 
 -- ---- what a call answers, on any input: the claim follows from the equations
 pub valuing : (x : Input) (behaviour : ℕ) (work table : List ℕ) {r : Answer} {work' table' : List ℕ}
@@ -280,11 +265,10 @@ module _ (x : Input) (behaviour : ℕ) (work : List ℕ) where
   unfolding valued_answer valued_work answer work_after filled on_success number_of place_of
   no_table_refuses n q e f = no_table (rw e f) (rw e)
 
-  pub no_table_values : {r : Valuation} {work' : List ℕ} {c : Terms} → said ≡ accepted → c ≡ terms_of x.bytes
-      → Worked (behaviour_of behaviour) c (returns_of x.list) (rates_of x.rates) work r work'
+  pub no_table_values : {r : Valuation} {work' : List ℕ} {policy : input.Policy} {b : date.Behaviour} → Passed said x behaviour policy b
+      → Worked (behaviour_in b) (terms_in policy.contract) (returns_of policy.list.now) (rates_of policy.rates.now) work r work'
       → ValuingNoTable x behaviour work (told (Ok r)) work'
   unfolding valued_answer valued_work work_after filled on_success fixed_term layout_of
-  no_table_values {r} {work'} e same w =
-      let v =
-      subst (λ (t : Terms). Worked (behaviour_of behaviour) t (returns_of x.list) (rates_of x.rates) work r work') same w in
-      no_table (rw e v.answer_is) (rw e v.work_is)
+  no_table_values {r} {work'} passed w =
+      let v = of_the_bytes passed (λ d t list rates. Worked d t (returns_of list) (rates_of rates) work r work') w in
+      no_table (rw passed.accepts v.answer_is) (rw passed.accepts v.work_is)

@@ -50,6 +50,23 @@ valuing_agreed x behaviour work table = agreed_by (verdict (valuing_checks (poli
 abbrev pub no_table_agreed : Input → ℕ → List ℕ → Taken (Terms × ℕ)
 no_table_agreed x behaviour work = agreed_by (verdict (no_table_checks (policy_of x) behaviour work)) x.bytes x.list
 
+-- .. by a verdict that accepts
+pub record Passed (v : Verdict) (x : Input) (behaviour : ℕ) (policy : input.Policy) (b : date.Behaviour) : Type 0 where
+  pub accepts : v ≡ accepted
+  pub terms : terms_in policy.contract ≡ terms_of x.bytes
+  pub same : Checked x behaviour (policy, b)
+
+-- what holds of a policy that passed holds of the bytes
+pub of_the_bytes : {v : Verdict} {x : Input} {behaviour : ℕ} {policy : input.Policy} {b : date.Behaviour} → Passed v x behaviour policy b
+    → (P : Behaviour → Terms → List ℕ → List ℕ → Type 0)
+    → P (behaviour_in b) (terms_in policy.contract) policy.list.now policy.rates.now
+    → P (behaviour_of behaviour) (terms_of x.bytes) x.list x.rates
+of_the_bytes {x = x} {policy = policy} {b = b} told P h =
+    subst (λ (d : Behaviour). P d (terms_of x.bytes) x.list x.rates) told.same.behaviour_is
+    (subst (λ (t : Terms). P (behaviour_in b) t x.list x.rates) told.terms
+    (subst (λ (l : List ℕ). P (behaviour_in b) (terms_in policy.contract) l x.rates) told.same.list_is
+    (subst (λ (d : List ℕ). P (behaviour_in b) (terms_in policy.contract) policy.list.now d) told.same.rates_is h)))
+
 -- a working slice that is long enough
 pub record WorkLent (c : Terms) (work : List ℕ) : Type 0 where
   pub room : layer_size c + layer_size c ≤ length work
@@ -107,16 +124,16 @@ module _ (p : Policy State Held) {v : Verdict} (behaviour : ℕ) {work table : L
   reported_refused n q e f = record { answer_is = rw e f; work_is = rw e; table_is = rw e }
 
 -- the policy that was read
-pub reported : (x : Input) {v : Verdict} (behaviour : ℕ) {work table work' table' : List ℕ} {r : Valuation} {c : Terms}
-    → v ≡ accepted → c ≡ terms_of x.bytes → table_size c ≤ length table
-    → Answered (behaviour_of behaviour) c (returns_of x.list) (rates_of x.rates) work table r work' table'
+pub reported : (x : Input) {v : Verdict} (behaviour : ℕ) {work table work' table' : List ℕ} {r : Valuation} {policy : input.Policy}
+    {b : date.Behaviour} → Passed v x behaviour policy b → table_size (terms_in policy.contract) ≤ length table
+    → Answered (behaviour_in b) (terms_in policy.contract) (returns_of policy.list.now) (rates_of policy.rates.now) work table r work' table'
     → Reported (policy_of x) v behaviour work table (told (Ok r)) work' table'
 unfolding valued_answer valued_work valued_table work_after filled on_success entries table_size fixed_term process_of layout_of
-reported x {v} behaviour {work} {table} {work'} {table'} {r} e same room a =
+reported x behaviour {work} {table} {work'} {table'} {r} told room a =
     let b =
-    subst (λ (t : Terms). Answered (behaviour_of behaviour) t (returns_of x.list) (rates_of x.rates) work table r work' table') same a in
+    of_the_bytes told (λ d t list rates. Answered d t (returns_of list) (rates_of rates) work table r work' table') a in
     record {
-      answer_is = rw e b.worked.answer_is;
-      work_is = rw e b.worked.work_is;
-      table_is = rw e (b.table_is (rw (sym same) room));
+      answer_is = rw told.accepts b.worked.answer_is;
+      work_is = rw told.accepts b.worked.work_is;
+      table_is = rw told.accepts (b.table_is (subst (λ (t : Terms). table_size t ≤ length table) told.terms room));
     }

@@ -8,25 +8,23 @@ use Rattle.std.proofs.Math.ListN.{get_or}
 use Rattle.decision.specs.Index.{tabulate}
 use Rattle.slices.specs.Stored.{stored, length_stored, stored_out, stored_zeros}
 use Rattle.slices.specs.Rows.{cells, flat, layer_stored}
-use Rattle.rules.specs.Contract.{Terms, terms_of, returns_of, Input}
-use Rattle.rules.specs.Date.{Behaviour, maturity_value}
+use Rattle.rules.specs.Contract.{Terms, terms_of, Input}
+use Rattle.rules.specs.Date.{maturity_value}
 use Rattle.rules.specs.FixedTerm.{layer_size, fixed_term, layout_of, process_of}
 use Rattle.rules.specs.Refusals.{Verdict, accepted, refused, verdict}
 use Rattle.laws.specs.Bounds.{state_most}
 use Rattle.contract.specs.declared.refusal.Refusal.{Refusal}
 use Rattle.contract.specs.Refusal.{number_in, place_in}
-use Rattle.contract.specs.Reading.{terms_in}
-use Rattle.contract.specs.Accepted.{taken_accepts, turned_refused}
-use Rattle.date.specs.Behaviour.{behaviour_in}
 use Rattle.date.specs.declared.behaviour.Behaviour as date
 use Rattle.input.specs.declared.Policy as input
 use Rattle.input.specs.Read.{agreed_by}
+use Rattle.input.specs.Accepted.{agreed, disagreed}
 use Rattle.expect.specs.Expected.{Values}
 use Rattle.laws.specs.Accepted.{Valid}
-use Rattle.valuing.specs.Answered.{Checked, checked_tells, WorkLent, TableLent}
+use Rattle.valuing.specs.Answered.{Checked, checked_tells, Passed, WorkLent, TableLent}
 use Rattle.rules.specs.Product.{entries}
 use Rattle.laws.specs.Terms.{table_size}
-use Rattle.rules.specs.Operations.{behaviour_of, no_table_checks, valuing_checks}
+use Rattle.rules.specs.Operations.{no_table_checks, valuing_checks}
 use Rattle.rules.specs.Policy.{policy_of}
 use Rattle.laws.specs.Valuing.{valuing_no_table, no_table_room, no_table_read}
 
@@ -81,34 +79,15 @@ settling valid room v most = record {
 }
 
 -- ---- what was read: by any verdict, what passed is what was given ..
-pub record Passed (v : Verdict) (x : Input) (behaviour : ℕ) (policy : input.Policy) (b : date.Behaviour) : Type 0 where
-  pub accepts : v ≡ accepted
-  pub terms : terms_in policy.contract ≡ terms_of x.bytes
-  pub same : Checked x behaviour (policy, b)
+pub passed : {v : Verdict} (x : Input) {behaviour : ℕ} (policy : input.Policy) (b : date.Behaviour)
+    → checked_tells (Ok (policy, b)) ≡ agreed_by v x.bytes x.list → Checked x behaviour (policy, b) → Passed v x behaviour policy b
+passed {v} x policy b e same =
+    let told = agreed v x.bytes x.list _ _ (sym e) in record { accepts = told.accepts; terms = told.terms; same = same }
 
-module _ {v : Verdict} {x : Input} where
-  pub passed : {behaviour : ℕ} {policy : input.Policy} {b : date.Behaviour}
-      → checked_tells (Ok (policy, b)) ≡ agreed_by v x.bytes x.list → Checked x behaviour (policy, b) → Passed v x behaviour policy b
-  unfolding agreed_by
-  passed e same =
-      let both = taken_accepts v (terms_of x.bytes, (returns_of x.list).count) (sym e) in
-      record { accepts = both.0; terms = sym (ap (λ (t : Terms × ℕ). t.0) both.1); same = same }
-
-  -- .. and a refusal is the verdict's
-  pub turned_away : {r : Refusal} → checked_tells (Err r) ≡ agreed_by v x.bytes x.list → v ≡ refused (number_in r) (place_in r)
-  unfolding agreed_by
-  turned_away e = turned_refused v (terms_of x.bytes, (returns_of x.list).count) (sym e)
-
-  -- what holds of a policy that passed holds of the bytes
-  pub of_the_bytes : {behaviour : ℕ} {policy : input.Policy} {b : date.Behaviour} → Passed v x behaviour policy b
-      → (P : Behaviour → Terms → List ℕ → List ℕ → Type 0)
-      → P (behaviour_in b) (terms_in policy.contract) policy.list.now policy.rates.now
-      → P (behaviour_of behaviour) (terms_of x.bytes) x.list x.rates
-  of_the_bytes {behaviour} {policy} {b} told P h =
-      subst (λ (d : Behaviour). P d (terms_of x.bytes) x.list x.rates) told.same.behaviour_is
-      (subst (λ (t : Terms). P (behaviour_in b) t x.list x.rates) told.terms
-      (subst (λ (l : List ℕ). P (behaviour_in b) (terms_in policy.contract) l x.rates) told.same.list_is
-      (subst (λ (d : List ℕ). P (behaviour_in b) (terms_in policy.contract) policy.list.now d) told.same.rates_is h)))
+-- .. and a refusal is the verdict's
+pub turned_away : {v : Verdict} (x : Input) (r : Refusal) → checked_tells (Err r) ≡ agreed_by v x.bytes x.list
+    → v ≡ refused (number_in r) (place_in r)
+turned_away {v} x r e = disagreed v x.bytes x.list (sym e)
 
 -- what a valuation that is accepted was given: with no table ..
 pub work_lent : (x : Input) (behaviour : ℕ) (work : List ℕ) {c : Terms}

@@ -33,7 +33,7 @@ fn margin(value: u64, premium: usize) -> i64
 // The valuation and the working slice, once the first layer holds the values of date 1.
 pub fn settle(work: &mut [u64], policy: Policy) -> Valuation
     requires { Values (terms_in policy.contract) 0 work.old }
-    ensures { Settled (terms_in policy.contract) (returns_of policy.list.now) (rates_of policy.rates.now 0)
+    ensures { Settled (terms_in policy.entry.contract) (returns_of policy.entry.list.now) (rates_of policy.entry.rates.now 0)
         work.old result work.new }
 {
     let c = policy.contract;
@@ -52,8 +52,8 @@ pub fn check_no_table<'a>(
     behaviour: usize,
     work: &[u64],
 ) -> Result<(Policy<'a>, Behaviour), Refusal>
-    ensures tells { checked_tells result ≡ no_table_agreed (input_of input) behaviour work.now }
-    ensures checked { IfOk result (Checked (input_of input) behaviour) }
+    ensures tells { checked_tells result ≡ no_table_agreed (input_of input.entry) behaviour work.now }
+    ensures checked { IfOk result (Checked (input_of input.entry) behaviour) }
 {
     let policy = Policy::read(input)?;
     let behaviour = Behaviour::try_from(behaviour)?;
@@ -70,8 +70,8 @@ pub fn check<'a>(
     work: &[u64],
     table: &[u16],
 ) -> Result<(Policy<'a>, Behaviour), Refusal>
-    ensures tells { checked_tells result ≡ valuing_agreed (input_of input) behaviour work.now table.now }
-    ensures checked { IfOk result (Checked (input_of input) behaviour) }
+    ensures tells { checked_tells result ≡ valuing_agreed (input_of input.entry) behaviour work.now table.now }
+    ensures checked { IfOk result (Checked (input_of input.entry) behaviour) }
 {
     let (policy, behaviour) = check_no_table(input, behaviour, work)?;
     if table.len() < policy.contract.table_size() {
@@ -83,8 +83,8 @@ pub fn check<'a>(
 // Values a policy over a working slice that is long enough and as much of a table as is lent.
 pub fn valued(policy: Policy, behaviour: Behaviour, work: &mut [u64], table: &mut [u16]) -> Valuation
     requires { WorkLent (terms_in policy.contract) work.old }
-    ensures { Answered (behaviour_in behaviour) (terms_in policy.contract) (returns_of policy.list.now)
-        (rates_of policy.rates.now) work.old table.old result work.new table.new }
+    ensures { Answered (behaviour_in behaviour) (terms_in policy.entry.contract) (returns_of policy.entry.list.now)
+        (rates_of policy.entry.rates.now) work.old table.old result work.new table.new }
 {
     let c = policy.contract;
     let mut order = [0u32; Contract::RETURNS_MOST];
@@ -97,8 +97,8 @@ pub fn valued(policy: Policy, behaviour: Behaviour, work: &mut [u64], table: &mu
 // .. over the working slice alone.
 pub fn valued_no_table(policy: Policy, behaviour: Behaviour, work: &mut [u64]) -> Valuation
     requires { WorkLent (terms_in policy.contract) work.old }
-    ensures { Worked (behaviour_in behaviour) (terms_in policy.contract) (returns_of policy.list.now)
-        (rates_of policy.rates.now) work.old result work.new }
+    ensures { Worked (behaviour_in behaviour) (terms_in policy.entry.contract) (returns_of policy.entry.list.now)
+        (rates_of policy.entry.rates.now) work.old result work.new }
 {
     valued(policy, behaviour, work, &mut [])
 }
@@ -110,7 +110,7 @@ pub fn value(
     work: &mut [u64],
     table: &mut [u16],
 ) -> Result<Valuation, Refusal>
-    ensures { Valuing (input_of input) behaviour work.old table.old (told result) work.new table.new }
+    ensures { Valuing (input_of input.entry) behaviour work.old table.old (told result) work.new table.new }
 {
     let (policy, behaviour) = check(input, behaviour, &work[..], &table[..])?;
     Ok(valued(policy, behaviour, work, table))
@@ -118,7 +118,7 @@ pub fn value(
 
 // .. with no table.
 pub fn value_no_table(input: Input, behaviour: usize, work: &mut [u64]) -> Result<Valuation, Refusal>
-    ensures { ValuingNoTable (input_of input) behaviour work.old (told result) work.new }
+    ensures { ValuingNoTable (input_of input.entry) behaviour work.old (told result) work.new }
 {
     let (policy, behaviour) = check_no_table(input, behaviour, &work[..])?;
     Ok(valued_no_table(policy, behaviour, work))

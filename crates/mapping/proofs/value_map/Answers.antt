@@ -1,53 +1,40 @@
 -- `mapping::value_map` meets its contract. Assumes nothing.
-use borrow.Author.Tests.{lt-ltb, le-ltb}
-use mathlib.Core.Path.{sym, ap, ◌∙◌}
 use native.Mathlib.Omega.{arith}
-use Rattle.input.specs.Accepted.{agreed, disagreed}
-use Rattle.contract.specs.Reading.{outcome_in}
-use Rattle.input.specs.Reading.{agreement_tells}
-use Rattle.input.specs.declared.Agreement.{Agreement}
-use Rattle.contract.specs.declared.Outcome.{Outcome}
+use Rattle.std.proofs.lemmas.Result.{err_from_is_err_and}
+use Rattle.input.specs.Reading.{input_of}
 use Rattle.laws.specs.Map.{mapping_refused}
-use Rattle.rules.specs.Refusals.{short}
-use Rattle.valuing.specs.First.{table_lent}
-use Rattle.mapping.specs.Mapped.{map_refusal}
+use Rattle.valuing.specs.First.{turned_away, passed, table_lent}
 use Rattle.mapping.proofs.Laws.{refused_whole, too_short, filled_whole}
 use Rattle.mapping.proofs.value_map.Goals as goal
 
-pub returns-in_default : goal.returns-in_default
-returns-in_default c =
-    let told = c.in_default.is in
-    let outcome = c.outcome.ensures ∙ ap (λ (r : Agreement). outcome_in (agreement_tells r)) told in
-    let refusal = disagreed _ _ _ _ (sym c.check-agreement.ensures ∙ ap agreement_tells told) in
-    refused_whole _ _ _ _ _ _ _ (mapping_refused _ _ _ _ _ refusal)
-    (c.refused.ensures ∙ ap (λ (o : Outcome). map_refusal o.number o.place) outcome)
-
-pub map_size-requires : goal.map_size-requires
-map_size-requires c =
-    (table_lent _ _ _ _ (agreed _ _ _ _ _ (sym c.check-agreement.ensures ∙ ap agreement_tells c.in-Accepted.is))).first.given.valid.terms
+pub returns-in_err-policy : goal.returns-in_err-policy
+returns-in_err-policy c =
+    let p = err_from_is_err_and c.from_residual.result c.from_residual.ensures.1 in
+    rw (p.1, p.2)
+    (refused_whole _ _ _ _ _ _ _ (mapping_refused _ _ _ _ _ (turned_away (input_of c.args.input) _ c.in_err-policy.ensures.tells)))
 
 pub returns-then-map-map_size : goal.returns-then-map-map_size
-unfolding short
 returns-then-map-map_size c =
-    let told = agreed _ _ _ _ _ (sym c.check-agreement.ensures ∙ ap agreement_tells c.in-Accepted.is) in
-    too_short _ _ _ _ _ told (lt-ltb _ _ (rw c.map_size.ensures at c.if-map-map_size.true)) c.refused-then-map-map_size.ensures
+    let told = passed _ _ _ c.in_ok-policy.ensures.tells c.in_ok-policy.ensures.checked in
+    too_short _ _ _ _ _ told (omega (arith, c.map_size.ensures, c.if-map-map_size.true))
 
-pub valued-answer-requires : goal.valued-answer-requires
-valued-answer-requires c =
-    (table_lent _ _ _ _ (agreed _ _ _ _ _ (sym c.check-agreement.ensures ∙ ap agreement_tells c.in-Accepted.is))).first
+pub valued-valuation-requires : goal.valued-valuation-requires
+valued-valuation-requires c =
+    let told = passed _ _ _ c.in_ok-policy.ensures.tells c.in_ok-policy.ensures.checked in
+    (table_lent _ _ _ _ told.accepts told.terms).first
 
 pub fill-count-requires : goal.fill-count-requires
 fill-count-requires c =
-    let given = table_lent _ _ _ _ (agreed _ _ _ _ _ (sym c.check-agreement.ensures ∙ ap agreement_tells c.in-Accepted.is)) in record {
-      valid = given.first.given.valid.terms;
+    let told = passed _ _ _ c.in_ok-policy.ensures.tells c.in_ok-policy.ensures.checked in
+    let given = table_lent _ _ _ _ told.accepts told.terms in record {
+      valid = c.in_ok-policy.policy.contract.in_range;
       entries = omega (arith, given.room_table);
       words = omega (arith, c.map_size.ensures, c.if-map-map_size.false);
     }
 
 pub returns : goal.returns
-unfolding short
 returns c =
-    let told = agreed _ _ _ _ _ (sym c.check-agreement.ensures ∙ ap agreement_tells c.in-Accepted.is) in
+    let told = passed _ _ _ c.in_ok-policy.ensures.tells c.in_ok-policy.ensures.checked in
     let fill = c.fill-count.ensures in
-    filled_whole _ _ _ _ _ told (le-ltb _ _ (rw c.map_size.ensures at c.if-map-map_size.false)) c.valued-answer.ensures
+    filled_whole _ _ _ _ _ told (omega (arith, c.map_size.ensures, c.if-map-map_size.false)) c.valued-valuation.ensures
     fill.count fill.map_after
