@@ -40,18 +40,12 @@ pub struct Contract {
     }) },
 }
 
-fn wide(x: u8) -> usize
-    ensures { (result ≡ x) × (result < 256) }
-{
-    x as usize
-}
-
 // The two bytes from i on, low byte first.
 pub fn word(bytes: &[u8], i: usize) -> usize
     requires { i + 1 < length bytes.now }
     ensures { (result ≡ word bytes.now i) × (result < 65536) }
 {
-    wide(bytes[i]) + 256 * wide(bytes[i + 1])
+    usize::from(u16::from_le_bytes([bytes[i], bytes[i + 1]]))
 }
 
 // The four bytes from i on, low byte first.
@@ -59,7 +53,7 @@ fn long(bytes: &[u8], i: usize) -> usize
     requires { i + 3 < length bytes.now }
     ensures { result ≡ long bytes.now i }
 {
-    word(bytes, i) + 65536 * word(bytes, i + 2)
+    u32::from_le_bytes([bytes[i], bytes[i + 1], bytes[i + 2], bytes[i + 3]]) as usize
 }
 
 pub fn outside(least: usize, most: usize, x: usize) -> bool

@@ -1,8 +1,11 @@
 -- `contract::long` meets its contract. Assumes nothing.
-use borrow.Author.Rules.{rules}
-use Rattle.rules.specs.Contract.{long}
+use Rattle.std.proofs.Common.{◌≡◌, ◌+◌, arith}
+use Rattle.rules.specs.Contract.{word, long}
 use Rattle.contract.proofs.long.Goals as goal
 
 pub returns : goal.returns
-unfolding long
-returns c = search rules
+unfolding word long
+returns c =
+    let e = c.from_le_bytes.ensures in
+    let next : c.args.i + 2 + 1 ≡ c.args.i + 3 = omega arith in
+    rw next (omega arith)

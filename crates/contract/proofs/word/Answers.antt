@@ -5,4 +5,4 @@ use Rattle.contract.proofs.word.Goals as goal
 
 pub returns : goal.returns
 unfolding word
-returns c = ((cc), omega arith)
+returns c = let e = c.from_le_bytes.ensures in (omega arith, omega arith)

@@ -1,10 +1,9 @@
 -- `contract::Contract::read` meets its contract. Assumes nothing.
-use Rattle.std.proofs.Common.{◌≡◌, ap, sym, ◌∙◌, subst, eq-eqb, ne_eqb}
+use Rattle.std.proofs.Common.{◌≡◌, ap, sym, subst, eq-eqb, ne_eqb}
 use Rattle.std.proofs.lemmas.Result.{err_from_is_err_and}
-use Rattle.contract.specs.Refusal.{verdict_in}
 use Rattle.contract.specs.Reading.{taken, record_read, taken_by}
 use Rattle.rules.specs.Contract.{Terms, terms_under, terms_of}
-use Rattle.rules.specs.Refusals.{accepted, verdict, terms_checks, record_checks}
+use Rattle.rules.specs.Refusals.{accepted, verdict, record_checks}
 use Rattle.laws.specs.Accepted.{Valid, all_pass, valid_record}
 use Rattle.contract.proofs.Contract.read.Goals as goal
 use Rattle.contract.proofs.Contract.read.Goals.{After-word-8}
