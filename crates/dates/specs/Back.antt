@@ -71,8 +71,7 @@ pub record Valued (b : Behaviour) (c : Terms) (rs : Returns) (ds : Rates) (work 
   pub rest : (x : ℕ) → layer_size c + layer_size c ≤ x → get_or work' x 0 ≡ get_or work x 0
   pub rest_table : (x : ℕ) → (c.dates - 1) * layer_size c ≤ x → get_or table' x 0 ≡ get_or table x 0
 
-pub record Starting (behaviour : ℕ) (c : Terms) (work : List ℕ) (rs : Returns) (rates : List ℕ) : Type 0 where
-  pub known : behaviour ≤ 2
+pub record Starting (c : Terms) (work : List ℕ) (rs : Returns) (rates : List ℕ) : Type 0 where
   pub given : OrderedInput c rs rates
   pub room : layer_size c + layer_size c ≤ length work
   pub mature : (w a : ℕ) → w ≤ c.top → a ≤ c.premium → cells work 0 (c.premium + 1) w a ≡ maturity_value w a

@@ -1,7 +1,7 @@
 // A value and an amount as one number, and the layers of rows that the states of a date are decided in.
 #![tactic(auto)]
 
-ghost use Rattle.std.specs.Prelude.{◌≡◌, ℕ, ◌+◌, ◌*◌, ◌^◌, ◌<◌, ◌≤◌, max, length, slice_index, slice_set};
+ghost use Rattle.std.specs.Prelude.{◌≡◌, ℕ, ◌+◌, ◌*◌, ◌^◌, ◌<◌, ◌≤◌, max, slice_index};
 ghost use Rattle.slices.specs.Stored.{stored};
 ghost use Rattle.keys.specs.Key.{key, amount_most};
 ghost use Rattle.keys.specs.Sums.{Copying};
@@ -14,6 +14,21 @@ pub struct Date {
     pub level: usize,
     pub rate: usize,
 }
+
+impl Date {
+    // Where the sum of balance x and guarantee y stands.
+    pub fn place(self, x: usize, y: usize) -> usize
+        requires { self.base + (x * self.stride + y) < 2 ^ 64 }
+        ensures { result ≡ self.base + (x * self.stride + y) }
+    {
+        self.base + (x * self.stride + y)
+    }
+}
+
+// How many states a block has at most, and a key for each.
+pub const BLOCK: usize = 512;
+
+pub type Best = [u64; BLOCK];
 
 // n states of account w, from guarantee `from` on.
 #[derive(Clone, Copy)]
@@ -37,33 +52,17 @@ pub fn larger(held: u64, other: u64) -> u64
     requires { (held < 2 ^ 63) × (other < 2 ^ 63) }
     ensures { result ≡ max held other }
 {
-    let less = std::num::wrapping_sub_u64(held, other);
+    let less = held.wrapping_sub(other);
     let back = if less < 9223372036854775808 { 0 } else { less };
-    std::num::wrapping_sub_u64(held, back)
+    held.wrapping_sub(back)
 }
 
-// Where the sum of balance x and guarantee y stands.
-pub fn place(d: Date, x: usize, y: usize) -> usize
-    requires { d.base + (x * d.stride + y) < 2 ^ 64 }
-    ensures { result ≡ d.base + (x * d.stride + y) }
-{
-    d.base + (x * d.stride + y)
-}
-
-// The number at k with `add` more, for state j.
-fn put(best: &mut [u64; 512], j: usize, work: &[u64], k: usize, add: u64)
-    requires { (j < 512) × (k < length work.now) × (slice_index work.now k + add < 2 ^ 63) }
-    ensures { best.new ≡ slice_set best.old j (slice_index work.now k + add) }
-{
-    best[j] = work[k] + add;
-}
-
-// .. for n states from state `low` on.
-pub fn copy(best: &mut [u64; 512], low: usize, work: &[u64], at: usize, n: usize, add: u64)
+// The n numbers from `at` on with `add` more, for the states from `low` on.
+pub fn copy(best: &mut Best, low: usize, work: &[u64], at: usize, n: usize, add: u64)
     requires { Copying work.now low at n add }
     ensures { best.new ≡ stored best.old low (λ (i : ℕ). slice_index work.now (at + i) + add) n }
 {
     for i in 0..n {
-        put(best, low + i, work, at + i, add);
+        best[low + i] = work[at + i] + add;
     }
 }

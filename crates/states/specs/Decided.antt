@@ -1,7 +1,7 @@
 -- The states of a date, decided block by block: the rows from the last one down, each from its first guarantee on. Assumes nothing.
 use Rattle.std.specs.Prelude.{Bool, true, List, ◌⊎◌, ◌≡◌, ℕ, ◌+◌, ◌*◌, ◌≤◌, ◌<◌, length, get_or}
 use Rattle.slices.specs.Rows.{cells, flat}
-use Rattle.rules.specs.Date.{Behaviour}
+use Rattle.rules.specs.Date.{Behaviour, dynamic}
 use Rattle.keys.specs.declared.Date.{Date}
 use Rattle.keys.specs.declared.Block.{Block}
 use Rattle.keys.specs.Sums.{Sums, Span}
@@ -11,16 +11,14 @@ use Rattle.proportion.specs.Share.{Rising}
 use Rattle.dynamic.specs.Block.{Row}
 
 -- row w is to be decided, or the rest of it
-pub record Ready (behaviour : ℕ) (work : List ℕ) (d : Date) (w : ℕ) (rising : Bool) : Type 0 where
-  pub known : behaviour ≤ 2
+pub record Ready (b : Behaviour) (work : List ℕ) (d : Date) (w : ℕ) (rising : Bool) : Type 0 where
   pub layers : Sums work d (w + 1)
-  pub row : behaviour ≡ 2 → Row work d w rising
+  pub row : b ≡ dynamic → Row work d w rising
 
 -- .. a block of it
-pub record Deciding (behaviour : ℕ) (work : List ℕ) (d : Date) (s : Block) (rising : Bool) : Type 0 where
-  pub known : behaviour ≤ 2
+pub record Deciding (b : Behaviour) (work : List ℕ) (d : Date) (s : Block) (rising : Bool) : Type 0 where
   pub span : Span work d s
-  pub row : behaviour ≡ 2 → Row work d s.w rising
+  pub row : b ≡ dynamic → Row work d s.w rising
 
 -- what the dynamic behaviour reads beside the sums of n rows, and whether these rise
 pub record Prepared (work work' : List ℕ) (d : Date) (n : ℕ) (rising : Bool) : Type 0 where

@@ -1,36 +1,23 @@
 -- `walk::walk` meets its contract. Assumes nothing.
-use mathlib.Core.Path.{sym, ap, ◌∙◌}
+use mathlib.Core.Path.{refl, sym}
+use Rattle.std.proofs.lemmas.Result.{err_from_is_err_and}
 use Rattle.input.specs.Accepted.{both_read_lem, disagreed}
-use Rattle.contract.specs.Reading.{outcome_in}
-use Rattle.input.specs.Reading.{agreement_tells}
-use Rattle.input.specs.declared.Agreement.{Agreement}
-use Rattle.walk.specs.Walked.{ready}
 use Rattle.walk.proofs.Laws.{whole, whole_refused}
 use Rattle.walk.proofs.walk.Goals as goal
 
-pub returns-in_default : goal.returns-in_default
-returns-in_default c =
-    let args = c.args in
-    let told = c.in_default.is in
-    let outcome = c.outcome.ensures ∙ ap (λ (r : Agreement). outcome_in (agreement_tells r)) told in
-    let refusal = disagreed _ args.bytes.now args.list.now _
-    (sym c.read-agreement.ensures ∙ ap agreement_tells told) in
-    let w = whole_refused args.bytes.now args.list.now args.table.now args.path.now
-    args.cash.now _ _ _ refusal outcome in
-    record { outcome = w.outcome_is; cash_after = w.cash_is }
-
-pub walked-requires : goal.walked-requires
-walked-requires c =
-    let args = c.args in
-    ready (both_read_lem args.bytes.now args.list.now _ _ (sym c.read-agreement.ensures
-    ∙ ap agreement_tells c.in-Accepted.is))
+pub returns-in_err-read : goal.returns-in_err-read
+returns-in_err-read c =
+    let a = c.args in
+    let p = err_from_is_err_and c.from_residual.result c.from_residual.ensures.1 in
+    let w = whole_refused a.bytes.now a.list.now a.table.now a.path.now a.cash.now
+    (disagreed _ a.bytes.now a.list.now (sym c.in_err-read.ensures.tells)) refl in
+    rw (p.1, p.2) (record { outcome = w.outcome_is; cash_after = w.cash_is })
 
 pub returns : goal.returns
 returns c =
-    let args = c.args in
-    let known = both_read_lem args.bytes.now args.list.now _ _
-    (sym c.read-agreement.ensures
-    ∙ ap agreement_tells c.in-Accepted.is) in
-    let w = whole args.bytes.now args.list.now args.table.now args.path.now args.cash.now _ _
-    known.accepts _ known.terms c.walked.ensures in
+    let a = c.args in
+    let list_is = c.in_ok-read.ensures.list in
+    let known = both_read_lem a.bytes.now a.list.now _ _ (sym c.in_ok-read.ensures.tells) in
+    let w = whole a.bytes.now a.list.now a.table.now a.path.now a.cash.now known.accepts _ known.terms
+    (rw list_is at c.walked.ensures) in
     record { outcome = w.outcome_is; cash_after = w.cash_is }

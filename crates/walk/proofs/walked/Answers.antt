@@ -1,138 +1,102 @@
 -- `walk::walked` meets its contract. Assumes nothing.
-use Prim.Native.Nat.{ℕ, ◌-◌, ◌≤◌, ◌<◌}
-use borrow.Author.Tests.{lt-ltb, le-ltb, eq-eqb, ne_eqb}
-use lib.Dec.{leb, ltb}
-use lib.ListN.{get_or}
-use mathlib.Core.Path.{ap, sym, ◌∙◌}
-use native.Mathlib.Nat.{le_trans, le_of_eq}
-use native.Mathlib.Omega.{arith}
-use Rattle.contract.specs.Reading.{terms_in, outcome_at}
-use Rattle.decision.specs.Index.{first}
+use Prim.Native.Nat.{ℕ, ◌-◌}
+use borrow.Author.Tests.{ne_eqb}
+use lib.Dec.{leb}
+use lib.ListN.{length, get_or}
+use mathlib.Core.Bool.{false}
+use mathlib.Core.Path.{◌≡◌, refl, ap, sym, ◌∙◌}
+use Rattle.std.specs.Prelude.{◌||◌, [], ◌∷◌, Option, None}
+use Rattle.std.proofs.lemmas.Result.{err_from_is_err_and}
+use Rattle.slices.specs.Found.{found}
+use Rattle.contract.specs.Reading.{terms_in}
 use Rattle.rules.specs.Contract.{returns_of}
-use Rattle.laws.specs.Walk.{slices_refused, count_refused, number_refused, date_refused, path_accepted, path_room}
-use Rattle.walk.proofs.Laws.{walked_refused, walked_accepted, walking}
 use Rattle.rules.specs.Product.{bad_date}
-use Rattle.laws.specs.Terms.{living_term}
+use Rattle.rules.specs.Refusals.{short, verdict, check_each}
+use Rattle.laws.specs.Terms.{living_term, table_size}
+use Rattle.laws.specs.Walk.{slices_refused, count_refused, path_verdict, path_room}
+use Rattle.walk.proofs.Laws.{walked_refused, walked_accepted, walking, number_found, amounts_left, none_bad}
 use Rattle.walk.proofs.walked.Goals as goal
+use Rattle.walk.proofs.walked.Goals.{Else-too_short, After-first_missing, In_default}
 
 pub returns-then-too_short : goal.returns-then-too_short
 returns-then-too_short c =
-    let args = c.args in
-    let too_short = c.too_short in
-    walked_refused 11 0 _ (slices_refused (terms_in args.c) (returns_of args.list.now) args.table.now args.path.now
-    args.cash.now (sym too_short.ensures ∙ c.if-too_short.true)) c.outcome.ensures
+    let a = c.args in
+    let x = a.agreement in
+    walked_refused (slices_refused (terms_in x.contract) (returns_of x.list.now) a.table.now a.path.now a.cash.now
+    (sym c.too_short.ensures ∙ c.if-too_short.true)) refl
 
-pub returns-then-path-c : goal.returns-then-path-c
-returns-then-path-c c =
-    let args = c.args in
-    let too_short = c.too_short in
-    let if1 = c.if-too_short in
-    walked_refused 13 _ _ (count_refused (terms_in args.c) (returns_of args.list.now) args.table.now args.path.now
-    args.cash.now (sym too_short.ensures ∙ if1.false) (ne_eqb _ _ c.if-path-c.true)) c.outcome-then-path-c.ensures
+long_enough : (c : Else-too_short)
+    → (short (table_size (terms_in c.args.agreement.contract)) c.args.table.now || short c.args.agreement.contract.dates c.args.cash.now)
+    ≡ false
+long_enough c = sym c.too_short.ensures ∙ c.if-too_short.false
 
-pub returns-then-missing-c : goal.returns-then-missing-c
-returns-then-missing-c c =
-    let args = c.args in
-    let path₀ = args.path.now in
-    let pre = c.requires in
-    let too_short = c.too_short in
-    let if1 = c.if-too_short in
-    let if2 = c.if-path-c in
-    let first-missing = c.first_missing-missing in
-    walked_refused 13 _ _ (number_refused (terms_in args.c) (returns_of args.list.now) args.table.now path₀
-    args.cash.now (sym too_short.ensures ∙ if1.false) (eq-eqb _ _ if2.false)
-    (sym (ap (λ (x : ℕ). ltb x args.c.dates) (first-missing.ensures
-    ∙ ap (λ (k : ℕ). first (λ (j : ℕ). leb k (get_or path₀ j 0)) args.c.dates) pre.counted.all))
-    ∙ lt-ltb _ _ c.if-missing-c.true)) (c.outcome-then-missing-c.ensures
-    ∙ ap (outcome_at 13) (first-missing.ensures ∙ ap (λ (k : ℕ). first (λ (j : ℕ). leb k (get_or path₀ j 0)) args.c.dates)
-    pre.counted.all))
+pub returns-then-path-contract : goal.returns-then-path-contract
+returns-then-path-contract c =
+    let a = c.args in
+    let x = a.agreement in
+    walked_refused (count_refused (terms_in x.contract) (returns_of x.list.now) a.table.now a.path.now a.cash.now
+    (long_enough (goal.at.returns-then-path-contract c).Else-too_short) (ne_eqb _ _ c.if-path-contract.true)) refl
 
-pub first_refused-bad-requires : goal.first_refused-bad-requires
-first_refused-bad-requires c =
-    let args = c.args in
-    let path₀ = args.path.now in
-    let pre = c.requires in
-    let too_short = c.too_short in
-    let if1 = c.if-too_short in
-    let if2 = c.if-path-c in
-    let first-missing = c.first_missing-missing in
-    walking path₀ pre.valid pre.counted (path_room (terms_in args.c) (returns_of args.list.now)
-    args.table.now path₀ args.cash.now (sym too_short.ensures ∙ if1.false)).0 if2.false
-    (le_trans c.if-missing-c.false (le_of_eq first-missing.ensures))
+-- what was found is told of the list's returns
+found_is : (c : After-first_missing)
+    → c.first_missing.result
+    ≡ found (λ (j : ℕ). leb (returns_of c.args.agreement.list.now).count (get_or c.args.path.now j 0)) c.args.agreement.contract.dates
+found_is c =
+    c.first_missing.ensures
+    ∙ ap (λ (n : ℕ). found (λ (j : ℕ). leb n (get_or c.args.path.now j 0)) c.args.agreement.contract.dates) c.returns_in-count.ensures
 
-pub returns-then-bad-c : goal.returns-then-bad-c
-returns-then-bad-c c =
-    let args =
-    c.args in
-    let table₀ = args.table.now in
-    let list₀ = args.list.now in
-    let path₀ = args.path.now in
-    let c₀ = args.c in
-    let pre =
-    c.requires in
-    let too_short = c.too_short in
-    let if1 = c.if-too_short in
-    let if2 = c.if-path-c in
-    let first-missing = c.first_missing-missing in
-    let if3 = c.if-missing-c in
-    let first-refused = c.first_refused-bad in
-    walked_refused 14 _ _ (date_refused (terms_in c₀) (returns_of list₀) table₀ path₀ args.cash.now
-    (sym too_short.ensures ∙ if1.false) (eq-eqb _ _ if2.false)
-    (sym (ap (λ (x : ℕ). ltb x args.c.dates) (first-missing.ensures
-    ∙ ap (λ (k : ℕ). first (λ (j : ℕ). leb k (get_or path₀ j 0)) args.c.dates) pre.counted.all)) ∙ le-ltb _ _ if3.false)
-    (lt-ltb _ _ (let f = first-refused.ensures in let t = c.if-bad-c.true in
-    let z : first (bad_date (living_term (terms_in c₀) (returns_of list₀)) table₀ path₀) (args.c.dates - 1) < args.c.dates - 1 =
-    omega arith in z))) (c.outcome-then-bad-c.ensures ∙ ap (outcome_at 14) first-refused.ensures)
+pub returns-in-Some : goal.returns-in-Some
+returns-in-Some c =
+    let a = c.args in
+    let x = a.agreement in
+    let at = goal.at.returns-in-Some c in
+    walked_refused (number_found (terms_in x.contract) (returns_of x.list.now) a.table.now a.path.now a.cash.now
+    (long_enough at.Else-too_short) c.if-path-contract.false (sym (found_is at.After-first_missing) ∙ c.in-Some.is)) refl
+
+none_missing : (c : In_default)
+    → ◌≡◌ {A = Option ℕ}
+    (found (λ (j : ℕ). leb (returns_of c.args.agreement.list.now).count (get_or c.args.path.now j 0)) c.args.agreement.contract.dates) None
+none_missing c = sym (found_is (goal.at.In_default c).After-first_missing) ∙ c.in_default.is
+
+-- only the amounts are left
+left : (c : In_default)
+    → path_verdict (terms_in c.args.agreement.contract) (returns_of c.args.agreement.list.now) c.args.table.now c.args.path.now
+    c.args.cash.now
+    ≡ verdict (check_each 14 1 (bad_date (living_term (terms_in c.args.agreement.contract) (returns_of c.args.agreement.list.now))
+    c.args.table.now c.args.path.now) (c.args.agreement.contract.dates - 1) ∷ [])
+left c =
+    let a = c.args in
+    let x = a.agreement in
+    amounts_left (terms_in x.contract) (returns_of x.list.now) a.table.now a.path.now a.cash.now
+    (long_enough (goal.at.In_default c).Else-too_short) c.if-path-contract.false (none_missing c)
+
+pub invariant_of-walk : goal.invariant_of-walk
+invariant_of-walk c =
+    let a = c.args in
+    let x = a.agreement in
+    let at = goal.at.invariant_of-walk c in
+    let room = path_room (terms_in x.contract) (returns_of x.list.now) a.table.now a.path.now a.cash.now
+    (long_enough at.Else-too_short) in
+    record { fit = walking x.contract a.path.now x.returns room.0 c.if-path-contract.false (none_missing at.In_default) }
+
+pub returns-in_err-check_dates : goal.returns-in_err-check_dates
+returns-in_err-check_dates c =
+    let p = err_from_is_err_and c.from_residual.result c.from_residual.ensures.1 in
+    rw (p.1, p.2) (walked_refused (left (goal.at.returns-in_err-check_dates c).In_default ∙ sym c.in_err-check_dates.ensures) refl)
 
 pub pay-requires : goal.pay-requires
 pay-requires c =
-    let args =
-    c.args in
-    let table₀ = args.table.now in
-    let path₀ = args.path.now in
-    let list₀ = args.list.now in
-    let cash₀ = args.cash.now in
-    let c₀ = args.c in
-    let pre =
-    c.requires in
-    let too_short = c.too_short in
-    let if1 = c.if-too_short in
-    let if2 = c.if-path-c in
-    let first-missing = c.first_missing-missing in
-    let if3 = c.if-missing-c in
-    let first-refused = c.first_refused-bad in (
-      walking path₀ pre.valid pre.counted (path_room (terms_in c₀) (returns_of list₀) table₀ path₀ cash₀
-          (sym too_short.ensures ∙ if1.false)).0 if2.false (le_trans if3.false (le_of_eq first-missing.ensures)),
-      (path_room (terms_in c₀) (returns_of list₀) table₀ path₀ cash₀ (sym too_short.ensures ∙ if1.false)).1,
-      (let f = first-refused.ensures in let t = c.if-bad-c.false in
-          let z : args.c.dates - 1 ≤ first (bad_date (living_term (terms_in c₀) (returns_of list₀)) table₀ path₀) (args.c.dates - 1) =
-          omega arith in z),
-    )
+    let a = c.args in
+    let x = a.agreement in
+    let room = path_room (terms_in x.contract) (returns_of x.list.now) a.table.now a.path.now a.cash.now
+    (long_enough (goal.at.pay-requires c).Else-too_short) in
+    (room.1, none_bad _ _ c.in_ok-check_dates.ensures)
 
 pub returns : goal.returns
 returns c =
-    let args =
-    c.args in
-    let table₀ = args.table.now in
-    let list₀ = args.list.now in
-    let path₀ = args.path.now in
-    let cash₀ = args.cash.now in
-    let c₀ = args.c in
-    let pre =
-    c.requires in
-    let too_short =
-    c.too_short in
-    let if1 = c.if-too_short in
-    let if2 = c.if-path-c in
-    let first-missing = c.first_missing-missing in
-    let if3 = c.if-missing-c in
-    let first-refused = c.first_refused-bad in
-    let if4 = c.if-bad-c in
-    let pay = c.pay in
-    walked_accepted _ _ (path_accepted (terms_in c₀) (returns_of list₀) table₀ path₀ cash₀ (sym too_short.ensures ∙ if1.false)
-    (eq-eqb _ _ if2.false) (sym (ap (λ (x : ℕ). ltb x args.c.dates)
-    (first-missing.ensures ∙ ap (λ (k : ℕ). first (λ (j : ℕ). leb k (get_or path₀ j 0)) args.c.dates) pre.counted.all))
-    ∙ le-ltb _ _ if3.false) (le-ltb _ _ (let f = first-refused.ensures in let t = if4.false in
-    let z : args.c.dates - 1 ≤ first (bad_date (living_term (terms_in c₀) (returns_of list₀)) table₀ path₀) (args.c.dates - 1) =
-    omega arith in z))) pre.valid.dates_least (path_room (terms_in c₀) (returns_of list₀) table₀ path₀ cash₀
-    (sym too_short.ensures ∙ if1.false)).1 c.outcome-2.ensures pay.ensures
+    let a = c.args in
+    let x = a.agreement in
+    let at = goal.at.returns c in
+    let room = path_room (terms_in x.contract) (returns_of x.list.now) a.table.now a.path.now a.cash.now
+    (long_enough at.Else-too_short) in
+    walked_accepted _ (left at.In_default ∙ sym c.in_ok-check_dates.ensures) x.contract.in_range.dates_least room.1 refl c.pay.ensures
