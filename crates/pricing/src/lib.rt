@@ -1,23 +1,25 @@
 // The smallest fee whose value does not exceed a wanted one.
 #![tactic(auto)]
 
-ghost use Rattle.std.specs.Prelude.{◌≡◌, ◌+◌, ◌≤◌};
+ghost use Rattle.std.specs.Prelude.{◌≡◌, ◌≤◌};
 ghost use Rattle.decision.specs.Bisection.{half};
 ghost use Rattle.rules.specs.Contract.{rate_most, returns_of, rates_of};
-ghost use Rattle.rules.specs.Operations.{behaviour_of};
 ghost use Rattle.laws.specs.Terms.{with_fee};
+ghost use Rattle.date.specs.Behaviour.{behaviour_in};
 ghost use Rattle.contract.specs.Reading.{terms_in};
+ghost use Rattle.input.specs.Reading.{input_of};
 ghost use Rattle.valuing.specs.Answered.{WorkLent};
-ghost use Rattle.pricing.specs.Priced.{fee_refusal, narrowed, Found, Pricing};
+ghost use Rattle.pricing.specs.Priced.{told_fee, narrowed, Found, Pricing};
 
-use contract::{Contract, Outcome};
-use input::Agreement;
-use valuing::Answer;
+use contract::{Contract, Refusal};
+use date::Behaviour;
+use input::{Input, Policy};
+use valuing::Valuation;
 
-// The answer of valuing under a fee, and the fee.
+// What a contract is worth under a fee, and the fee.
 #[derive(Clone, Copy)]
 pub struct Priced {
-    pub answer: Answer,
+    pub valuation: Valuation,
     pub fee: u64,
 }
 
@@ -26,108 +28,83 @@ pub struct Priced {
 struct Bracket {
     low: usize,
     high: usize,
-    found: Priced,
+    found: Option<Priced>,
 }
 
-fn refused(outcome: Outcome) -> Priced
-    ensures { result ≡ fee_refusal outcome.number outcome.place }
+// The same policy, under another fee.
+fn with_fee<'a>(policy: Policy<'a>, fee: usize) -> Policy<'a>
+    requires { fee ≤ rate_most }
+    ensures terms { terms_in result.contract ≡ with_fee (terms_in policy.entry.contract) fee }
+    ensures list { result.list.now ≡ policy.entry.list.now }
+    ensures rates { result.rates.now ≡ policy.entry.rates.now }
 {
-    let answer = valuing::refused(outcome);
-    Priced { answer, fee: 0 }
-}
-
-fn with_fee(c: Contract, fee: usize) -> Contract
-    ensures { terms_in result ≡ with_fee (terms_in c) fee }
-{
-    let mut other = c;
-    other.fee = fee;
-    other
+    let mut contract = policy.contract;
+    contract.fee = fee;
+    Policy {
+        contract,
+        list: policy.list,
+        rates: policy.rates,
+    }
 }
 
 // The search once a fee between its ends is valued.
-fn narrow(s: Bracket, fee: usize, answer: Answer, wanted: u64) -> Bracket
+fn narrow(s: Bracket, fee: usize, valuation: Valuation, wanted: u64) -> Bracket
     requires { fee ≤ rate_most }
-    ensures { result ≡ narrowed s fee answer wanted }
+    ensures { result ≡ narrowed s fee valuation wanted }
 {
-    if wanted < answer.value {
-        let found = s.found;
-        return Bracket {
-            low: fee + 1,
-            high: s.high,
-            found,
-        };
+    if wanted < valuation.value {
+        return Bracket { low: fee + 1, ..s };
     }
+    let found = Priced {
+        valuation,
+        fee: fee as u64,
+    };
     Bracket {
-        low: s.low,
         high: fee,
-        found: Priced {
-            answer,
-            fee: fee as u64,
-        },
+        found: Some(found),
+        ..s
     }
 }
 
 // The largest power of two that is at most n.
 fn power_within(n: usize) -> usize
-    requires { (1 ≤ n) × (n ≤ rate_most + 1) }
+    requires { 1 ≤ n }
     ensures { result ≡ half n }
 {
-    let mut power = 1;
-    while power <= n / 2 {
-        power = 2 * power;
-    }
-    power
+    2usize.pow(n.ilog2())
 }
 
 // The smallest fee, by halves: a larger fee never gives a larger value. It starts as if 10,001 were found, which is none. What is
 // left is cut by a power of two from the top, so that small fees, which are usual, are found with fewer valuations.
-fn search(
-    c: Contract,
-    list: &[u8],
-    rates: &[u8],
-    behaviour: usize,
-    wanted: u64,
-    work: &mut [u64],
-) -> Priced
-    requires { WorkLent behaviour (terms_in c) list.now rates.now work.old }
-    ensures { Found (terms_in c) (returns_of list.now) (rates_of rates.now) (behaviour_of behaviour) wanted
-        work.old result work.new }
+fn search(policy: Policy, behaviour: Behaviour, wanted: u64, work: &mut [u64]) -> Option<Priced>
+    requires { WorkLent (terms_in policy.contract) work.old }
+    ensures { Found (terms_in policy.entry.contract) (returns_of policy.entry.list.now)
+        (rates_of policy.entry.rates.now) (behaviour_in behaviour) wanted work.old result work.new }
 {
     let mut s = Bracket {
         low: 0,
         high: Contract::RATE_MOST + 1,
-        found: refused(Outcome {
-            number: 19,
-            place: 0,
-        }),
+        found: None,
     };
-    while 0 < s.high - s.low {
-        let high = s.high;
-        let fee = high - power_within(high - s.low);
-        let answer = valuing::valued_no_table(with_fee(c, fee), list, rates, behaviour, work);
-        s = narrow(s, fee, answer, wanted);
+    while s.low < s.high {
+        let fee = s.high - power_within(s.high - s.low);
+        let valuation = valuing::valued_no_table(with_fee(policy, fee), behaviour, work);
+        s = narrow(s, fee, valuation, wanted);
     }
     s.found
 }
 
-// Finds the smallest fee from 0 to 10,000 whose value is at most `wanted`: answers number, place, value and margin, and the fee.
-// The working slice is then zeros.
+// Finds the smallest fee from 0 to 10,000 whose value is at most `wanted`. The working slice is then zeros.
 pub fn find_fee(
-    bytes: &[u8],
-    list: &[u8],
-    rates: &[u8],
+    input: Input,
     behaviour: usize,
     wanted: u64,
     work: &mut [u64],
-) -> Priced
-    ensures { Pricing (record { bytes = bytes.entry.now; list = list.now; rates = rates.now }) behaviour wanted
-        work.old result work.new }
+) -> Result<Priced, Refusal>
+    ensures { Pricing (input_of input.entry) behaviour wanted work.old (told_fee result) work.new }
 {
-    let agreement = valuing::check_no_table(bytes, list, rates, behaviour, &work[..]);
-    let Agreement::Accepted(c, _) = agreement else {
-        return refused(agreement.outcome());
-    };
-    let found = search(c, list, rates, behaviour, wanted, work);
-    dates::clear(work, 0, 2 * c.layer_size());
-    found
+    let (policy, behaviour) = valuing::check_no_table(input, behaviour, &work[..])?;
+    let found = search(policy, behaviour, wanted, work);
+    dates::clear(work, 0, 2 * policy.contract.layer_size());
+    found.ok_or(Refusal::NoFee)
 }

@@ -2,8 +2,8 @@
 use borrow.Author.Tests.{lt-ltb, le-ltb}
 use Rattle.pricing.proofs.narrow.Goals as goal
 
-pub returns-then-wanted-answer : goal.returns-then-wanted-answer
-returns-then-wanted-answer c = rw (lt-ltb _ _ c.if-wanted-answer.true)
+pub returns-then-wanted-valuation : goal.returns-then-wanted-valuation
+returns-then-wanted-valuation c = rw (lt-ltb _ _ c.if-wanted-valuation.true)
 
 pub returns : goal.returns
-returns c = rw (le-ltb _ _ c.if-wanted-answer.false)
+returns c = rw (le-ltb _ _ c.if-wanted-valuation.false)
