@@ -1,13 +1,20 @@
--- A slice of which every entry is stored. Assumes nothing.
-use mathlib.Core.List.{List, ◌++◌, append-nil}
-use mathlib.Core.Path.{◌≡◌, ap, ◌∙◌}
-use Prim.Native.Nat.{ℕ, ◌+◌}
-use native.Mathlib.Omega.{arith}
-use lib.ListN.{length, drop_of_length-le}
-use lib.Seq.{sets, sets-eq}
+-- Numbers written by their bytes. Assumes nothing.
+use Rattle.std.proofs.Common.{◌≡◌, List, [], ◌∷◌, ◌/◌, ◌%◌, ℕ, length, drop, length-drop, arith}
+use Rattle.std.proofs.Math.ListN.{drop_of_length-le}
+use Rattle.std.specs.Int.{w16, w32, to_le_bytes}
+use Rattle.rules.specs.Contract.{bytes_of}
 
-pub all_stored : (l vs : List ℕ) → length l ≡ length vs → sets l 0 vs ≡ vs
-all_stored l vs e =
-    sets-eq vs l 0 (omega arith)
-    ∙ ap (λ (r : List ℕ). vs ++ r) (drop_of_length-le l {i = 0 + length vs} (omega arith))
-    ∙ append-nil vs
+pub two_bytes : (x : ℕ) → to_le_bytes w16 x ≡ bytes_of 2 x
+unfolding bytes_of
+two_bytes x = λ i. x % 256 ∷ x / 256 % 256 ∷ []
+
+pub four_bytes : (x : ℕ) → to_le_bytes w32 x ≡ bytes_of 4 x
+unfolding bytes_of
+four_bytes x =
+    let third : x / 65536 % 256 ≡ x / 256 / 256 % 256 = omega arith in
+    let fourth : x / 16777216 % 256 ≡ x / 256 / 256 / 256 % 256 = omega arith in
+    rw (third, fourth)
+
+-- nothing stands behind the sixteenth byte
+pub end_of : (l : List ℕ) → length l ≡ 16 → drop 4 (drop 2 (drop 2 (drop 4 (drop 4 l)))) ≡ []
+end_of l e = drop_of_length-le (drop 2 (drop 2 (drop 4 (drop 4 l)))) {i = 4} (simp length-drop (omega arith))

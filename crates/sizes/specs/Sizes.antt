@@ -1,5 +1,5 @@
 -- The sizes that are told, in the words of the rules, and that they are enough. Assumes nothing.
-use Rattle.std.specs.Prelude.{Bool, true, false, ◌||◌, List, ◌↔◌, ◌≡◌, refl, ℕ, ◌*◌, ◌≤◌, T, length}
+use Rattle.std.specs.Prelude.{Bool, Result, Ok, Err, true, false, ◌||◌, List, ◌↔◌, ◌≡◌, refl, ℕ, ◌*◌, ◌≤◌, T, length}
 use Rattle.std.proofs.Common.{subst, ltb-false, le-ltb}
 use Rattle.rules.specs.Contract.{Input, Terms, terms_of}
 use Rattle.rules.specs.Product.{entries}
@@ -10,11 +10,14 @@ use Rattle.rules.specs.Policy.{policy_of}
 use Rattle.rules.specs.Map.{map_size}
 use Rattle.rules.specs.Sizes.{Sizes, sizes_of, record_policy}
 use Rattle.laws.specs.Terms.{table_size, frame}
+use Rattle.contract.specs.declared.refusal.Refusal.{Refusal}
+use Rattle.contract.specs.Refusal.{number_in}
 use Rattle.sizes.specs.declared.Sizes as declared
 
--- the struct and the record of the rules hold the same fields
-abbrev pub sizes_in : declared.Sizes → Sizes
-sizes_in s = record { number = s.number; work = s.work; table = s.table; map = s.map }
+-- EACH CASE OF A RESULT: number 0 with the sizes, or the refusal's number with zeros
+abbrev pub sizes_in : Result declared.Sizes Refusal → Sizes
+sizes_in (Ok s) = record { number = 0; work = s.work; table = s.table; map = s.map }
+sizes_in (Err r) = record { number = number_in r; work = 0; table = 0; map = 0 }
 
 module _ (bytes : List ℕ) where
   pub sizes_refused : {n p : ℕ} → verdict (record_checks bytes) ≡ refused n p

@@ -1,18 +1,15 @@
 -- `booking::fill` meets its contract. Assumes nothing.
-use lib.Seq.{sets}
-use mathlib.Core.List.{List, ◌++◌}
-use mathlib.Core.Path.{ap, ◌∙◌}
-use Prim.Native.Nat.{ℕ}
-use Rattle.rules.specs.Contract.{bytes_of}
-use Rattle.booking.proofs.Laws.{all_stored}
+use Rattle.std.proofs.Common.{List, ◌++◌, ◌∷◌, ℕ, ap, sym}
+use Rattle.std.specs.Int.{w16, w32, to_le_bytes}
+use Rattle.booking.proofs.Laws.{two_bytes, four_bytes, end_of}
 use Rattle.booking.proofs.fill.Goals as goal
 
 pub returns : goal.returns
-unfolding bytes_of
 returns c =
-    let start = c in
-    let x = start.args in
-    let behind = bytes_of 2 x.balance ++ bytes_of 2 x.guarantee ++ bytes_of 4 0 in
-    c.fill_state.ensures
-    ∙ ap (λ (l : List ℕ). sets l 8 behind) c.fill_money.ensures
-    ∙ all_stored x.buffer.now (bytes_of 4 x.cash ++ bytes_of 4 x.penalty ++ behind) start.requires
+    let x = c.args in
+    rw (c.copy_from_slice.ensures.after, c.copy_from_slice-2.ensures.after, c.copy_from_slice-3.ensures.after)
+    (rw (c.copy_from_slice-4.ensures.after, c.copy_from_slice-5.ensures.after)
+    (rw (c.to_le_bytes.ensures, c.to_le_bytes-2.ensures, c.to_le_bytes-3.ensures, c.to_le_bytes-4.ensures)
+    (rw (sym (four_bytes x.cash), sym (four_bytes x.penalty), sym (two_bytes x.balance), sym (two_bytes x.guarantee), sym (four_bytes 0))
+    (ap (λ (end : List ℕ). to_le_bytes w32 x.cash ++ to_le_bytes w32 x.penalty ++ to_le_bytes w16 x.balance
+    ++ to_le_bytes w16 x.guarantee ++ 0 ∷ 0 ∷ 0 ∷ 0 ∷ end) (end_of x.buffer.now c.requires.sixteen)))))
