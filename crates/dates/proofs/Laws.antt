@@ -16,7 +16,6 @@ use Rattle.rules.specs.Contract.{Terms, Returns, Rates, rates_of}
 use Rattle.rules.specs.Date.{Behaviour}
 use Rattle.rules.specs.Product.{recorded_amount}
 use Rattle.rules.specs.FixedTerm.{rate_in, layer_size, fixed_term}
-use Rattle.rules.specs.Operations.{behaviour_of}
 use Rattle.laws.specs.Step.{rate_le}
 use Rattle.laws.specs.Accepted.{Valid}
 use Rattle.laws.specs.Date.{shared, shared_le}
@@ -174,8 +173,8 @@ dated {b} {c} {rs} ds {i} {work} {table} {work₁} {work'} {table'} is s x =
     }
 
 -- ---- from one date to the date before it
-module _ {behaviour : ℕ} {c : Terms} {work₀ table₀ work table : List ℕ} {rs : Returns} {rates : List ℕ}
-    (s : Starting behaviour c work₀ rs rates) {i : ℕ} (v : Valued (behaviour_of behaviour) c rs (rates_of rates) work₀ table₀ work table i)
+module _ {behaviour : Behaviour} {c : Terms} {work₀ table₀ work table : List ℕ} {rs : Returns} {rates : List ℕ}
+    (s : Starting c work₀ rs rates) {i : ℕ} (v : Valued behaviour c rs (rates_of rates) work₀ table₀ work table i)
   where
     pub dating : i < c.dates → OneDate c i work rs rates
     dating before = record {
@@ -185,14 +184,14 @@ module _ {behaviour : ℕ} {c : Terms} {work₀ table₀ work table : List ℕ} 
         layers = record { valid = s.given.valid.terms; room = omega (arith, s.room, v.long) };
         small = λ w a h k.
             le_trans (le_of_eq (v.values w a h k))
-            (subst (λ (n : ℕ). values_on c rs (rates_of rates) (behaviour_of behaviour) (suc i) w a ≤ state_most c n)
+            (subst (λ (n : ℕ). values_on c rs (rates_of rates) behaviour (suc i) w a ≤ state_most c n)
             (sym (add-one i))
-            (values_most c rs (rates_of rates) (behaviour_of behaviour) s.given.valid (suc i) w a h k));
+            (values_most c rs (rates_of rates) behaviour s.given.valid (suc i) w a h k));
       };
     }
 
     module _ {from to : ℕ} (p : LentLayer c i (length table) from to) (some : 0 < i) (before : i < c.dates) (work₁ part₁ : List ℕ)
-        (d : Dated (behaviour_of behaviour) c rs (rates_of rates) i work (mid_of from (to - from) table) work₁ part₁)
+        (d : Dated behaviour c rs (rates_of rates) i work (mid_of from (to - from) table) work₁ part₁)
       where
         starts : from ≤ to
         starts = omega (arith, p.start, p.end)
@@ -210,23 +209,23 @@ module _ {behaviour : ℕ} {c : Terms} {work₀ table₀ work table : List ℕ} 
         sums_are : (x y : ℕ) → y ≤ c.premium
             → expected c rs (shared (rates_of rates i) (cells work 0 (c.premium + 1))) x y
             ≡ expected c rs
-            (shared (rates_of rates i) (values_on c rs (rates_of rates) (behaviour_of behaviour) (suc i))) x y
+            (shared (rates_of rates i) (values_on c rs (rates_of rates) behaviour (suc i))) x y
         sums_are x y k = shared_same c rs (rates_of rates i) _ _ x y (λ w h. v.values w y h k)
 
         value_is : (w a : ℕ) → w ≤ c.top → a ≤ c.premium
-            → cells work₁ 0 (c.premium + 1) w a ≡ values_on c rs (rates_of rates) (behaviour_of behaviour) i w a
+            → cells work₁ 0 (c.premium + 1) w a ≡ values_on c rs (rates_of rates) behaviour i w a
         value_is w a h k =
             d.values w a h k
-            ∙ value_same (behaviour_of behaviour) _ _ (rate_in c i) c.level w a (λ x y p q. sums_are x y (le_trans q k))
-            ∙ value_back c rs (rates_of rates) (behaviour_of behaviour) i w a (s.given.valid.rates.rate i) before
+            ∙ value_same behaviour _ _ (rate_in c i) c.level w a (λ x y p q. sums_are x y (le_trans q k))
+            ∙ value_back c rs (rates_of rates) behaviour i w a (s.given.valid.rates.rate i) before
 
         amount_is : (w a : ℕ) → w ≤ c.top → a ≤ c.premium → w * (c.premium + 1) + a < to - from
             → cells part₁ 0 (c.premium + 1) w a
-            ≡ recorded_amount (fixed_term c rs (rates_of rates)) (behaviour_of behaviour) i (at w a)
+            ≡ recorded_amount (fixed_term c rs (rates_of rates)) behaviour i (at w a)
         amount_is w a h k l =
             d.amounts w a h k (omega (arith, mid_len from to table ends))
-            ∙ amount_same (behaviour_of behaviour) _ _ (rate_in c i) c.level w a (λ x y p q. sums_are x y (le_trans q k))
-            ∙ amount_back c rs (rates_of rates) (behaviour_of behaviour) i w a (s.given.valid.rates.rate i)
+            ∙ amount_same behaviour _ _ (rate_in c i) c.level w a (λ x y p q. sums_are x y (le_trans q k))
+            ∙ amount_back c rs (rates_of rates) behaviour i w a (s.given.valid.rates.rate i)
 
         -- entries behind the layer
         behind : (x n : ℕ) → i ≤ n → n * layer_size c ≤ x → get_or (put_mid from (to - from) table part₁) x 0 ≡ get_or table x 0
@@ -238,7 +237,7 @@ module _ {behaviour : ℕ} {c : Terms} {work₀ table₀ work table : List ℕ} 
         amount_at : (j w a : ℕ) → j < c.dates → w ≤ c.top → a ≤ c.premium → Dec (i + 1 ≤ j) → i ≤ j
             → (j - 1) * layer_size c + (w * (c.premium + 1) + a) < length table
             → get_or (put_mid from (to - from) table part₁) ((j - 1) * layer_size c + (w * (c.premium + 1) + a)) 0
-            ≡ recorded_amount (fixed_term c rs (rates_of rates)) (behaviour_of behaviour) j (at w a)
+            ≡ recorded_amount (fixed_term c rs (rates_of rates)) behaviour j (at w a)
         amount_at j w a q h k (yes y) m room =
             behind _ (j - 1) (omega arith) (omega arith) ∙ v.amounts j w a (omega arith) q h k (omega (arith, v.long_table))
         amount_at j w a q h k (no y) m room =
@@ -251,24 +250,24 @@ module _ {behaviour : ℕ} {c : Terms} {work₀ table₀ work table : List ℕ} 
             ∙ put_in from to table part₁ starts ends part_long (w * (c.premium + 1) + a) inside
             ∙ ap (λ (x : ℕ). get_or part₁ x 0) (sym (zero-add (w * (c.premium + 1) + a)))
             ∙ amount_is w a h k inside
-            ∙ ap (λ (n : ℕ). recorded_amount (fixed_term c rs (rates_of rates)) (behaviour_of behaviour) n (at w a)) (sym e)
+            ∙ ap (λ (n : ℕ). recorded_amount (fixed_term c rs (rates_of rates)) behaviour n (at w a)) (sym e)
 
         pub valued_before :
-            Valued (behaviour_of behaviour) c rs (rates_of rates) work₀ table₀ work₁ (put_mid from (to - from) table part₁)
+            Valued behaviour c rs (rates_of rates) work₀ table₀ work₁ (put_mid from (to - from) table part₁)
             (i - 1)
         valued_before = record {
           long = d.long ∙ v.long;
           long_table = put_long from to table part₁ starts ends part_long ∙ v.long_table;
           values = λ w a h k. value_is w a h k
-              ∙ ap (λ (n : ℕ). values_on c rs (rates_of rates) (behaviour_of behaviour) n w a) (sym up);
+              ∙ ap (λ (n : ℕ). values_on c rs (rates_of rates) behaviour n w a) (sym up);
           amounts = λ j w a p q h k room. amount_at j w a q h k (dec_le (i + 1) j) (omega arith) (omega (arith, v.long_table));
           rest = λ x h. d.rest x h ∙ v.rest x h;
           rest_table = λ x h. behind x (c.dates - 1) (omega arith) h ∙ v.rest_table x h;
         }
 
 -- before the first of them, the last date is valued
-pub valued_none : {behaviour : ℕ} {c : Terms} {work table : List ℕ} {rs : Returns} {rates : List ℕ} → Starting behaviour c work rs rates
-    → Valued (behaviour_of behaviour) c rs (rates_of rates) work table work table (c.dates - 1)
+pub valued_none : {behaviour : Behaviour} {c : Terms} {work table : List ℕ} {rs : Returns} {rates : List ℕ} → Starting c work rs rates
+    → Valued behaviour c rs (rates_of rates) work table work table (c.dates - 1)
 valued_none {behaviour} {c} {work} {table} {rs} {rates} s =
     let last : suc (c.dates - 1) ≡ c.dates = omega (arith, s.given.valid.terms.dates_least) in
     record {
@@ -276,8 +275,8 @@ valued_none {behaviour} {c} {work} {table} {rs} {rates} s =
       long_table = refl;
       values = λ w a h k.
           s.mature w a h k
-          ∙ sym (maturity_is c rs (rates_of rates) (behaviour_of behaviour) w a)
-          ∙ ap (λ (n : ℕ). values_on c rs (rates_of rates) (behaviour_of behaviour) n w a) (sym last);
+          ∙ sym (maturity_is c rs (rates_of rates) behaviour w a)
+          ∙ ap (λ (n : ℕ). values_on c rs (rates_of rates) behaviour n w a) (sym last);
       amounts = λ j w a p q h k room. absurd (omega arith);
       rest = λ x h. refl;
       rest_table = λ x h. refl;

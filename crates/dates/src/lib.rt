@@ -6,18 +6,18 @@ ghost use Rattle.slices.specs.Stored.{stored};
 ghost use Rattle.slices.specs.Rows.{flat};
 ghost use Rattle.rules.specs.Contract.{top_most, rates_of};
 ghost use Rattle.rules.specs.Date.{maturity_value};
-ghost use Rattle.rules.specs.Operations.{behaviour_of};
+ghost use Rattle.date.specs.Behaviour.{behaviour_in};
 ghost use Rattle.contract.specs.Reading.{terms_in};
 ghost use Rattle.returns.specs.Sorted.{in_order};
 ghost use Rattle.dates.specs.Dated.{OneDate, date_of, Summed, Dated};
 ghost use Rattle.dates.specs.Back.{Valued, Starting};
 ghost use Rattle.dates.specs.Layer.{DateLayer, LentLayer};
-ghost use Rattle.laws.specs.Accepted.{Valid};
 
 use contract::Contract;
+use date::Behaviour;
 use keys::Date;
 
-// The maturity values of account w.
+// The maturity values of account w. By index: each is of w and a.
 fn maturity_row(work: &mut [u64], stride: usize, w: usize)
     requires { (w ≤ top_most) × (stride ≤ top_most + 1) × (w * stride + stride ≤ length work.old) }
     ensures { work.new ≡ stored work.old (w * stride) (maturity_value w) stride }
@@ -41,9 +41,7 @@ pub fn clear(work: &mut [u64], from: usize, n: usize)
     requires { from + n ≤ length work.old }
     ensures { work.new ≡ stored work.old from (λ (i : ℕ). 0) n }
 {
-    for i in 0..n {
-        work[from + i] = 0;
-    }
+    work[from..from + n].fill(0);
 }
 
 // The discounted sums of date i, in the second layer, over the next date's values, each with its share at death. Gives where they
@@ -67,7 +65,7 @@ pub fn sum_date(work: &mut [u64], order: &[u32], rates: &[u8], c: Contract, i: u
 
 // The values and amounts of date i.
 fn one_date(
-    behaviour: usize,
+    behaviour: Behaviour,
     work: &mut [u64],
     table: &mut [u16],
     order: &[u32],
@@ -75,15 +73,15 @@ fn one_date(
     c: Contract,
     i: usize,
 )
-    requires { (behaviour ≤ 2) × OneDate (terms_in c) i work.old (in_order order.now) rates.now }
-    ensures { Dated (behaviour_of behaviour) (terms_in c) (in_order order.now) (rates_of rates.now) i
+    requires { OneDate (terms_in c) i work.old (in_order order.now) rates.now }
+    ensures { Dated (behaviour_in behaviour) (terms_in c) (in_order order.now) (rates_of rates.now) i
         work.old table.old work.new table.new }
 {
     let d = sum_date(work, order, rates, c, i);
     states::decide_layer(behaviour, work, table, d, c.top + 1);
 }
 
-// Where a part of the table starts and ends.
+// Where a part of the table starts and ends. Copied, as no Range is.
 #[derive(Clone, Copy)]
 pub struct Part {
     pub from: usize,
@@ -92,7 +90,7 @@ pub struct Part {
 
 // The layer of date i.
 pub fn layer_of(c: Contract, i: usize) -> Part
-    requires { Valid (terms_in c) × (0 < i) × (i < c.dates) }
+    requires { (0 < i) × (i < c.dates) }
     ensures { DateLayer (terms_in c) i result.from result.to }
 {
     let size = c.layer_size();
@@ -105,7 +103,7 @@ pub fn layer_of(c: Contract, i: usize) -> Part
 
 // .. as far as `lent` entries of a table go.
 fn lent_layer(c: Contract, i: usize, lent: usize) -> Part
-    requires { Valid (terms_in c) × (0 < i) × (i < c.dates) }
+    requires { (0 < i) × (i < c.dates) }
     ensures { LentLayer (terms_in c) i lent result.from result.to }
 {
     let part = layer_of(c, i);
@@ -117,23 +115,27 @@ fn lent_layer(c: Contract, i: usize, lent: usize) -> Part
 
 // Every decision date, from the last to the first, each in its own layer of the table, if one is lent.
 pub fn all_dates(
-    behaviour: usize,
+    behaviour: Behaviour,
     work: &mut [u64],
     table: &mut [u16],
     order: &[u32],
     rates: &[u8],
     c: Contract,
 )
-    requires { Starting behaviour (terms_in c) work.old (in_order order.now) rates.now }
-    ensures { Valued (behaviour_of behaviour) (terms_in c) (in_order order.now) (rates_of rates.now)
+    requires { Starting (terms_in c) work.old (in_order order.now) rates.now }
+    ensures { Valued (behaviour_in behaviour) (terms_in c) (in_order order.now) (rates_of rates.now)
         work.old table.old work.new table.new 0 }
 {
-    let mut i = c.dates - 1;
-    while 0 < i {
+    for i in (1..c.dates).rev() {
         let part = lent_layer(c, i, table.len());
-        let from = part.from;
-        let to = part.to;
-        one_date(behaviour, work, &mut table[from..to], order, rates, c, i);
-        i -= 1;
+        one_date(
+            behaviour,
+            work,
+            &mut table[part.from..part.to],
+            order,
+            rates,
+            c,
+            i,
+        );
     }
 }

@@ -66,17 +66,16 @@ pub entry_kept : {work' : List ℕ} (work : List ℕ) (from j : ℕ) (g : ℕ �
     → get_or work' (from + j) 0 ≡ get_or work (from + j) 0
 entry_kept work from j g e = ap (λ (xs : List ℕ). get_or xs (from + j) 0) e ∙ stored_out work from g j (from + j) (inr (le_of_eq refl))
 
-module _ {work : List ℕ} {rate high low stride w : ℕ} (r : Row work rate high low stride w) where
+module _ {work : List ℕ} {rate stride w : ℕ} (is : rate ≤ rate_most) (r : Row work stride w) where
   cell_at : (a : ℕ) → get_or work (w * stride + a) 0 ≡ cells work 0 stride w a
   cell_at a = ap (λ (i : ℕ). get_or work i 0) (sym (zero-add (w * stride + a)))
 
   paid_most_lem : (n : ℕ) → n ≤ top_most + 1 → rate * n ≤ rate_most * (top_most + 1)
-  paid_most_lem n l = mul-le-mul r.halves.rate_is l
+  paid_most_lem n l = mul-le-mul is l
 
   -- the states up to guarantee w, and those from there on
-  pub low_run : (n : ℕ) → n ≡ min (w + 1) stride → Run work rate high low (w * stride) n (rate * w) 0
+  pub low_run : (n : ℕ) → n ≡ min (w + 1) stride → Run work (w * stride) n (rate * w) 0
   low_run n e = record {
-    halves = r.halves;
     few = omega (arith, r.width);
     paid_small = paid_most_lem w (omega (arith, r.account));
     step_small = omega arith;
@@ -95,12 +94,11 @@ module _ {work : List ℕ} {rate high low stride w : ℕ} (r : Row work rate hig
           ∙ ap (λ (i : ℕ). get_or work i 0) same
           ∙ cell_at (n + j)
 
-      pub high_run : Run work₁ rate high low (w * stride + n) (stride - n) (rate * n) rate
+      pub high_run : Run work₁ (w * stride + n) (stride - n) (rate * n) rate
       high_run = record {
-        halves = r.halves;
         few = omega (arith, r.width);
         paid_small = paid_most_lem n (omega (arith, r.width));
-        step_small = r.halves.rate_is;
+        step_small = is;
         room = let long = ap length one ∙ length_stored work (w * stride) _ n in omega (arith, r.room);
         small = λ j l. le_trans (le_of_eq (next_kept j)) (r.small (n + j) (omega arith));
       }
@@ -137,11 +135,10 @@ module _ {work : List ℕ} {rate stride n : ℕ} (s : Rows work rate stride n) w
     row_kept : (a : ℕ) → cells work' 0 stride w a ≡ cells work 0 stride w a
     row_kept a = ap (λ (xs : List ℕ). cells xs 0 stride w a) e ∙ stored_out work 0 g (w * stride) _ (inr (omega arith))
 
-    pub row_of : {high low : ℕ} → Halves rate high low → Row work' rate high low stride w
-    row_of halves =
+    pub row_of : Row work' stride w
+    row_of =
         let k = rows_le stride (w + 1) n (omega arith) in
         let long = ap length e ∙ length_stored work 0 g (w * stride) in record {
-          halves = halves;
           account = omega (arith, s.few);
           width = s.width;
           room = omega (arith, rows_step stride w, s.room);

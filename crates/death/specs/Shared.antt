@@ -12,8 +12,7 @@ pub record Halves (rate high low : ℕ) : Type 0 where
   pub low_is : low ≡ ((10000 - rate) * 4294967296 % 10000 * 4294967296 + 9999) / 10000
 
 -- n states that are to be shared, from index `from` on
-pub record Run (work : List ℕ) (rate high low from n paid step : ℕ) : Type 0 where
-  pub halves : Halves rate high low
+pub record Run (work : List ℕ) (from n paid step : ℕ) : Type 0 where
   pub few : n ≤ top_most + 1
   pub paid_small : paid ≤ rate_most * (top_most + 1)
   pub step_small : step ≤ rate_most
@@ -21,8 +20,7 @@ pub record Run (work : List ℕ) (rate high low from n paid step : ℕ) : Type 0
   pub small : (j : ℕ) → j < n → get_or work (from + j) 0 ≤ low_most
 
 -- a row that is to be shared
-pub record Row (work : List ℕ) (rate high low stride w : ℕ) : Type 0 where
-  pub halves : Halves rate high low
+pub record Row (work : List ℕ) (stride w : ℕ) : Type 0 where
   pub account : w ≤ top_most
   pub width : stride ≤ top_most + 1
   pub room : w * stride + stride ≤ length work

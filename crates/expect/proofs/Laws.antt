@@ -17,6 +17,7 @@ use Rattle.laws.specs.Narrow.{low_most, value_narrow}
 use Rattle.laws.specs.Date.{shared, shared_le}
 use Rattle.laws.specs.Accepted.{ValidReturns}
 use Rattle.returns.specs.Grouped.{Grouped}
+use Rattle.returns.specs.declared.Groups.{Groups}
 use Rattle.expect.specs.Expected.{expected, reached_from, expected_listed, expected_le, expected_same, state_sum, two_sums}
 use Rattle.expect.specs.Expected.{paid_sum_le, scaled, term, product_most, Reached, Run, Adding, Summed, Row, Layers, Values, Within}
 use Rattle.expect.specs.Expected.{Balance, Starting}
@@ -45,8 +46,8 @@ twice_four f k x y p q = let e : sum f (k + 4 + 4) ≡ sum f (k + 8) = ap (sum f
 pub low_part : {x : ℕ} → x ≤ low_most → x % 4294967296 ≡ x
 low_part h = mod-eq_of_lt (omega arith)
 
-module _ {work starts weights : List ℕ} {count from n : ℕ} (r : Run work starts weights count from n) where
-  sum_small : (j k : ℕ) → j < n → k ≤ count → sum (term work starts weights (from + j)) k ≤ product_most * k
+module _ {work : List ℕ} {gs : Groups} {count from n : ℕ} (r : Run work gs count from n) where
+  sum_small : (j k : ℕ) → j < n → k ≤ count → sum (term work gs (from + j)) k ≤ product_most * k
   unfolding sum
   sum_small j zero l h = omega arith
   sum_small j (suc k) l h =
@@ -56,14 +57,13 @@ module _ {work starts weights : List ℕ} {count from n : ℕ} (r : Run work sta
       omega arith
 
   -- fewer returns
-  pub run_part : (k : ℕ) → k ≤ count → Run work starts weights k from n
+  pub run_part : (k : ℕ) → k ≤ count → Run work gs k from n
   run_part k h = record { few = omega (arith, r.few); short = r.short; reached = λ i j g p. r.reached i j (omega arith) p }
 
   -- sums over some returns have room for one product more
-  pub summed_adding : {sums : List ℕ} {paid k : ℕ} → Summed work starts weights sums paid from n k → paid ≤ product_most → k ≤ count
+  pub summed_adding : {sums : List ℕ} {k : ℕ} → Summed work gs sums from n k → gs.paid ≤ product_most → k ≤ count
       → Adding sums n k
   summed_adding {k = k} s few h = record {
-    long = s.long;
     small = λ j l. let x = sum_small j k l h in omega (arith, s.each j l);
   }
 
@@ -73,75 +73,76 @@ pub filled : {xs : List ℕ} (l : List ℕ) (f : ℕ → ℕ) (n : ℕ) → xs �
 filled l f n e fits k h = ap (λ (z : List ℕ). get_or z k 0) e ∙ stored_first l f n k fits h
 
 -- n entries stored: whatever stood there ..
-pub summed : {work starts weights sums' : List ℕ} {paid from n k : ℕ} (sums : List ℕ)
-    → sums' ≡ stored sums 0 (λ i. paid + sum (term work starts weights (from + i)) k) n → n ≤ 512 → 512 ≤ length sums
-    → Summed work starts weights sums' paid from n k
-summed {n = n} sums e short long = record {
-  long = let l = ap length e ∙ length_stored sums 0 _ n in omega arith;
-  each = λ i l. filled sums _ n e (omega arith) i l;
-}
+pub summed : {work sums' : List ℕ} {gs : Groups} {from n k : ℕ} (sums : List ℕ)
+    → sums' ≡ stored sums 0 (λ i. gs.paid + sum (term work gs (from + i)) k) n → n ≤ length sums → Summed work gs sums' from n k
+summed {n = n} sums e fits = record { each = λ i l. filled sums _ n e fits i l }
 
 -- .. or what later returns add to the sums that stood there
-pub summed_more : {work starts weights sums sums' : List ℕ} {paid from n k : ℕ} (k' : ℕ) (g : ℕ → ℕ)
-    → Summed work starts weights sums paid from n k → sums' ≡ stored sums 0 (λ j. get_or sums j 0 + g j) n → n ≤ 512
-    → ((j : ℕ) → sum (term work starts weights (from + j)) k' ≡ sum (term work starts weights (from + j)) k + g j)
-    → Summed work starts weights sums' paid from n k'
-summed_more {sums = sums} {n = n} k' g s e short more = record {
-  long = let l = ap length e ∙ length_stored sums 0 _ n in omega (arith, s.long);
-  each = λ j l. let x = filled sums _ n e (omega (arith, s.long)) j l in omega (arith, s.each j l, more j);
+pub summed_more : {work sums sums' : List ℕ} {gs : Groups} {from n k : ℕ} (k' : ℕ) (g : ℕ → ℕ)
+    → Summed work gs sums from n k → sums' ≡ stored sums 0 (λ j. get_or sums j 0 + g j) n → n ≤ length sums
+    → ((j : ℕ) → sum (term work gs (from + j)) k' ≡ sum (term work gs (from + j)) k + g j) → Summed work gs sums' from n k'
+summed_more {sums = sums} {n = n} k' g s e fits more = record {
+  each = λ j l. let x = filled sums _ n e fits j l in omega (arith, s.each j l, more j);
 }
 
 -- an entry that is not added to yet
 pub kept_yet : {sums' : List ℕ} (sums : List ℕ) (f : ℕ → ℕ) (j : ℕ) → sums' ≡ stored sums 0 f j → get_or sums' j 0 ≡ get_or sums j 0
 kept_yet sums f j e = ap (λ (xs : List ℕ). get_or xs j 0) e ∙ stored_out sums 0 f j j (inr (le_of_eq (zero-add j)))
 
-module _ {work starts weights : List ℕ} {count discount most paid to stride : ℕ}
-    (r : Row work starts weights count discount most paid to stride)
-  where
-    -- the rows that are read lie before the row that is written
-    row_kept : (g : ℕ → ℕ) (n k a : ℕ) → k < count → a < stride
-        → get_or (stored work to g n) (get_or starts k 0 + a) 0 ≡ get_or work (get_or starts k 0 + a) 0
-    row_kept g n k a m l = stored_out work to g n (get_or starts k 0 + a) (inl (let b = r.below k m in omega arith))
+module _ {work : List ℕ} {gs : Groups} {most to stride : ℕ} (r : Row work gs most to stride) where
+  -- the rows that are read lie before the row that is written
+  row_kept : (g : ℕ → ℕ) (n k a : ℕ) → k < gs.count → a < stride
+      → get_or (stored work to g n) (get_or gs.starts k 0 + a) 0 ≡ get_or work (get_or gs.starts k 0 + a) 0
+  row_kept g n k a m l = stored_out work to g n (get_or gs.starts k 0 + a) (inl (let b = r.below k m in omega arith))
 
-    pub row_sum : (g : ℕ → ℕ) (n a : ℕ) → a < stride
-        → sum (term (stored work to g n) starts weights a) count ≡ sum (term work starts weights a) count
-    row_sum g n a l = sum_eq _ _ count (λ k m. ap (λ (x : ℕ). get_or weights k 0 * x) (row_kept g n k a m l))
+  pub row_sum : (g : ℕ → ℕ) (n a : ℕ) → a < stride
+      → sum (term (stored work to g n) gs a) gs.count ≡ sum (term work gs a) gs.count
+  row_sum g n a l = sum_eq _ _ gs.count (λ k m. ap (λ (x : ℕ). get_or gs.weights k 0 * x) (row_kept g n k a m l))
 
-    pub row_reached : (k a : ℕ) → k < count → a < stride → Reached work starts weights a k
-    row_reached k a m l = record {
-      light = r.light k m;
-      within = let b = r.below k m in omega (arith, r.room);
-      small = le_trans (r.small k a m l) r.most_is;
-    }
+  -- n guarantees more
+  pub row_more : (discount : ℕ) {work' work'' : List ℕ} (from n : ℕ) → from + n ≤ stride
+      → work' ≡ stored work to (λ a. 8192 * discounted discount (gs.paid + sum (term work gs a) gs.count)) from
+      → work'' ≡ stored work' (to + from) (λ j. 8192 * discounted discount (gs.paid + sum (term work' gs (from + j)) gs.count)) n
+      → work'' ≡ stored work to (λ a. 8192 * discounted discount (gs.paid + sum (term work gs a) gs.count)) (from + n)
+  row_more discount from n h e f =
+      let value : ℕ → ℕ = λ s. 8192 * discounted discount (gs.paid + s) in
+      let total : List ℕ → ℕ → ℕ = λ xs j. sum (term xs gs (from + j)) gs.count in
+      f ∙ ap (λ (xs : List ℕ). stored xs (to + from) (λ j. value (total xs j)) n) e
+      ∙ stored_join work to _ _ from n (λ j l. ap value (row_sum _ from (from + j) (omega arith)))
 
-    pub row_sum_le : (a : ℕ) → a < stride → sum (term work starts weights a) count ≤ weight_total * most
-    row_sum_le a l = weighted_le (λ k. get_or weights k 0) _ count r.total (λ k m. r.small k a m l)
+  pub row_reached : (k a : ℕ) → k < gs.count → a < stride → Reached work gs a k
+  row_reached k a m l = record {
+    light = r.light k m;
+    within = let b = r.below k m in omega (arith, r.room);
+    small = le_trans (r.small k a m l) r.most_is;
+  }
 
-    -- the first m guarantees, some of the row filled
-    pub row_part : (work' : List ℕ) (g : ℕ → ℕ) (n m : ℕ) → work' ≡ stored work to g n → m ≤ stride
-        → Row work' starts weights count discount most paid to m
-    row_part work' g n m e h = record {
-      few = r.few;
-      eights = r.eights;
-      discount_is = r.discount_is;
-      most_is = r.most_is;
-      paid_small = r.paid_small;
-      sums_small = r.sums_small;
-      total = r.total;
-      light = r.light;
-      small = λ k a l p.
-          rw (ap (λ (xs : List ℕ). get_or xs (get_or starts k 0 + a) 0) e ∙ row_kept g n k a l (omega arith))
-          (r.small k a l (omega arith));
-      below = λ k l. let b = r.below k l in omega arith;
-      room = let l = ap length e ∙ length_stored work to g n in omega (arith, r.room);
-    }
+  pub row_sum_le : (a : ℕ) → a < stride → sum (term work gs a) gs.count ≤ weight_total * most
+  row_sum_le a l = weighted_le (λ k. get_or gs.weights k 0) _ gs.count r.total (λ k m. r.small k a m l)
+
+  -- the first m guarantees, some of the row filled
+  pub row_part : (work' : List ℕ) (g : ℕ → ℕ) (n m : ℕ) → work' ≡ stored work to g n → m ≤ stride
+      → Row work' gs most to m
+  row_part work' g n m e h = record {
+    eights = r.eights;
+    most_is = r.most_is;
+    paid_small = r.paid_small;
+    sums_small = r.sums_small;
+    total = r.total;
+    light = r.light;
+    small = λ k a l p.
+        rw (ap (λ (xs : List ℕ). get_or xs (get_or gs.starts k 0 + a) 0) e ∙ row_kept g n k a l (omega arith))
+        (r.small k a l (omega arith));
+    below = λ k l. let b = r.below k l in omega arith;
+    room = let l = ap length e ∙ length_stored work to g n in omega (arith, r.room);
+  }
 
 -- the last n guarantees of a row
-pub row_run : {work starts weights : List ℕ} {count discount most paid to : ℕ} (from n : ℕ)
-    → Row work starts weights count discount most paid to (from + n) → n ≤ 512
-    → Run work starts weights count from n
-row_run from n r h = record {
-  few = r.few;
+pub row_run : {work : List ℕ} {gs : Groups} {most to : ℕ} (from n : ℕ)
+    → Row work gs most to (from + n) → n ≤ 512
+    → Run work gs gs.count from n
+row_run {gs = gs} from n r h = record {
+  few = gs.few;
   short = h;
   reached = λ k j l m. row_reached r k (from + j) l (omega arith);
 }
@@ -154,15 +155,16 @@ row_room {c} b v top =
     let l = rows_le (c.premium + 1) (b + 1) (c.top + 1) (omega arith) in omega (arith, rows_step (c.premium + 1) b, v.room)
 
 -- ---- the row of one balance
-module _ {c : Terms} {i : ℕ} {rs : Returns} {work starts weights : List ℕ} {discount most balance stride size count paid : ℕ}
-    (b : Balance c i rs work discount most balance stride size) (g : Grouped c rs balance stride starts weights count paid)
+module _ {c : Terms} {i : ℕ} {rs : Returns} {work : List ℕ} (gs : Groups) {discount most balance stride size : ℕ}
+    (b : Balance c i rs work discount most balance stride size)
+    (g : Grouped c rs balance stride gs.starts gs.weights gs.count gs.paid)
   where
     -- a row of the first layer ends within it
     reached_within : (x : ℕ) → x ≤ c.top → x * stride + stride ≤ size
     reached_within x l = let m = rows_le stride (x + 1) (c.top + 1) (omega arith) in omega (arith, rows_step stride x, b.size_is)
 
     -- what is paid on arrival
-    paid_le : paid ≤ weight_total * (20000 * c.top)
+    paid_le : gs.paid ≤ weight_total * (20000 * c.top)
     paid_le = le_trans (le_of_eq g.paid_is) (paid_sum_le c rs balance b.returns b.balance_is)
 
     -- .. and with it the values of the layer
@@ -176,9 +178,9 @@ module _ {c : Terms} {i : ℕ} {rs : Returns} {work starts weights : List ℕ} {
     balance_room = rw (b.size_is, b.stride_is) (row_room balance b.layers b.balance_is)
 
     -- the groups weigh what the returns weigh
-    total : sum (λ k. get_or weights k 0) count ≡ weight_total
+    total : sum (λ k. get_or gs.weights k 0) gs.count ≡ weight_total
     total =
-        sum_eq _ _ count (λ k l. sym (mul-one (get_or weights k 0)))
+        sum_eq _ _ gs.count (λ k l. sym (mul-one (get_or gs.weights k 0)))
         ∙ g.sums (λ x. 1)
         ∙ sum_eq _ _ rs.count (λ k l. mul-one (rs.weight k))
         ∙ b.returns.total
@@ -187,16 +189,14 @@ module _ {c : Terms} {i : ℕ} {rs : Returns} {work starts weights : List ℕ} {
     place : (w a : ℕ) → 0 + (w * (c.premium + 1) + a) ≡ w * stride + a
     place w a = zero-add _ ∙ ap (λ (x : ℕ). w * x + a) (sym b.stride_is)
 
-    pub balance_row : Row work starts weights count discount most paid (size + balance * stride) stride
+    pub balance_row : Row work gs most (size + balance * stride) stride
     balance_row = record {
-      few = g.few;
       eights = record { some = g.some; whole = g.eights };
-      discount_is = le_trans (le_of_eq b.discount_is) b.layers.valid.discount;
       most_is = most_low;
       paid_small = omega (arith, paid_le, b.layers.valid.top);
       sums_small = omega (arith, paid_le, most_room);
       total = total;
-      light = λ k l. let one = sum_term (λ j. get_or weights j 0) count k l in omega (arith, total);
+      light = λ k l. let one = sum_term (λ j. get_or gs.weights j 0) gs.count k l in omega (arith, total);
       small = λ k a l m.
           let r = g.rows k l in
           rw r.start
@@ -206,14 +206,14 @@ module _ {c : Terms} {i : ℕ} {rs : Returns} {work starts weights : List ℕ} {
       room = balance_room;
     }
 
-    states_are : (a : ℕ) → sum (term work starts weights a) count ≡ state_sum c rs (cells work 0 (c.premium + 1)) balance a
+    states_are : (a : ℕ) → sum (term work gs a) gs.count ≡ state_sum c rs (cells work 0 (c.premium + 1)) balance a
     unfolding state_sum
     states_are a =
         g.sums (λ x. get_or work (x + a) 0)
         ∙ sum_eq _ _ rs.count (λ k l. ap (λ (x : ℕ). rs.weight k * get_or work x 0) (sym (place _ a)))
 
     pub balance_cells : (a : ℕ)
-        → discounted discount (paid + sum (term work starts weights a) count)
+        → discounted discount (gs.paid + sum (term work gs a) gs.count)
         ≡ expected c rs (cells work 0 (c.premium + 1)) balance a
     unfolding mean_by_list
     balance_cells a =
@@ -222,15 +222,15 @@ module _ {c : Terms} {i : ℕ} {rs : Returns} {work starts weights : List ℕ} {
         ∙ sym (expected_listed c rs (cells work 0 (c.premium + 1)) balance a)
 
 -- ---- the balances: the first layer stays as the second is filled
-pub layer_balance : {c : Terms} {rs : Returns} {work : List ℕ} {i most : ℕ} (work' : List ℕ) (f : ℕ → ℕ) (n b : ℕ)
-    → ValidReturns rs → Values c i work → most ≡ state_most c (i + 1)
+pub layer_balance : {c : Terms} {rs : Returns} {work : List ℕ} {i discount most : ℕ} (work' : List ℕ) (f : ℕ → ℕ) (n b : ℕ)
+    → ValidReturns rs → Values c i work → (discount ≡ c.discount) × (most ≡ state_most c (i + 1))
     → work' ≡ stored work ((c.top + 1) * (c.premium + 1)) f n → b ≤ c.top
-    → Balance c i rs work' c.discount most b (c.premium + 1) ((c.top + 1) * (c.premium + 1))
+    → Balance c i rs work' discount most b (c.premium + 1) ((c.top + 1) * (c.premium + 1))
 layer_balance {c = c} {work = work} {most = most} work' f n b h v m e top = record {
   returns = h;
   layers = record { valid = v.layers.valid; room = omega (arith, v.layers.room, ap length e ∙ length_stored _ _ _ _) };
-  discount_is = refl;
-  most_is = m;
+  discount_is = m.0;
+  most_is = m.1;
   small = kept_within;
   balance_is = top;
   stride_is = refl;
@@ -240,7 +240,7 @@ layer_balance {c = c} {work = work} {most = most} work' f n b h v m e top = reco
     kept_within : Within c work' most
     kept_within w a h l =
         let i = within_rows (c.premium + 1) (c.top + 1) w a (omega arith) (omega arith) in
-        rw (m, ap (λ (xs : List ℕ). cells xs 0 (c.premium + 1) w a) e ∙ stored_out work _ f n _ (inl (omega arith))) (v.small w a h l)
+        rw (m.1, ap (λ (xs : List ℕ). cells xs 0 (c.premium + 1) w a) e ∙ stored_out work _ f n _ (inl (omega arith))) (v.small w a h l)
 
 -- ---- row after row
 module _ (c : Terms) (rs : Returns) (work : List ℕ) (stride size : ℕ) (size_is : size ≡ (c.top + 1) * stride) where

@@ -13,6 +13,7 @@ use Rattle.laws.specs.ByList.{mean_by_account_same}
 use Rattle.laws.specs.Bounds.{mean_le, state_most, value_room, value_most_lem, entry_most}
 use Rattle.laws.specs.Narrow.{low_most}
 use Rattle.returns.specs.Grouped.{paid_sum}
+use Rattle.returns.specs.declared.Groups.{Groups}
 
 -- account by account
 unfoldable pub expected : Terms → Returns → (ℕ → ℕ → ℕ) → ℕ → ℕ → ℕ
@@ -44,52 +45,48 @@ two_sums c rs v balance a = sym (sum_eq _ _ rs.count (λ k l. omega arith) ∙ s
 
 -- ---- what the loops hand to each other: k is the number of a group of returns
 -- weight × value in the row that starts at the k-th start
-abbrev pub term : List ℕ → List ℕ → List ℕ → ℕ → ℕ → ℕ
-term work starts weights a k = get_or weights k 0 * get_or work (get_or starts k 0 + a) 0
+abbrev pub term : List ℕ → Groups → ℕ → ℕ → ℕ
+term work gs a k = get_or gs.weights k 0 * get_or work (get_or gs.starts k 0 + a) 0
 
 -- what no product of a weight and a value of a layer passes, which has 32 bits
 abbrev pub product_most : ℕ
 product_most = weight_most * low_most
 
 -- the value that group k reaches with guarantee a: in the slice, and of 32 bits
-pub record Reached (work starts weights : List ℕ) (a k : ℕ) : Type 0 where
-  pub light : get_or weights k 0 ≤ weight_most
-  pub within : get_or starts k 0 + a < length work
-  pub small : get_or work (get_or starts k 0 + a) 0 ≤ low_most
+pub record Reached (work : List ℕ) (gs : Groups) (a k : ℕ) : Type 0 where
+  pub light : get_or gs.weights k 0 ≤ weight_most
+  pub within : get_or gs.starts k 0 + a < length work
+  pub small : get_or work (get_or gs.starts k 0 + a) 0 ≤ low_most
 
--- n guarantees, from `from` on
-pub record Run (work starts weights : List ℕ) (count from n : ℕ) : Type 0 where
+-- n guarantees, from `from` on, over the first groups
+pub record Run (work : List ℕ) (gs : Groups) (count from n : ℕ) : Type 0 where
   pub few : count ≤ returns_most
   pub short : n ≤ 512
-  pub reached : (k j : ℕ) → k < count → j < n → Reached work starts weights (from + j) k
+  pub reached : (k j : ℕ) → k < count → j < n → Reached work gs (from + j) k
 
 -- n sums to which group k is to be added
 pub record Adding (sums : List ℕ) (n k : ℕ) : Type 0 where
-  pub long : 512 ≤ length sums
   pub small : (j : ℕ) → j < n → get_or sums j 0 ≤ product_most * (k + 1)
 
 -- the sums of n guarantees over the first k groups, with what is paid on arrival
-pub record Summed (work starts weights sums : List ℕ) (paid from n k : ℕ) : Type 0 where
-  pub long : 512 ≤ length sums
-  pub each : (j : ℕ) → j < n → get_or sums j 0 ≡ paid + sum (term work starts weights (from + j)) k
+pub record Summed (work : List ℕ) (gs : Groups) (sums : List ℕ) (from n k : ℕ) : Type 0 where
+  pub each : (j : ℕ) → j < n → get_or sums j 0 ≡ gs.paid + sum (term work gs (from + j)) k
 
 -- groups that are added eight at a time
 pub record Eights (count : ℕ) : Type 0 where
   pub some : 8 ≤ count
   pub whole : count % 8 ≡ 0
 
--- a row to be filled at `to`, from rows that lie before it; the returns pay `paid` on arrival, by weight
-pub record Row (work starts weights : List ℕ) (count discount most paid to stride : ℕ) : Type 0 where
-  pub few : count ≤ returns_most
-  pub eights : Eights count
-  pub discount_is : discount ≤ discount_most
+-- a row to be filled at `to`, from rows that lie before it
+pub record Row (work : List ℕ) (gs : Groups) (most to stride : ℕ) : Type 0 where
+  pub eights : Eights gs.count
   pub most_is : most ≤ low_most
-  pub paid_small : paid ≤ product_most
-  pub sums_small : paid + weight_total * most ≤ weight_total * entry_most
-  pub total : sum (λ k. get_or weights k 0) count ≡ weight_total
-  pub light : (k : ℕ) → k < count → get_or weights k 0 ≤ weight_most
-  pub small : (k a : ℕ) → k < count → a < stride → get_or work (get_or starts k 0 + a) 0 ≤ most
-  pub below : (k : ℕ) → k < count → get_or starts k 0 + stride ≤ to
+  pub paid_small : gs.paid ≤ product_most
+  pub sums_small : gs.paid + weight_total * most ≤ weight_total * entry_most
+  pub total : sum (λ k. get_or gs.weights k 0) gs.count ≡ weight_total
+  pub light : (k : ℕ) → k < gs.count → get_or gs.weights k 0 ≤ weight_most
+  pub small : (k a : ℕ) → k < gs.count → a < stride → get_or work (get_or gs.starts k 0 + a) 0 ≤ most
+  pub below : (k : ℕ) → k < gs.count → get_or gs.starts k 0 + stride ≤ to
   pub room : to + stride ≤ length work
 
 -- a slice with room for two layers

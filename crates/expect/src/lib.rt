@@ -9,7 +9,6 @@ ghost use Rattle.rules.specs.Contract.{dates_most, weight_total, returns_most, d
 ghost use Rattle.laws.specs.Bounds.{state_most, entry_most};
 ghost use Rattle.rules.specs.Date.{discounted};
 ghost use Rattle.rules.specs.FixedTerm.{layer_size};
-ghost use Rattle.laws.specs.Accepted.{Valid};
 ghost use Rattle.laws.specs.Date.{shared};
 ghost use Rattle.contract.specs.Reading.{terms_in};
 ghost use Rattle.returns.specs.Sorted.{in_order, Ordered};
@@ -17,140 +16,98 @@ ghost use Rattle.expect.specs.Expected.{term, product_most, Reached, Run, Adding
 ghost use Rattle.expect.specs.Expected.{expected, scaled, Starting};
 
 use contract::Contract;
+use returns::Groups;
 
-// How many groups of returns are averaged, by what they are discounted, what no value of the layer passes, and what the returns
-// pay on arrival, by weight.
+// By what sums are discounted, and what no value of the next date passes.
 #[derive(Clone, Copy)]
 struct Average {
-    count: usize,
     discount: usize,
     most: usize,
-    paid: usize,
+    ghost discount_is: { discount ≤ discount_most },
 }
 
 // The value that group k reaches with guarantee a.
-fn reached(work: &[u64], starts: &[usize; Contract::RETURNS_MOST], k: usize, a: usize) -> u64
-    requires { (k < returns_most) × (get_or starts.now k 0 + a < length work.now) }
-    ensures { result ≡ get_or work.now (get_or starts.now k 0 + a) 0 }
+fn reached(work: &[u64], groups: &Groups, k: usize, a: usize) -> u64
+    requires { (k < returns_most) × (get_or groups.now.starts k 0 + a < length work.now) }
+    ensures { result ≡ get_or work.now (get_or groups.now.starts k 0 + a) 0 }
 {
-    work[starts[k] + a]
+    work[groups.starts[k] + a]
 }
 
 // What group k adds to the sum of guarantee a. Of a value the low half is taken, which is all of it: a product of two numbers of
 // 32 bits can be widened.
-fn product(
-    work: &[u64],
-    starts: &[usize; Contract::RETURNS_MOST],
-    weights: &[u32; Contract::RETURNS_MOST],
-    k: usize,
-    a: usize,
-) -> usize
-    requires { (k < returns_most) × Reached work.now starts.now weights.now a k }
-    ensures { (result ≡ term work.now starts.now weights.now a k) × (result ≤ product_most) }
+fn product(work: &[u64], groups: &Groups, k: usize, a: usize) -> usize
+    requires { (k < returns_most) × Reached work.now groups.now a k }
+    ensures { (result ≡ term work.now groups.now a k) × (result ≤ product_most) }
 {
-    weights[k] as usize * (reached(work, starts, k, a) % 4294967296) as usize
+    groups.weights[k] as usize * (reached(work, groups, k, a) % 4294967296) as usize
 }
 
 // .. and of four groups.
-fn four_products(
-    work: &[u64],
-    starts: &[usize; Contract::RETURNS_MOST],
-    weights: &[u32; Contract::RETURNS_MOST],
-    k: usize,
-    a: usize,
-) -> usize
-    requires { (k + 4 ≤ returns_most) × ((i : ℕ) → i < k + 4 → Reached work.now starts.now weights.now a i) }
-    ensures { (sum (term work.now starts.now weights.now a) (k + 4)
-        ≡ sum (term work.now starts.now weights.now a) k + result)
+fn four_products(work: &[u64], groups: &Groups, k: usize, a: usize) -> usize
+    requires { (k + 4 ≤ returns_most) × ((i : ℕ) → i < k + 4 → Reached work.now groups.now a i) }
+    ensures { (sum (term work.now groups.now a) (k + 4)
+        ≡ sum (term work.now groups.now a) k + result)
         × (result ≤ 4 * product_most) }
 {
-    let first = product(work, starts, weights, k, a);
-    let second = product(work, starts, weights, k + 1, a);
-    let third = product(work, starts, weights, k + 2, a);
-    let fourth = product(work, starts, weights, k + 3, a);
+    let first = product(work, groups, k, a);
+    let second = product(work, groups, k + 1, a);
+    let third = product(work, groups, k + 2, a);
+    let fourth = product(work, groups, k + 3, a);
     first + second + third + fourth
 }
 
 // .. and of eight.
-fn eight_products(
-    work: &[u64],
-    starts: &[usize; Contract::RETURNS_MOST],
-    weights: &[u32; Contract::RETURNS_MOST],
-    k: usize,
-    a: usize,
-) -> usize
-    requires { (k + 8 ≤ returns_most) × ((i : ℕ) → i < k + 8 → Reached work.now starts.now weights.now a i) }
-    ensures { (sum (term work.now starts.now weights.now a) (k + 8)
-        ≡ sum (term work.now starts.now weights.now a) k + result)
+fn eight_products(work: &[u64], groups: &Groups, k: usize, a: usize) -> usize
+    requires { (k + 8 ≤ returns_most) × ((i : ℕ) → i < k + 8 → Reached work.now groups.now a i) }
+    ensures { (sum (term work.now groups.now a) (k + 8)
+        ≡ sum (term work.now groups.now a) k + result)
         × (result ≤ 8 * product_most) }
 {
-    four_products(work, starts, weights, k, a) + four_products(work, starts, weights, k + 4, a)
+    four_products(work, groups, k, a) + four_products(work, groups, k + 4, a)
 }
 
 // Eight groups, for n guarantees: one load and one store of a sum for eight products.
 fn add_eight(
     sums: &mut [usize; 512],
     work: &[u64],
-    starts: &[usize; Contract::RETURNS_MOST],
-    weights: &[u32; Contract::RETURNS_MOST],
+    groups: &Groups,
     k: usize,
     from: usize,
     n: usize,
 )
-    requires { Run work.now starts.now weights.now (k + 8) from n × Adding sums.old n k }
+    requires { Run work.now groups.now (k + 8) from n × Adding sums.old n k }
     ensures { sums.new
         ≡ stored sums.old 0
-        (λ (j : ℕ).
-        get_or sums.old j 0
-        + sum (λ (e : ℕ). term work.now starts.now weights.now (from + j) (k + e)) 8)
+        (λ (j : ℕ). get_or sums.old j 0 + sum (λ (e : ℕ). term work.now groups.now (from + j) (k + e)) 8)
         n }
 {
     for j in 0..n {
-        sums[j] += eight_products(work, starts, weights, k, from + j);
+        sums[j] += eight_products(work, groups, k, from + j);
     }
 }
 
 // What is paid on arrival and the first eight: their sums are stored, whatever stood there, so that no zeros need be written and
 // read before.
-fn set_eight(
-    sums: &mut [usize; 512],
-    work: &[u64],
-    starts: &[usize; Contract::RETURNS_MOST],
-    weights: &[u32; Contract::RETURNS_MOST],
-    paid: usize,
-    from: usize,
-    n: usize,
-)
-    requires { Run work.now starts.now weights.now 8 from n × (512 ≤ length sums.old) × (paid ≤ product_most) }
-    ensures { Summed work.now starts.now weights.now sums.new paid from n 8 }
+fn set_eight(sums: &mut [usize; 512], work: &[u64], groups: &Groups, from: usize, n: usize)
+    requires { Run work.now groups.now 8 from n × (groups.now.paid ≤ product_most) }
+    ensures { Summed work.now groups.now sums.new from n 8 }
 {
     for j in 0..n {
-        sums[j] = paid + eight_products(work, starts, weights, 0, from + j);
+        sums[j] = groups.paid + eight_products(work, groups, 0, from + j);
     }
 }
 
 // The sums of n guarantees, from `from` on, with what is paid on arrival; whatever stood in `sums`.
-fn add_all(
-    sums: &mut [usize; 512],
-    work: &[u64],
-    starts: &[usize; Contract::RETURNS_MOST],
-    weights: &[u32; Contract::RETURNS_MOST],
-    average: Average,
-    from: usize,
-    n: usize,
-)
-    requires { Run work.now starts.now weights.now average.count from n
-        × Eights average.count
-        × (512 ≤ length sums.old)
-        × (average.paid ≤ product_most) }
-    ensures { Summed work.now starts.now weights.now sums.new average.paid from n
-        average.count }
+fn add_all(sums: &mut [usize; 512], work: &[u64], groups: &Groups, from: usize, n: usize)
+    requires { Run work.now groups.now groups.now.count from n
+        × Eights groups.now.count
+        × (groups.now.paid ≤ product_most) }
+    ensures { Summed work.now groups.now sums.new from n groups.now.count }
 {
-    set_eight(sums, work, starts, weights, average.paid, from, n);
-    let mut k: usize = 8;
-    while k < average.count {
-        add_eight(sums, work, starts, weights, k, from, n);
-        k += 8;
+    set_eight(sums, work, groups, from, n);
+    for k in (8..groups.count).step_by(8) {
+        add_eight(sums, work, groups, k, from, n);
     }
 }
 
@@ -167,17 +124,23 @@ fn scaled_sum(low: bool, discount: usize, sum: usize) -> u64
     8192 * date::discounted(discount, sum) as u64
 }
 
-// The sums, discounted and times 8,192.
-fn store_sums(work: &mut [u64], sums: &[usize; 512], average: Average, to: usize, n: usize)
-    requires { (average.discount ≤ discount_most)
-        × (n ≤ 512)
+// The sums, of which `paid` is paid on arrival, discounted and times 8,192.
+fn store_sums(
+    work: &mut [u64],
+    sums: &[usize; 512],
+    average: Average,
+    paid: usize,
+    to: usize,
+    n: usize,
+)
+    requires { (n ≤ 512)
         × (to + n ≤ length work.old)
-        × (average.paid + weight_total * average.most ≤ weight_total * entry_most)
-        × ((j : ℕ) → j < n → get_or sums.now j 0 ≤ average.paid + weight_total * average.most) }
+        × (paid + weight_total * average.most ≤ weight_total * entry_most)
+        × ((j : ℕ) → j < n → get_or sums.now j 0 ≤ paid + weight_total * average.most) }
     ensures { work.new
         ≡ stored work.old to (λ (j : ℕ). 8192 * discounted average.discount (get_or sums.now j 0)) n }
 {
-    let low = average.paid + 10000 * average.most <= 18000000000000;
+    let low = paid + 10000 * average.most <= 18000000000000;
     for j in 0..n {
         work[to + j] = scaled_sum(low, average.discount, sums[j]);
     }
@@ -192,66 +155,55 @@ struct Part {
 }
 
 // The discounted sums of a part of a row, times 8,192. What stood in `sums` does not matter.
-fn expect_run(
-    work: &mut [u64],
-    sums: &mut [usize; 512],
-    starts: &[usize; Contract::RETURNS_MOST],
-    weights: &[u32; Contract::RETURNS_MOST],
-    average: Average,
-    p: Part,
-)
-    requires { Row work.old starts.now weights.now average.count average.discount average.most average.paid p.to
-        (p.from + p.n)
-        × (p.n ≤ 512)
-        × (512 ≤ length sums.old) }
-    ensures { (work.new
+fn expect_run(work: &mut [u64], sums: &mut [usize; 512], groups: &Groups, average: Average, p: Part)
+    requires { Row work.old groups.now average.most p.to (p.from + p.n) × (p.n ≤ 512) }
+    ensures { work.new
         ≡ stored work.old (p.to + p.from)
         (λ (j : ℕ).
         8192
         * discounted average.discount
-        (average.paid + sum (term work.old starts.now weights.now (p.from + j)) average.count))
-        p.n)
-        × (512 ≤ length sums.new) }
+        (groups.now.paid + sum (term work.old groups.now (p.from + j)) groups.now.count))
+        p.n }
 {
-    add_all(sums, &work[..], starts, weights, average, p.from, p.n);
-    store_sums(work, sums, average, p.to + p.from, p.n);
+    add_all(sums, &work[..], groups, p.from, p.n);
+    store_sums(work, sums, average, groups.paid, p.to + p.from, p.n);
 }
 
 // The row at `to`: the discounted sum of each guarantee, times 8,192, 512 at a time.
 fn expect_row(
     work: &mut [u64],
     sums: &mut [usize; 512],
-    starts: &[usize; Contract::RETURNS_MOST],
-    weights: &[u32; Contract::RETURNS_MOST],
+    groups: &Groups,
     average: Average,
     to: usize,
     stride: usize,
 )
-    requires { Row work.old starts.now weights.now average.count average.discount average.most average.paid to stride
-        × (512 ≤ length sums.old) }
-    ensures { (work.new
+    requires { Row work.old groups.now average.most to stride }
+    ensures { work.new
         ≡ stored work.old to
         (λ (a : ℕ).
         8192
         * discounted average.discount
-        (average.paid + sum (term work.old starts.now weights.now a) average.count))
-        stride)
-        × (512 ≤ length sums.new) }
+        (groups.now.paid + sum (term work.old groups.now a) groups.now.count))
+        stride }
 {
-    let mut from: usize = 0;
-    while from < stride {
+    for from in (0..stride).step_by(512) {
         let n = usize::min(512, stride - from);
-        expect_run(work, sums, starts, weights, average, Part { to, from, n });
-        from += n;
+        expect_run(work, sums, groups, average, Part { to, from, n });
     }
 }
 
-// What no value of date i + 1 passes.
-fn most_after(c: Contract, i: usize) -> usize
-    requires { Valid (terms_in c) × (i ≤ dates_most) }
-    ensures { result ≡ state_most (terms_in c) (i + 1) }
-{
-    10000 * c.top + c.dates.saturating_sub(i + 1) * (20000 * c.top)
+impl Average {
+    // On date i: no value of date i + 1 is above `most`.
+    fn on(c: Contract, i: usize) -> Average
+        requires { i ≤ dates_most }
+        ensures { (result.discount ≡ c.discount) × (result.most ≡ state_most (terms_in c) (i + 1)) }
+    {
+        Average {
+            discount: c.discount,
+            most: 10000 * c.top + c.dates.saturating_sub(i + 1) * (20000 * c.top),
+        }
+    }
 }
 
 // The second layer: the discounted sum of every balance and guarantee, times 8,192, where the first holds the values of date i + 1.
@@ -267,22 +219,20 @@ pub fn expect_layer(work: &mut [u64], order: &[u32], c: Contract, i: usize)
 {
     let stride = c.premium + 1;
     let size = (c.top + 1) * stride;
-    let most = most_after(c, i);
-    // One array of each kind for all balances: what a balance leaves there does not matter to the next, and clearing takes time.
+    let average = Average::on(c, i);
+    // One of each for all balances: what a balance leaves there does not matter to the next, and clearing takes time.
     let mut sums = [0usize; 512];
-    let mut starts = [0usize; Contract::RETURNS_MOST];
-    let mut weights = [0u32; Contract::RETURNS_MOST];
-    let end = c.top + 1;
-    for balance in 0..end {
-        let groups = returns::group(&mut starts, &mut weights, order, c, balance, stride);
-        let average = Average {
-            count: groups.count,
-            discount: c.discount,
-            most,
-            paid: groups.paid,
-        };
-        let to = size + balance * stride;
-        expect_row(work, &mut sums, &starts, &weights, average, to, stride);
+    let mut groups = Groups::new();
+    for balance in 0..c.top + 1 {
+        groups.gather(order, c, balance, stride);
+        expect_row(
+            work,
+            &mut sums,
+            &groups,
+            average,
+            size + balance * stride,
+            stride,
+        );
     }
 }
 

@@ -1,3 +1,4 @@
+pub mod Filled
 pub mod Key
 pub mod Most
 pub mod Sums

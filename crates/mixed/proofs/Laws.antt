@@ -1,4 +1,11 @@
 -- The keys of the amounts that are compared, state by state and over a row. Assumes nothing.
+use Rattle.std.specs.Prelude.{◌≢◌, ◌⊎◌, Bool, true, false}
+use Rattle.std.proofs.Common.{inl, inr, true≢false}
+use denote.Enum.Bare.{sameb}
+use Rattle.date.specs.contracts.behaviour.Behaviour.{the_type}
+use Rattle.date.specs.declared.behaviour.Behaviour as code
+use Rattle.date.specs.declared.behaviour.Behaviour.TheVariants.{Static, Mixed, Dynamic}
+use Rattle.date.specs.Behaviour.{behaviour_in}
 use mathlib.Core.List.{List}
 use mathlib.Core.Path.{◌≡◌, refl, ap, ap₂, sym, ◌∙◌}
 use Prim.Native.Nat.{ℕ, ◌+◌, ◌-◌, ◌*◌, ◌^◌, ◌≤◌, ◌<◌, max, min}
@@ -7,8 +14,7 @@ use native.Mathlib.Omega.{arith}
 use lib.ListN.{length, get_or}
 use Rattle.slices.specs.Stored.{stored, length_stored, stored_join, stored_first}
 use Rattle.slices.specs.Rows.{cells}
-use Rattle.rules.specs.Date.{free_amount, cash}
-use Rattle.rules.specs.Operations.{behaviour_of}
+use Rattle.rules.specs.Date.{Behaviour, static, mixed, dynamic, free_amount, cash}
 use Rattle.laws.specs.Date.{free_level}
 use Rattle.keys.specs.declared.Date.{Date}
 use Rattle.keys.specs.declared.Block.{Block}
@@ -34,9 +40,29 @@ module _ {work : List ℕ} {d : Date} {n at : ℕ} (s : Sums work d n) (x y : �
     pub key_is : {k : ℕ} (c t : ℕ) → k ≡ key c t → get_or work at 0 + k ≡ key (c + sums work d x y) t
     key_is c t e = ap₂ ◌+◌ (cell_is ∙ s.scaled x y h l) e ∙ sym (key_add c (sums work d x y) t)
 
+-- m is the only amount
+abbrev pub Alone : Behaviour → ℕ → ℕ → Type 0
+Alone static w m = Unit
+Alone mixed w m = w ≤ m
+Alone dynamic w m = ⊥
+
+-- .. by the code's test, or the account is the other
+pub alone : (b : code.Behaviour) {is : Bool} {w m : ℕ} → is ≡ sameb the_type b Static → behaviour_in b ≢ dynamic
+    → (is ≡ true) ⊎ ((is ≡ false) × (w ≤ m)) → Alone (behaviour_in b) w m
+alone Static e n h = tt
+alone Mixed e n (inl h) = absurd (true≢false (sym h ∙ e))
+alone Mixed e n (inr (_, h)) = h
+alone Dynamic e n h = absurd (n refl)
+
+pub not_static : (b : code.Behaviour) {is : Bool} → is ≡ sameb the_type b Static → behaviour_in b ≢ dynamic → is ≡ false
+    → behaviour_in b ≡ mixed
+not_static Static e n h = absurd (true≢false (sym e ∙ h))
+not_static Mixed e n h = refl
+not_static Dynamic e n h = absurd (n refl)
+
 -- the states of account w, by their guarantee
-abbrev pub row_key : ℕ → Date → ℕ → (ℕ → ℕ → ℕ) → ℕ → ℕ
-row_key b d w e = best_key (behaviour_of b) e d.rate d.level w
+abbrev pub row_key : Behaviour → Date → ℕ → (ℕ → ℕ → ℕ) → ℕ → ℕ
+row_key b d w e = best_key b e d.rate d.level w
 
 -- the free amount
 module _ {work : List ℕ} {d : Date} (w a : ℕ) {m x at k : ℕ} (s : Sums work d (w + 1)) (l : a < d.stride)
@@ -50,18 +76,15 @@ module _ {work : List ℕ} {d : Date} (w a : ℕ) {m x at k : ℕ} (s : Sums wor
         ∙ ap (λ (v : ℕ). key v m) (sym (free_is (sums work d) d.rate m w a m (omega arith)))
         ∙ ap (λ (z : ℕ). key_over (sums work d) d.rate z w a z) m_is
 
-    pub static_is : {b : ℕ} → b ≡ 0 → get_or work at 0 + k ≡ row_key b d w (sums work d) a
-    unfolding behaviour_of
-    static_is e = rw e (stay_is ∙ static_key (sums work d) d.rate d.level w a)
-
-    pub mixed_is : {b : ℕ} → b ≡ 1 → w ≤ m → get_or work at 0 + k ≡ row_key b d w (sums work d) a
-    unfolding behaviour_of
-    mixed_is e h = rw e (stay_is ∙ mixed_key (sums work d) d.rate d.level w a (omega arith))
+    -- .. alone, where nothing else may be withdrawn
+    pub free_alone : (b : Behaviour) → Alone b w m → get_or work at 0 + k ≡ row_key b d w (sums work d) a
+    free_alone static h = stay_is ∙ static_key (sums work d) d.rate d.level w a
+    free_alone mixed h = stay_is ∙ mixed_key (sums work d) d.rate d.level w a (omega arith)
+    free_alone dynamic h = absurd h
 
     -- .. or the whole account
-    pub larger_is : {b other : ℕ} → b ≡ 1 → m < w → other ≡ key (cash d.rate m w + sums work d 0 0) w
+    pub larger_is : {b : Behaviour} {other : ℕ} → b ≡ mixed → m < w → other ≡ key (cash d.rate m w + sums work d 0 0) w
         → max (get_or work at 0 + k) other ≡ row_key b d w (sums work d) a
-    unfolding behaviour_of
     larger_is e h o =
         let all = surrender_is (sums work d) d.rate (free_amount d.level a) w a (omega arith) in
         let all_is = o ∙ ap (λ (z : ℕ). key (cash d.rate z w + sums work d 0 0) w) m_is ∙ ap (λ (v : ℕ). key v w) (sym all) in
@@ -91,15 +114,11 @@ module _ {work : List ℕ} {d : Date} {s : Block} (b : Span work d s) {x y at lo
       free : d.level ≡ free_amount d.level (s.from + (low + i))
       free = sym (free_level d.level _ (level_from d.level s.from low s.n low_is i l).0)
 
-      module _ {k behaviour : ℕ} (k_is : k ≡ key (10000 * d.level) d.level) where
-        pub rest_static : behaviour ≡ 0 → get_or work (at + i) 0 + k ≡ row_key behaviour d s.w (sums work d) (s.from + (low + i))
-        rest_static e = static_is s.w _ b.layers column free x_is place_is k_is e
+      module _ {k : ℕ} (behaviour : Behaviour) (k_is : k ≡ key (10000 * d.level) d.level) where
+        pub rest_alone : Alone behaviour s.w d.level → get_or work (at + i) 0 + k ≡ row_key behaviour d s.w (sums work d) (s.from + (low + i))
+        rest_alone h = free_alone s.w _ b.layers column free x_is place_is k_is behaviour h
 
-        pub rest_mixed : behaviour ≡ 1 → s.w ≤ d.level
-            → get_or work (at + i) 0 + k ≡ row_key behaviour d s.w (sums work d) (s.from + (low + i))
-        rest_mixed e h = mixed_is s.w _ b.layers column free x_is place_is k_is e h
-
-        pub rest_larger : {other : ℕ} → behaviour ≡ 1 → d.level < s.w → other
+        pub rest_larger : {other : ℕ} → behaviour ≡ mixed → d.level < s.w → other
             ≡ key (cash d.rate d.level s.w + sums work d 0 0) s.w
             → max (get_or work (at + i) 0 + k) other ≡ row_key behaviour d s.w (sums work d) (s.from + (low + i))
         rest_larger e h o = larger_is s.w _ b.layers column free x_is place_is k_is e h o
@@ -113,11 +132,11 @@ module _ {work : List ℕ} {d : Date} {s : Block} (b : Span work d s) {x y at lo
     }
 
 -- ---- the two parts of a block
-pub both_parts : {d : Date} {s : Block} {e : ℕ → ℕ → ℕ} (behaviour : ℕ) (best best₁ best₂ : List ℕ) (low : ℕ) → low ≤ s.n → s.n ≤ 512
+pub both_parts : {d : Date} {s : Block} {e : ℕ → ℕ → ℕ} (behaviour : Behaviour) (best best₁ best₂ : List ℕ) (low : ℕ) → low ≤ s.n → s.n ≤ 512
     → 512 ≤ length best
     → best₁ ≡ stored best 0 (λ j. row_key behaviour d s.w e (s.from + j)) low
     → best₂ ≡ stored best₁ low (λ i. row_key behaviour d s.w e (s.from + (low + i))) (s.n - low)
-    → Keys (behaviour_of behaviour) e d s best₂
+    → Keys behaviour e d s best₂
 both_parts {d} {s} {e} behaviour best best₁ best₂ low h short long p q =
     let f : ℕ → ℕ = λ j. row_key behaviour d s.w e (s.from + j) in
     let all : low + (s.n - low) ≡ s.n = omega arith in

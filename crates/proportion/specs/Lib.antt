@@ -2,3 +2,4 @@ pub mod Held
 pub mod Offers
 pub mod Tried
 pub mod Share
+pub mod States

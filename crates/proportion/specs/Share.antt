@@ -1,5 +1,5 @@
 -- The guarantee in proportion: what the functions hand to each other. Assumes nothing.
-use Rattle.std.specs.Prelude.{◌≡◌, ℕ, zero, suc, ◌+◌, ◌-◌, ◌*◌, ◌/◌, ◌^◌, ◌<◌, ◌≤◌, min, max, Bool, cond, List, length, nat_lt, slice_index}
+use Rattle.std.specs.Prelude.{◌≡◌, ℕ, ◌+◌, ◌-◌, ◌*◌, ◌/◌, ◌^◌, ◌<◌, ◌≤◌, min, max, Bool, cond, List, fold, length, nat_lt, slice_index, slice_range}
 use Rattle.slices.specs.Rows.{cells}
 use Rattle.rules.specs.Date.{cash}
 use Rattle.keys.specs.declared.Date.{Date}
@@ -66,14 +66,13 @@ pub record Bounded (work : List ℕ) (d : Date) (s : Block) (g : ℕ → ℕ) (r
   pub rises : 0 < r.bound → Rising (cells work d.base d.stride) d.stride (s.w + 1)
   pub each : (j : ℕ) → r.low ≤ j → j < r.end → r.bound ≤ g j
 
--- the least of f 0 to f (n - 1), the largest number there is where there are none
-unfoldable pub least_of : (ℕ → ℕ) → ℕ → ℕ
-least_of f zero = 18446744073709551615
-least_of f (suc n) = min (f n) (least_of f n)
+-- the least of some numbers, the largest number there is where there are none
+abbrev pub least_of : List ℕ → ℕ
+least_of xs = fold min 18446744073709551615 xs
 
 -- what the first 8 states from `low` to `end` hold at least; 0 where the rows may fall
 abbrev pub bound_of : Bool → List ℕ → ℕ → ℕ → ℕ
-bound_of rising best low end = cond rising (least_of (λ i. slice_index best (low + i)) (min end (low + 8) - low)) 0
+bound_of rising best low end = cond rising (least_of (slice_range best (min low (min end (low + 8))) (min end (low + 8)))) 0
 
 -- a run of up to 32 states, a bound for each 8 of them, and for all
 pub record Bounds (work : List ℕ) (d : Date) (s : Block) (g : ℕ → ℕ) (r : Run) (bounds : List ℕ) : Type 0 where

@@ -2,8 +2,8 @@
 // guarantees, and passed over for many at a time where the rows rise.
 #![tactic(auto)]
 
-ghost use Rattle.std.specs.Prelude.{◌≡◌, ℕ, ◌+◌, ◌-◌, ◌*◌, ◌^◌, ◌<◌, ◌≤◌, min, max, true, length, slice_index, slice_set};
-ghost use Rattle.slices.specs.Stored.{stored};
+ghost use Rattle.std.specs.Prelude.{◌≡◌, ℕ, ◌+◌, ◌-◌, ◌*◌, ◌^◌, ◌<◌, ◌≤◌, min, max, true, length, slice_index};
+
 ghost use Rattle.slices.specs.Rows.{cells};
 ghost use Rattle.rules.specs.Contract.{rate_most, top_most};
 ghost use Rattle.keys.specs.Sums.{Sums, Span};
@@ -13,22 +13,11 @@ ghost use Rattle.proportion.specs.Share.{left, inverse_of, least_of, bound_of};
 
 use keys::{Block, Date};
 
-fn lesser(x: u64, y: u64) -> u64
-    ensures { result ≡ min x y }
+// The least of some keys; where there are none, the largest number there is.
+fn least(keys: &[u64]) -> u64
+    ensures { result ≡ least_of keys.now }
 {
-    if x < y { x } else { y }
-}
-
-// The least of n keys from state `low` on.
-fn least(best: &[u64; 512], low: usize, n: usize) -> u64
-    requires { (n ≤ 512) × ((i : ℕ) → i < n → low + i < 512) }
-    ensures { result ≡ least_of (λ (i : ℕ). slice_index best.now (low + i)) n }
-{
-    let mut r: u64 = 18446744073709551615;
-    for i in 0..n {
-        r = lesser(best[low + i], r);
-    }
-    r
+    keys.iter().fold(u64::MAX, |least, key| u64::min(least, *key))
 }
 
 // Where amount t leads: the row of its balance, the step by which what is left of a guarantee grows, the key of its cash.
@@ -40,69 +29,74 @@ struct Way {
     add: u64,
 }
 
-// 2^40 times A × x / w is A × x × inverse: inverse is 2^40 / w rounded up, and A × x times the rounding stays below the
-// 2^40 / w that a remainder leaves.
-fn lead(d: Date, w: usize, inverse: usize, t: usize) -> Way
-    requires { (d.base + (w - t) * d.stride < 18446744073709551616)
-        × ((w - t) * inverse < 18446744073709551616)
-        × (t ≤ w)
-        × (w ≤ top_most)
-        × (d.rate ≤ rate_most)
-        × (inverse ≡ inverse_of w) }
-    ensures { (result.t ≡ t) × Shared d w result }
-{
-    Way {
-        t,
-        at: d.base + (w - t) * d.stride,
-        step: (w - t) * inverse,
-        add: keys::key(date::cash(d.rate, d.level, t), t),
+impl Way {
+    // 2^40 times A × x / w is A × x × inverse: inverse is 2^40 / w rounded up, and A × x times the rounding stays below the
+    // 2^40 / w that a remainder leaves.
+    fn lead(d: Date, w: usize, inverse: usize, t: usize) -> Way
+        requires { (d.base + (w - t) * d.stride < 18446744073709551616)
+            × ((w - t) * inverse < 18446744073709551616)
+            × (t ≤ w)
+            × (w ≤ top_most)
+            × (d.rate ≤ rate_most)
+            × (inverse ≡ inverse_of w) }
+        ensures { (result.t ≡ t) × Shared d w result }
+    {
+        Way {
+            t,
+            at: d.base + (w - t) * d.stride,
+            step: (w - t) * inverse,
+            add: keys::key(date::cash(d.rate, d.level, t), t),
+        }
+    }
+
+    // .. and where the next amount leads: by a step, since products cost more than the rest of an amount that is passed over.
+    fn next(self, d: Date, inverse: usize) -> Way
+        requires { (self.t < top_most)
+            × (d.stride ≤ self.at)
+            × (inverse ≤ self.step)
+            × (1 ≤ self.add)
+            × (self.add < 2 ^ 59)
+            × (d.rate ≤ rate_most) }
+        ensures { Stepped d inverse self result }
+    {
+        Way {
+            t: self.t + 1,
+            at: self.at - d.stride,
+            step: self.step - inverse,
+            add: self.add + (8192 * (10000 - d.rate)) as u64 - 1,
+        }
+    }
+
+    // An amount where the guarantee falls in proportion, for n states from state `low` on, the first with guarantee `first`. The
+    // loop looks up single entries, and is not widened: an amount seldom gains, so that a branch costs less than a store.
+    fn offer(self, best: &mut [u64; 512], low: usize, n: usize, work: &[u64], first: usize)
+        requires { Sharing work.now low n first self }
+        ensures { best.new
+            ≡ raised_to best.old low (λ (i : ℕ). slice_index work.now (self.at + left self.step (first + i)) + self.add) n }
+    {
+        let mut product = first * self.step;
+        for i in 0..n {
+            let other = work[self.at + product / 1099511627776] + self.add;
+            if best[low + i] < other {
+                best[low + i] = other;
+            }
+            product += self.step;
+        }
+    }
+
+    // The key of an amount for the state of guarantee a.
+    fn key(self, work: &[u64], a: usize) -> u64
+        requires { (a * self.step < 18446744073709551616)
+            × (self.at + left self.step a < length work.now)
+            × (slice_index work.now (self.at + left self.step a) + self.add < 18446744073709551616) }
+        ensures { result ≡ slice_index work.now (self.at + left self.step a) + self.add }
+    {
+        work[self.at + a * self.step / 1099511627776] + self.add
     }
 }
 
-// .. and where the next amount leads: by a step, since products cost more than the rest of an amount that is passed over.
-fn step_on(to: Way, d: Date, inverse: usize) -> Way
-    requires { (to.t < top_most)
-        × (d.stride ≤ to.at)
-        × (inverse ≤ to.step)
-        × (1 ≤ to.add)
-        × (to.add < 2 ^ 59)
-        × (d.rate ≤ rate_most) }
-    ensures { Stepped d inverse to result }
-{
-    Way {
-        t: to.t + 1,
-        at: to.at - d.stride,
-        step: to.step - inverse,
-        add: to.add + (8192 * (10000 - d.rate)) as u64 - 1,
-    }
-}
-
-// As `raise`, for a loop that is not widened: an amount seldom gains, so that a branch costs less than a store.
-fn raise_one(best: &mut [u64; 512], j: usize, work: &[u64], k: usize, add: u64)
-    requires { (j < 512) × (k < length work.now) × (slice_index work.now k + add < 2 ^ 63) }
-    ensures { best.new ≡ slice_set best.old j (max (slice_index best.old j) (slice_index work.now k + add)) }
-{
-    let other = work[k] + add;
-    if best[j] < other {
-        best[j] = other;
-    }
-}
-
-// An amount where the guarantee falls in proportion, for n states from state `low` on, the first with guarantee `first`. The
-// loop looks up single entries.
-fn offer_share(best: &mut [u64; 512], low: usize, n: usize, work: &[u64], first: usize, r: Way)
-    requires { Sharing work.now low n first r }
-    ensures { best.new
-        ≡ raised_to best.old low (λ (i : ℕ). slice_index work.now (r.at + left r.step (first + i)) + r.add) n }
-{
-    let mut product = first * r.step;
-    for i in 0..n {
-        raise_one(best, low + i, work, r.at + product / 1099511627776, r.add);
-        product += r.step;
-    }
-}
-
-// The states from `low` to `end`. Where `bound` is not 0, the rows rise with the guarantee and none of the states holds less.
+// The states from `low` to `end`. Where `bound` is not 0, the rows rise with the guarantee and none of the states holds less. No
+// `Option`: 0 is a bound as well, below every key, so that one comparison tells whether an amount may gain.
 #[derive(Clone, Copy)]
 struct Run {
     low: usize,
@@ -110,132 +104,106 @@ struct Run {
     bound: u64,
 }
 
-// The key of an amount for the state of guarantee a.
-fn offered(work: &[u64], a: usize, to: Way) -> u64
-    requires { (a * to.step < 18446744073709551616)
-        × (to.at + left to.step a < length work.now)
-        × (slice_index work.now (to.at + left to.step a) + to.add < 18446744073709551616) }
-    ensures { result ≡ slice_index work.now (to.at + left to.step a) + to.add }
-{
-    work[to.at + a * to.step / 1099511627776] + to.add
-}
-
-// An amount above m, for the states of a run, if any: passed over where the last of them does not gain.
-fn share_few(best: &mut [u64; 512], work: &[u64], d: Date, s: Block, r: Run, to: Way)
-    requires { Span work.now d s
-        × Running d s r
-        × Bounded work.now d s (λ (j : ℕ). slice_index best.old j) r
-        × Leading d s to
-        × (512 ≤ length best.old) }
-    ensures { best.new
-        ≡ raised_to best.old r.low (λ (i : ℕ). key_at work.now d s (r.low + i) to.t) (r.end - r.low) }
-{
-    if r.low < r.end {
-        let last = s.from + r.end - 1;
-        if r.bound < offered(work, last, to) {
-            offer_share(best, r.low, r.end - r.low, work, s.from + r.low, to);
+impl Run {
+    // Part p of a run: 8 states, with a bound of their own.
+    fn part(self, p: usize, bound: u64) -> Run
+        requires { (p < 4) × (self.low ≤ 512) }
+        ensures { (result.low ≡ self.low + 8 * p) × (result.end ≡ min self.end (self.low + 8 * p + 8)) × (result.bound ≡ bound) }
+    {
+        let low = self.low + 8 * p;
+        Run {
+            low,
+            end: usize::min(self.end, low + 8),
+            bound,
         }
     }
 }
 
-// Part p of a run: 8 states, with a bound of their own.
-fn part(r: Run, p: usize, bound: u64) -> Run
-    requires { (p < 4) × (r.low ≤ 512) }
-    ensures { (result.low ≡ r.low + 8 * p) × (result.end ≡ min r.end (r.low + 8 * p + 8)) × (result.bound ≡ bound) }
-{
-    let low = r.low + 8 * p;
-    Run {
-        low,
-        end: usize::min(r.end, low + 8),
-        bound,
-    }
-}
-
-// .. for a run of up to 32 states: passed over for all of them, or 8 at a time.
-fn share_amount(
-    best: &mut [u64; 512],
-    work: &[u64],
-    d: Date,
-    s: Block,
-    r: Run,
-    bounds: &[u64; 4],
-    to: Way,
-)
-    requires { Span work.now d s
-        × Running d s r
-        × (r.low < r.end)
-        × Bounds work.now d s (λ (j : ℕ). slice_index best.old j) r bounds.now
-        × Leading d s to
-        × (512 ≤ length best.old) }
-    ensures { best.new
-        ≡ raised_to best.old r.low (λ (i : ℕ). key_at work.now d s (r.low + i) to.t) (r.end - r.low) }
-{
-    if r.bound < offered(work, s.from + r.end - 1, to) {
-        for p in 0..4 {
-            share_few(best, work, d, s, part(r, p, bounds[p]), to);
-        }
-    }
-}
-
-// A number that no state from `low` to `end` holds less than, among the first 8 of them; 0 where the rows may fall.
+// A number that no state from `low` to `end` holds less than, among the first 8 of them; 0, which always is one, where the rows
+// may fall.
 fn bound_from(best: &[u64; 512], low: usize, end: usize, rising: bool) -> u64
     requires { (low ≤ 1024) × (end ≤ 512) }
     ensures { result ≡ bound_of rising best.now low end }
 {
     if rising {
-        return least(best, low, usize::min(end, low + 8).saturating_sub(low));
+        let end = usize::min(end, low + 8);
+        least(&best[usize::min(low, end)..end])
+    } else {
+        0
     }
-    0
 }
 
-fn fill_bounds(bounds: &mut [u64; 4], best: &[u64; 512], low: usize, end: usize, rising: bool)
+// .. one for each 8 of 32.
+fn bounds_from(best: &[u64; 512], low: usize, end: usize, rising: bool) -> [u64; 4]
     requires { (low ≤ 512) × (end ≤ 512) }
-    ensures { bounds.new
-        ≡ stored bounds.old 0 (λ (p : ℕ). bound_of rising best.now (low + 8 * p) end) 4 }
+    ensures { (p : ℕ) → p < 4 → slice_index result p ≡ bound_of rising best.now (low + 8 * p) end }
 {
-    for p in 0..4 {
-        bounds[p] = bound_from(best, low + 8 * p, end, rising);
-    }
+    std::array::from_fn(|p| bound_from(best, low + 8 * p, end, rising))
 }
 
-fn least_bound(bounds: &[u64; 4]) -> u64
-    ensures { result
-        ≡ min (min (slice_index bounds.now 0) (slice_index bounds.now 1))
-        (min (slice_index bounds.now 2) (slice_index bounds.now 3)) }
-{
-    lesser(lesser(bounds[0], bounds[1]), lesser(bounds[2], bounds[3]))
-}
-
-// The amounts above m, for 32 states from state `low` on. Gives the state after them.
-fn share_run(
-    best: &mut [u64; 512],
-    work: &[u64],
+// The states of a block over the sums of their date, where some amount is above m: `rising` where the rows rise.
+#[derive(Clone, Copy)]
+struct States<'a> {
+    work: &'a [u64],
     d: Date,
     s: Block,
-    low: usize,
     rising: bool,
-) -> usize
-    requires { Span work.now d s
-        × Held (key_at work.now d s) best.old s.n (tried_below d s low)
-        × (rising ≡ true → Rising (cells work.now d.base d.stride) d.stride (s.w + 1))
-        × (s.w < s.from + low)
-        × (low < s.n)
-        × (d.level < s.w) }
-    ensures { (result ≡ min s.n (low + 32))
-        × Held (key_at work.now d s) best.new s.n (tried_below d s (min s.n (low + 32))) }
-{
-    let end = usize::min(s.n, low + 32);
-    let mut bounds = [0u64; 4];
-    fill_bounds(&mut bounds, best, low, end, rising);
-    let bound = least_bound(&bounds);
-    let r = Run { low, end, bound };
-    let inverse = (1099511627776 + s.w - 1) / s.w;
-    let mut to = lead(d, s.w, inverse, d.level);
-    while to.t < s.w {
-        to = step_on(to, d, inverse);
-        share_amount(best, work, d, s, r, &bounds, to);
+    ghost span: { Span work.now d s },
+    ghost level_is: { d.level < s.w },
+    ghost rises: { rising ≡ true → Rising (cells work.now d.base d.stride) d.stride (s.w + 1) },
+}
+
+impl<'a> States<'a> {
+    ghost use Rattle.proportion.specs.States.{raised_by, Holding};
+
+    // An amount above m, for the states of a run, if any: passed over where the last of them does not gain.
+    fn share_few(self, best: &mut [u64; 512], r: Run, to: Way)
+        requires { Running self.d self.s r
+            × Bounded self.work.now self.d self.s (λ (j : ℕ). slice_index best.old j) r
+            × Leading self.d self.s to }
+        ensures { best.new ≡ raised_by self.entry best.old r to.t }
+    {
+        if r.low < r.end {
+            let last = self.s.from + r.end - 1;
+            if r.bound < to.key(self.work, last) {
+                to.offer(best, r.low, r.end - r.low, self.work, self.s.from + r.low);
+            }
+        }
     }
-    end
+
+    // .. for a run of up to 32 states: passed over for all of them, or 8 at a time.
+    fn share_amount(self, best: &mut [u64; 512], r: Run, bounds: &[u64; 4], to: Way)
+        requires { Running self.d self.s r
+            × (r.low < r.end)
+            × Bounds self.work.now self.d self.s (λ (j : ℕ). slice_index best.old j) r bounds.now
+            × Leading self.d self.s to }
+        ensures { best.new ≡ raised_by self.entry best.old r to.t }
+    {
+        if r.bound < to.key(self.work, self.s.from + r.end - 1) {
+            for (p, bound) in bounds.iter().enumerate() {
+                self.share_few(best, r.part(p, *bound), to);
+            }
+        }
+    }
+
+    // The amounts above m, for 32 states from state `low` on.
+    fn share_run(self, best: &mut [u64; 512], low: usize)
+        requires { Holding self best.old low × (self.s.w < self.s.from + low) × (low < self.s.n) }
+        ensures { Holding self.entry best.new (min self.entry.s.n (low + 32)) }
+    {
+        let w = self.s.w;
+        let end = usize::min(self.s.n, low + 32);
+        let bounds = bounds_from(best, low, end, self.rising);
+        let bound = least(&bounds);
+        let r = Run { low, end, bound };
+        let inverse = (1099511627776 + w - 1) / w;
+        let mut to = Way::lead(self.d, w, inverse, self.d.level);
+        // No `for`: the way counts the amounts itself.
+        while to.t < w {
+            to = to.next(self.d, inverse);
+            self.share_amount(best, r, &bounds, to);
+        }
+    }
 }
 
 // The amounts above m where the account is below the guarantee.
@@ -246,14 +214,16 @@ pub fn share_block(best: &mut [u64; 512], work: &[u64], d: Date, s: Block, risin
     ensures { Held (key_at work.now d s) best.new s.n (λ (j : ℕ). max s.w (free_of d s j) + 1) }
 {
     if d.level < s.w {
-        let mut low = usize::min(s.n, (s.w + 1).saturating_sub(s.from));
-        while low < s.n {
-            low = share_run(best, work, d, s, low, rising);
+        let states = States { work, d, s, rising };
+        let first = usize::min(s.n, (s.w + 1).saturating_sub(s.from));
+        for low in (first..s.n).step_by(32) {
+            states.share_run(best, low);
         }
     }
 }
 
-// 1 where the next entry is smaller, by the sign of the difference.
+// 1 where the next entry is smaller, by the sign of the difference: no `bool`, since the plainest x86-64 compares no 64-bit numbers
+// side by side.
 fn falls_at(work: &[u64], k: usize) -> u64
     requires { (k + 1 < length work.now) × (slice_index work.now k < 2 ^ 63) × (slice_index work.now (k + 1) < 2 ^ 63) }
     ensures { (result ≤ 1)
@@ -263,18 +233,16 @@ fn falls_at(work: &[u64], k: usize) -> u64
     std::num::wrapping_sub_u64(work[k + 1], work[k]) / 9223372036854775808
 }
 
-// How often a row falls, counted so that the loop can be widened.
-fn falls(work: &[u64], at: usize, n: usize) -> u64
+// Whether a row never falls: its falls are counted, so that the loop can be widened.
+fn ascends(work: &[u64], at: usize, n: usize) -> bool
     requires { (n ≤ top_most) × ((i : ℕ) → i < n + 1 → (at + i < length work.now) × (slice_index work.now (at + i) < 2 ^ 63)) }
-    ensures { (result ≤ n)
-        × (result ≡ 0 → Ascending work.now at n)
-        × (Ascending work.now at n → result ≡ 0) }
+    ensures { (result ≡ true → Ascending work.now at n) × (Ascending work.now at n → result ≡ true) }
 {
-    let mut r: u64 = 0;
+    let mut falls: u64 = 0;
     for i in 0..n {
-        r += falls_at(work, at + i);
+        falls += falls_at(work, at + i);
     }
-    r
+    falls == 0
 }
 
 // Whether each of n rows rises with the guarantee: tested, so that nothing here rests on the rules of a date.
@@ -283,11 +251,11 @@ pub fn rises(work: &[u64], d: Date, n: usize) -> bool
     ensures { (result ≡ true → Rising (cells work.now d.base d.stride) d.stride n)
         × (Rising (cells work.now d.base d.stride) d.stride n → result ≡ true) }
 {
-    let stride = d.stride;
-    let steps = stride.saturating_sub(1);
-    let mut r: usize = 0;
+    let steps = d.stride.saturating_sub(1);
     for x in 0..n {
-        r += falls(work, d.base + x * stride, steps) as usize;
+        if !ascends(work, d.base + x * d.stride, steps) {
+            return false;
+        }
     }
-    r == 0
+    true
 }

@@ -1,9 +1,8 @@
 -- Request (vii): the groups of the returns that lead from a balance to one row of a layer. Assumes nothing.
-use Rattle.std.specs.Prelude.{Bool, cond, ◌&&◌, List, ◌≡◌, ℕ, ◌+◌, ◌-◌, ◌*◌, ◌%◌, ◌≤◌, ◌<◌, ltb, eqb, get_or, length, set}
+use Rattle.std.specs.Prelude.{Bool, cond, ◌&&◌, List, ◌≡◌, ℕ, ◌+◌, ◌-◌, ◌*◌, ◌%◌, ◌≤◌, ◌<◌, ltb, eqb, get_or, set}
 use Rattle.decision.specs.Index.{sum}
 use Rattle.rules.specs.Contract.{Terms, Returns, top_most, weight_most}
 use Rattle.rules.specs.Date.{next_account, excess_paid}
-use Rattle.laws.specs.Accepted.{Valid}
 use Rattle.returns.specs.Sorted.{Ordered}
 
 -- what the returns pay on arrival, by weight, which no guarantee changes
@@ -30,7 +29,6 @@ pub record Joined (starts weights : List ℕ) (n start weight : ℕ) (starts' we
 
 -- a balance whose returns are to be grouped, sorted by factor
 pub record Grouping (c : Terms) (rs : Returns) (balance stride : ℕ) : Type 0 where
-  pub valid : Valid c
   pub returns : Ordered rs
   pub balance_is : balance ≤ top_most
   pub stride_is : stride ≤ top_most + 1
@@ -52,5 +50,3 @@ pub record Grouped (c : Terms) (rs : Returns) (balance stride : ℕ) (starts wei
       → sum (λ g. get_or weights g 0 * f (get_or starts g 0)) count ≡ sum (λ k. rs.weight k * f (start_held c rs balance stride k)) rs.count
   pub rows : (g : ℕ) → g < count → RowStart c.top stride (get_or starts g 0)
   pub rising : (g h : ℕ) → g < h → h < count → 0 < get_or weights h 0 → get_or starts g 0 < get_or starts h 0
-  pub long : 64 ≤ length starts
-  pub long_weights : 64 ≤ length weights

@@ -1,5 +1,7 @@
 -- What the loops that follow a table read and store. Assumes nothing.
 use mathlib.Core.List.{List, ◌++◌}
+use Rattle.std.specs.Prelude.{Option, Some, None, Ok}
+use borrow.Author.Tests.{lt-ltb}
 use mathlib.Core.Logic.{inr}
 use mathlib.Core.Path.{◌≡◌, refl, ap, ap₂, sym, ◌∙◌, subst}
 use Prim.Native.Nat.{ℕ, suc, ◌+◌, ◌-◌, ◌*◌, ◌≤◌, ◌<◌, max}
@@ -9,11 +11,12 @@ use native.Mathlib.Omega.{arith}
 use lib.Dec.{T}
 use lib.ListN.{length, get_or, drop, replicate}
 use borrow.Rule.Slice.PartMut.{mid_of}
-use Rattle.decision.specs.Index.{first}
+use Rattle.decision.specs.Index.{first, Searched, run_hit, run_end}
 use Rattle.decision.specs.Process.{worth, table_value, start_table_value}
 use Rattle.decision.proofs.Optimal.{table_step, table_last}
 use Rattle.decision.specs.Layers.{low_digit, lookup, layer}
 use Rattle.slices.specs.Parts.{part_at}
+use Rattle.slices.specs.Found.{found, found_first, none_first}
 use Rattle.slices.specs.Stored.{stored, length_stored, stored_out}
 use Rattle.slices.specs.Rows.{cells, flat, rows_le, rows_step, row_next, layer_stored}
 use Rattle.rules.specs.Contract.{Terms, top_most, rate_most, terms_of, Returns, returns_of, Rates, rates_of, Input}
@@ -21,14 +24,14 @@ use Rattle.rules.specs.Date.{dynamic, free_amount, admits, maturity_value, margi
 use Rattle.rules.specs.Product.{supplied_value, supplied_layer}
 use Rattle.rules.specs.Refusals.{Verdict, accepted, refused, verdict, number_of, place_of, on_success, input_checks}
 use Rattle.rules.specs.FixedTerm.{free_in, admissible_in, rate_in, cash_in, after_in, process_of, layer_size, layout_of, fixed_term}
-use Rattle.rules.specs.Operations.{answer, work_after, supplied_answer, supplied_work, filled}
+use Rattle.rules.specs.Operations.{Answer, answer, work_after, supplied_answer, supplied_work, filled}
 use Rattle.laws.specs.Supplied.{all_admitted, table_checked, supplied_refused, supplied_then}
 use Rattle.laws.specs.Date.{dynamic_is, shared}
 use Rattle.laws.specs.Accepted.{Valid, ValidInput}
 use Rattle.laws.specs.Bounds.{table_value_le, state_most, entry_most}
 use Rattle.laws.specs.AnyOrder.{Reordered}
 use Rattle.laws.proofs.AnyOrder.{any_order_table}
-use Rattle.input.specs.Accepted.{Given}
+use Rattle.input.specs.Given.{Given}
 use Rattle.returns.specs.Sorted.{Sorted, ordered_input}
 use Rattle.expect.specs.Expected.{expected, shared_same}
 use Rattle.keys.specs.declared.Date.{Date}
@@ -37,8 +40,8 @@ use Rattle.worth.specs.Worth.{worth_over, worth_same}
 use Rattle.dates.specs.Back.{at, expected_on, shared_expects}
 use Rattle.dates.specs.Dated.{date_of, Summed}
 use Rattle.dates.specs.Layer.{DateLayer, layer_long, layer_entry}
-use Rattle.valuing.specs.declared.Answer as declared
-use Rattle.valuing.specs.Answered.{refusal, Settled}
+use Rattle.valuing.specs.declared.Valuation.{Valuation}
+use Rattle.valuing.specs.Answered.{refusal, told, Settled}
 use Rattle.valuing.specs.First.{First, first_layer, first_mature}
 use Rattle.supplied.specs.Followed.{followed, followed_on, Following, Dating, Back, table_on, Starting, Answered, Supplying}
 use Rattle.laws.specs.Terms.{table_size, bad_at, bad_in}
@@ -132,17 +135,45 @@ module _ {c : Terms} {i : ℕ} {work layer work₁ : List ℕ} {rs : Returns} {r
           rest = λ i h. ap (λ (xs : List ℕ). get_or xs i 0) values ∙ stored_out work₁ 0 _ _ i (inr (omega arith)) ∙ s.rest i h;
         }
 
--- ---- the search, date by date
-module _ (c : Terms) (table : List ℕ) (j : ℕ) (h : j < c.dates - 1) where
-  pub search_fits : j * layer_size c + layer_size c ≤ (c.dates - 1) * layer_size c
-  search_fits = let l = rows_le (layer_size c) (j + 1) (c.dates - 1) (omega arith) in let s = rows_step (layer_size c) j in omega arith
+-- ---- the search, date by date: in the layer of date i, once the layers before it are passed
+module _ {c : Terms} {i from to : ℕ} (p : DateLayer c i from to) (some : 0 < i) (table : List ℕ) (room : table_size c ≤ length table)
+    (x : Searched (bad_in c table) (table_size c) ((i - 1) * layer_size c))
+  where
+    fits : (i - 1) * layer_size c + layer_size c ≤ table_size c
+    fits = let s = p.start in let e = p.end in let w = p.within in omega arith
 
-  pub search_same : (e : ℕ) → e < layer_size c
-      → bad_in c table (j * layer_size c + e)
-      ≡ bad_at c e (get_or (mid_of (j * layer_size c) ((j + 1) * layer_size c - j * layer_size c) table) e 0)
-  search_same e l =
-      let s = rows_step (layer_size c) j in
-      ap₂ (bad_at c) (low_digit j e (layer_size c) l) (sym (part_at (j * layer_size c) ((j + 1) * layer_size c) e table (omega arith)))
+    same : (e : ℕ) → e < layer_size c
+        → bad_in c table ((i - 1) * layer_size c + e) ≡ bad_at c e (get_or (mid_of from (to - from) table) e 0)
+    same e l =
+        let end = p.end in
+        ap₂ (bad_at c) (low_digit (i - 1) e (layer_size c) l)
+        (ap (λ (y : ℕ). get_or table (y + e) 0) (sym p.start) ∙ sym (part_at from to e table (omega arith)))
+
+    module _ (e : ℕ)
+        (is : found (λ (k : ℕ). bad_at c k (get_or (mid_of from (to - from) table) k 0)) (length (mid_of from (to - from) table)) ≡ Some e)
+      where
+        inside : (first (λ (k : ℕ). bad_at c k (get_or (mid_of from (to - from) table) k 0)) (layer_size c) ≡ e) × (e < layer_size c)
+        inside = rw (layer_long p table room) at (found_first _ _ is)
+
+        pub entry_small : from + e < table_size c
+        entry_small = let l = inside.1 in let s = p.end in let w = p.within in omega arith
+
+        pub entry_found : Some (from + e) ≡ found (bad_in c table) (table_size c)
+        unfolding found
+        entry_found =
+            let at : first (bad_in c table) (table_size c) ≡ from + e =
+            run_hit x fits same inside.0 inside.1 ∙ ap (λ (y : ℕ). y + e) (sym p.start) in
+            rw (at, lt-ltb _ _ entry_small) refl
+
+    pub layer_passed :
+        ◌≡◌ {A = Option ℕ}
+        (found (λ (k : ℕ). bad_at c k (get_or (mid_of from (to - from) table) k 0)) (length (mid_of from (to - from) table))) None
+        → Searched (bad_in c table) (table_size c) ((i + 1 - 1) * layer_size c)
+    layer_passed none =
+        let up : i - 1 + 1 ≡ i + 1 - 1 = omega arith in
+        let whole : layer_size c ≤ first (λ (k : ℕ). bad_at c k (get_or (mid_of from (to - from) table) k 0)) (layer_size c) =
+        rw (layer_long p table room) at (none_first _ _ none) in
+        subst (Searched _ _) (rows_step (layer_size c) (i - 1) ∙ ap (λ (n : ℕ). n * layer_size c) up) (run_end x fits same refl whole)
 
 -- ---- from one date to the date before it
 table_on_back : (c : Terms) (rs : Returns) (ds : Rates) (table : List ℕ) (i w a : ℕ) → ds i ≤ rate_most → i < c.dates
@@ -213,33 +244,26 @@ module _ {c : Terms} {work₀ table work : List ℕ} {rs : Returns} {rates : Lis
     next_sums x y k = shared_same c rs (rates_of rates i) _ _ x y (λ w h. v.values w y h k)
 
     pub first_before : (work₁ : List ℕ) → Back c rs (rates_of rates) i work (mid_of from (to - from) table) work₁
-        → First (table_on c rs (rates_of rates) table (suc (i - 1))) c work₀ work₁
+        → First (table_on c rs (rates_of rates) table i) c work₀ work₁
     first_before work₁ d = record {
       long = d.long ∙ v.long;
       values = λ w a h l.
           let sums = expected c rs (shared (rates_of rates i) (cells work 0 (c.premium + 1))) in
           let m = free_amount c.level a in
-          let up : i ≡ suc (i - 1) = omega arith in
           d.values w a h l
           ∙ ap (worth_over sums (rate_in c i) m w a) (amount_is w a h l)
           ∙ worth_same _ _ (rate_in c i) m w a (lookup (layout_of c) table i (at w a)) (λ x y p q. next_sums x y (le_trans q l))
-          ∙ table_on_back c rs (rates_of rates) table i w a (s.given.valid.rates.rate i) before
-          ∙ ap (λ (n : ℕ). table_on c rs (rates_of rates) table n w a) up;
+          ∙ table_on_back c rs (rates_of rates) table i w a (s.given.valid.rates.rate i) before;
       rest = λ x h. d.rest x h ∙ v.rest x h;
     }
 
 pub first_none : {c : Terms} {work table : List ℕ} {rs : Returns} {rates : List ℕ} → Starting c work table rs rates
-    → First (table_on c rs (rates_of rates) table (suc (c.dates - 1))) c work work
-first_none {c} {work} {table} {rs} {rates} s =
-    let last : c.dates ≡ suc (c.dates - 1) = omega (arith, s.given.valid.terms.dates_least) in
-    record {
-      long = refl;
-      values = λ w a h l.
-          s.mature w a h l
-          ∙ sym (last_is c rs (rates_of rates) table w a)
-          ∙ ap (λ (n : ℕ). table_on c rs (rates_of rates) table n w a) last;
-      rest = λ x h. refl;
-    }
+    → First (table_on c rs (rates_of rates) table c.dates) c work work
+first_none {c} {work} {table} {rs} {rates} s = record {
+  long = refl;
+  values = λ w a h l. s.mature w a h l ∙ sym (last_is c rs (rates_of rates) table w a);
+  rest = λ x h. refl;
+}
 
 -- the values of the returns in another order are those of the list
 pub of_the_list : {c : Terms} {rs us : Returns} (ds : Rates) (table : List ℕ) {work work' : List ℕ} → Reordered rs us
@@ -279,23 +303,23 @@ module _ (rs : Returns) (ds : Rates) (table : List ℕ) {c : Terms} {work work' 
 
 -- ---- what terms that were read answer
 module _ {c : Terms} {rs : Returns} {ds : Rates} {v : Verdict} {work table : List ℕ} where
-  pub answered_refused : (n p : ℕ) (r : declared.Answer) → v ≡ refused n p → r ≡ refusal n p → Answered c rs ds v work table r work
+  pub answered_refused : {n p : ℕ} {r : Answer} → v ≡ refused n p → r ≡ refusal n p → Answered c rs ds v work table r work
   unfolding answer work_after filled on_success number_of place_of
-  answered_refused n p r e f = record { answer_is = rw e f; work_is = rw e }
+  answered_refused e f = record { answer_is = rw e f; work_is = rw e }
 
-  pub answered_by : {r : declared.Answer} {work' : List ℕ} → v ≡ accepted → Answered c rs ds accepted work table r work'
+  pub answered_by : {r : Answer} {work' : List ℕ} → v ≡ accepted → Answered c rs ds accepted work table r work'
       → Answered c rs ds v work table r work'
   answered_by {r} {work'} e a = subst (λ (x : Verdict). Answered c rs ds x work table r work') (sym e) a
 
-pub answered_accepted : {c : Terms} {rs : Returns} {ds : Rates} {work table work' : List ℕ} (r : declared.Answer) (work'' : List ℕ)
+pub answered_accepted : {c : Terms} {rs : Returns} {ds : Rates} {work table work' : List ℕ} (r : Valuation) (work'' : List ℕ)
     → layer_size c + layer_size c ≤ length work → ds 0 ≤ rate_most → First (table_on c rs ds table 1) c work work'
-    → Settled c rs (ds 0) work' r work'' → Answered c rs ds accepted work table r work''
+    → Settled c rs (ds 0) work' r work'' → Answered c rs ds accepted work table (told (Ok r)) work''
 unfolding answer work_after filled on_success number_of place_of fixed_term layout_of
 answered_accepted {c} {rs} {ds} {work} {table} r work'' room small d s =
     let value : r.value ≡ supplied_value (fixed_term c rs ds) table = s.value_is ∙ supplied_value_lem rs ds table d small in record {
       answer_is = λ i. record {
-        number = s.number_is i;
-        place = s.place_is i;
+        number = 0;
+        place = 0;
         value = value i;
         margin = (s.margin_is ∙ ap (λ (x : ℕ). margin x c.premium) value) i;
       };
@@ -303,21 +327,21 @@ answered_accepted {c} {rs} {ds} {work} {table} r work'' room small d s =
     }
 
 -- ---- what a call answers, on any input
-module _ (x : Input) (work table : List ℕ) (r : declared.Answer) where
+module _ (x : Input) (work table : List ℕ) where
   abbrev rs : Returns
   rs = returns_of x.list
 
   abbrev ds : Rates
   ds = rates_of x.rates
 
-  pub whole : (work' : List ℕ) → verdict (input_checks x) ≡ accepted → (c : Terms) → c ≡ terms_of x.bytes
+  pub whole : {r : Answer} {work' : List ℕ} → verdict (input_checks x) ≡ accepted → (c : Terms) → c ≡ terms_of x.bytes
       → Answered c rs ds (table_checked c rs ds work table) work table r work' → Supplying x work table r work'
   unfolding supplied_answer supplied_work work_after filled fixed_term layout_of
-  whole work' e c same a =
+  whole {r} {work'} e c same a =
       let all = supplied_then (terms_of x.bytes) rs ds work table (input_checks x) e in
       let b = subst (λ (t : Terms). Answered t rs ds (table_checked t rs ds work table) work table r work') same a in
       record { answer_is = rw all b.answer_is; work_is = rw all b.work_is }
 
-  pub whole_refused : (n q : ℕ) → verdict (input_checks x) ≡ refused n q → r ≡ refusal n q → Supplying x work table r work
+  pub whole_refused : {r : Answer} {n q : ℕ} → verdict (input_checks x) ≡ refused n q → r ≡ refusal n q → Supplying x work table r work
   unfolding supplied_answer supplied_work answer work_after filled on_success number_of place_of
-  whole_refused n q e f = let all = supplied_refused (policy_of x) work table e in record { answer_is = rw all f; work_is = rw all }
+  whole_refused e f = let all = supplied_refused (policy_of x) work table e in record { answer_is = rw all f; work_is = rw all }

@@ -9,9 +9,8 @@ use Rattle.rules.specs.Date.{dynamic, free_amount, admits, maturity_value}
 use Rattle.rules.specs.Product.{supplied_value, supplied_layer}
 use Rattle.rules.specs.FixedTerm.{rate_in, layer_size, layout_of, process_of, fixed_term}
 use Rattle.rules.specs.Refusals.{Verdict}
-use Rattle.rules.specs.Operations.{answer, work_after, supplied_answer, supplied_work}
+use Rattle.rules.specs.Operations.{Answer, answer, work_after, supplied_answer, supplied_work}
 use Rattle.laws.specs.Date.{shared}
-use Rattle.input.specs.Accepted.{Given}
 use Rattle.returns.specs.Sorted.{OrderedInput}
 use Rattle.expect.specs.Expected.{expected}
 use Rattle.keys.specs.declared.Date.{Date}
@@ -19,8 +18,6 @@ use Rattle.keys.specs.Sums.{sums, Sums}
 use Rattle.worth.specs.Worth.{worth_over}
 use Rattle.dates.specs.Back.{at}
 use Rattle.dates.specs.Dated.{OneDate}
-use Rattle.valuing.specs.declared.Answer as declared
-use Rattle.valuing.specs.Answered.{answer_of}
 use Rattle.laws.specs.Terms.{table_size, bad_in, read_policy}
 use Rattle.rules.specs.Policy.{policy_of}
 
@@ -66,20 +63,19 @@ pub record Starting (c : Terms) (work table : List ℕ) (rs : Returns) (rates : 
   pub mature : (w a : ℕ) → w ≤ c.top → a ≤ c.premium → cells work 0 (c.premium + 1) w a ≡ maturity_value w a
 
 -- the checks have passed: slices that are long enough, and no bad entry
-pub record Checked (c : Terms) (list rates work table : List ℕ) : Type 0 where
-  pub given : Given c list rates
+pub record Checked (c : Terms) (work table : List ℕ) : Type 0 where
   pub room : layer_size c + layer_size c ≤ length work
   pub entries : table_size c ≤ length table
   pub none_bad : table_size c ≤ first (bad_in c table) (table_size c)
 
 -- the answer of a verdict, and the working slice
-pub record Answered (c : Terms) (rs : Returns) (ds : Rates) (v : Verdict) (work table : List ℕ) (r : declared.Answer)
+pub record Answered (c : Terms) (rs : Returns) (ds : Rates) (v : Verdict) (work table : List ℕ) (r : Answer)
     (work' : List ℕ) : Type 0
   where
-    pub answer_is : r ≡ answer_of (answer v (supplied_value (fixed_term c rs ds) table) c.premium)
+    pub answer_is : r ≡ answer v (supplied_value (fixed_term c rs ds) table) c.premium
     pub work_is : work' ≡ work_after (read_policy c rs ds) v (supplied_layer (fixed_term c rs ds) table) work
 
 -- WHAT VALUING A SUPPLIED TABLE ANSWERS AND LEAVES, on any input
-pub record Supplying (x : Input) (work table : List ℕ) (r : declared.Answer) (work' : List ℕ) : Type 0 where
-  pub answer_is : r ≡ answer_of (supplied_answer (policy_of x) work table)
+pub record Supplying (x : Input) (work table : List ℕ) (r : Answer) (work' : List ℕ) : Type 0 where
+  pub answer_is : r ≡ supplied_answer (policy_of x) work table
   pub work_is : work' ≡ supplied_work (policy_of x) work table

@@ -1,4 +1,6 @@
 -- `dates::all_dates` meets its contract. Assumes nothing.
+use mathlib.Core.Path.{◌≡◌}
+use Prim.Native.Nat.{◌-◌}
 use native.Mathlib.Omega.{arith}
 use Rattle.dates.proofs.Laws.{dating, valued_before, valued_none}
 use Rattle.dates.proofs.all_dates.Goals as goal
@@ -6,21 +8,26 @@ use Rattle.dates.proofs.all_dates.Goals as goal
 pub loop-i-init : goal.loop-i-init
 loop-i-init c =
     let pre = c.requires in
-    (omega (arith, pre.given.valid.terms.dates_least), valued_none pre)
+    (omega (arith, pre.given.valid.terms.dates_least), omega arith, valued_none pre)
 
 pub one_date-requires : goal.one_date-requires
 one_date-requires c =
     let loop = c.loop-i in
-    let pre = c.requires in
-    (pre.known, dating pre loop.invariant.1 loop.invariant.0)
+    dating c.requires loop.invariant.2 (omega (arith, loop.invariant.1))
 
 pub loop-i-preserved : goal.loop-i-preserved
 loop-i-preserved c =
     let loop = c.loop-i in
-    let pre = c.requires in
     let part = c.lent_layer-part.ensures in
     let one-date = c.one_date in (
       omega arith,
-      valued_before pre loop.invariant.1 part c.loop-i-test.true loop.invariant.0
+      omega arith,
+      valued_before c.requires loop.invariant.2 part (omega arith) (omega (arith, loop.invariant.1))
           one-date.new.work one-date.new.table one-date.ensures,
     )
+
+pub returns : goal.returns
+returns c =
+    let loop = c.loop-i in
+    let all : loop.i - 1 ≡ 0 = omega arith in
+    rw all at loop.invariant.2

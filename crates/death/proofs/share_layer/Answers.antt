@@ -19,9 +19,7 @@ loop-w-init c = (omega arith, stored_none _ _ _ _)
 
 pub share_row-requires : goal.share_row-requires
 share_row-requires c =
-    let loop = c.loop-w in
-    let told = c.halves-d.ensures in
-    rw told.0 (row_of c.requires loop.w c.loop-w-test.true _ loop.invariant.1 told.1)
+    let loop = c.loop-w in row_of c.requires loop.w c.loop-w-test.true _ loop.invariant.1
 
 pub loop-w-preserved : goal.loop-w-preserved
 loop-w-preserved c =
@@ -29,7 +27,7 @@ loop-w-preserved c =
     let args = c.args in
     let by-rate =
     ap (λ (r : ℕ). stored loop.work (loop.w * args.stride) (shared r (cells loop.work 0 args.stride) loop.w) args.stride)
-    c.halves-d.ensures.0 in (
+    c.new-death.ensures in (
       omega arith,
       c.share_row.ensures
           ∙ by-rate

@@ -30,7 +30,7 @@ pub loop-j-preserved : goal.loop-j-preserved
 loop-j-preserved c =
     let loop = c.loop-j in
     let args = c.args in
-    let f = term args.work.now args.starts.now args.weights.now (args.from + loop.j) in
+    let f = term args.work.now args.groups.now (args.from + loop.j) in
     let eight : c.eight_products.result ≡ sum (λ e. f (args.k + e)) 8 =
     omega (arith, c.eight_products.ensures.0, sum_append f args.k 8) in
     let more = ap₂ (λ (x y : ℕ). x + y) (kept_yet _ _ loop.j loop.invariant.1) eight in

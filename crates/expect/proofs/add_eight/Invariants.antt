@@ -12,7 +12,7 @@ invariant-loop-j l =
     (l.j ≤ l.n)
     × (l.sums
     ≡ stored l.initial.sums 0
-    (λ i. get_or l.initial.sums i 0 + sum (λ e. term l.work l.starts l.weights (l.from + i) (l.k + e)) 8) l.j)
+    (λ i. get_or l.initial.sums i 0 + sum (λ e. term l.work l.groups (l.from + i) (l.k + e)) 8) l.j)
 
 abbrev pub decreases-loop-j : goal.decreases-loop-j
 decreases-loop-j l = l.n - l.j

@@ -1,7 +1,6 @@
 -- `expect::expect_layer` meets its contract. Assumes nothing.
 use Prim.Native.Nat.{ℕ, ◌+◌, ◌*◌}
 use mathlib.Core.Path.{◌≡◌, refl, ap, ◌∙◌}
-use native.Mathlib.Nat.{le_of_eq}
 use native.Mathlib.Omega.{arith}
 use Rattle.contract.specs.Reading.{terms_in}
 use Rattle.expect.specs.Expected.{expected, scaled}
@@ -13,35 +12,30 @@ use Rattle.expect.proofs.Laws.{layer_balance, balance_row, balance_cells, expect
 use Rattle.expect.proofs.expect_layer.Goals as goal
 
 pub loop-balance-init : goal.loop-balance-init
-loop-balance-init c = (omega arith, stored_none _ _ _ _, le_of_eq refl, le_of_eq refl, le_of_eq refl)
+loop-balance-init c = stored_none _ _ _ _
 
 pub expect_row-requires : goal.expect_row-requires
 expect_row-requires c =
     let pre = c.requires in
     let loop = c.loop-balance in
     let met =
-    layer_balance loop.work _ _ loop.balance pre.0.valid pre.1 c.most_after-most.ensures loop.invariant.1 (omega arith) in
-    (balance_row met c.group-groups.ensures, loop.invariant.2)
+    layer_balance loop.work _ _ loop.balance pre.0.valid pre.1 c.on-average.ensures loop.invariant (omega arith) in
+    balance_row _ met c.gather.ensures
 
 pub loop-balance-preserved : goal.loop-balance-preserved
 loop-balance-preserved c =
     let pre = c.requires in
     let loop = c.loop-balance in
-    let groups = c.group-groups.ensures in
-    let row = c.expect_row in
+    let groups = c.gather.ensures in
     let c₀ = c.args.c in
     let met =
-    layer_balance loop.work _ _ loop.balance pre.0.valid pre.1 c.most_after-most.ensures loop.invariant.1 (omega arith) in
-    let is = balance_cells met groups in
+    layer_balance loop.work _ _ loop.balance pre.0.valid pre.1 c.on-average.ensures loop.invariant (omega arith) in
     let step =
     expect_step (terms_in c₀) (in_order c.args.order.now) c.args.work.now
-    (c₀.premium + 1) ((c₀.top + 1) * (c₀.premium + 1)) refl in (
-      omega (arith, c.loop-balance-test.true),
-      row.ensures.0 ∙ stored_eq _ _ _ _ _ (λ k l. ap (λ (x : ℕ). 8192 * x) (is k)) ∙ step loop.balance loop.work loop.invariant.1,
-      row.ensures.1,
-      groups.long,
-      groups.long_weights,
-    )
+    (c₀.premium + 1) ((c₀.top + 1) * (c₀.premium + 1)) refl in
+    c.expect_row.ensures
+    ∙ stored_eq _ _ _ _ _ (λ k l. ap (λ (x : ℕ). 8192 * x) (balance_cells c.gather.new.self met groups k))
+    ∙ step loop.balance loop.work loop.invariant
 
 pub returns : goal.returns
 unfolding layer_size
@@ -53,4 +47,4 @@ returns c =
     let rs = in_order args.order.now in
     let sums = flat (c₀.premium + 1) (scaled (expected (terms_in c₀) rs (cells work₀ 0 (c₀.premium + 1)))) in
     let e : loop.balance ≡ c₀.top + 1 = omega arith in
-    loop.invariant.1 ∙ ap (λ (b : ℕ). stored work₀ ((c₀.top + 1) * (c₀.premium + 1)) sums (b * (c₀.premium + 1))) e
+    loop.invariant ∙ ap (λ (b : ℕ). stored work₀ ((c₀.top + 1) * (c₀.premium + 1)) sums (b * (c₀.premium + 1))) e

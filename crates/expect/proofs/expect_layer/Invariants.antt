@@ -1,6 +1,5 @@
 -- `expect::expect_layer` meets its contract. Assumes nothing.
-use Prim.Native.Nat.{◌*◌, ◌-◌, ◌≤◌}
-use lib.ListN.{length}
+use Prim.Native.Nat.{◌*◌}
 use mathlib.Core.Path.{◌≡◌}
 use Rattle.contract.specs.Reading.{terms_in}
 use Rattle.expect.specs.Expected.{expected, scaled}
@@ -11,13 +10,6 @@ use Rattle.expect.proofs.expect_layer.Given as goal
 
 abbrev pub invariant-loop-balance : goal.invariant-loop-balance
 invariant-loop-balance l =
-    (l.balance ≤ l.end)
-    × (l.work
+    l.work
     ≡ stored l.initial.work l.size
-    (flat l.stride (scaled (expected (terms_in l.c) (in_order l.order) (cells l.initial.work 0 l.stride)))) (l.balance * l.stride))
-    × (512 ≤ length l.sums)
-    × (64 ≤ length l.starts)
-    × (64 ≤ length l.weights)
-
-abbrev pub decreases-loop-balance : goal.decreases-loop-balance
-decreases-loop-balance l = l.end - l.balance
+    (flat l.stride (scaled (expected (terms_in l.c) (in_order l.order) (cells l.initial.work 0 l.stride)))) (l.balance * l.stride)

@@ -1,6 +1,5 @@
 -- `expect::expect_row` meets its contract. Assumes nothing.
 use Prim.Native.Nat.{◌+◌, ◌*◌, ◌-◌, ◌≤◌}
-use lib.ListN.{length}
 use mathlib.Core.Path.{◌≡◌}
 use Rattle.decision.specs.Index.{sum}
 use Rattle.expect.specs.Expected.{term}
@@ -13,9 +12,8 @@ invariant-loop-from l =
     (l.from ≤ l.stride)
     × (l.work
     ≡ stored l.initial.work l.to
-    (λ x. 8192 * discounted l.average.discount (l.average.paid + sum (term l.initial.work l.starts l.weights x) l.average.count))
+    (λ x. 8192 * discounted l.average.discount (l.groups.paid + sum (term l.initial.work l.groups x) l.groups.count))
     l.from)
-    × (512 ≤ length l.sums)
 
 abbrev pub decreases-loop-from : goal.decreases-loop-from
 decreases-loop-from l = l.stride - l.from

@@ -12,7 +12,6 @@ store_sums-requires c =
     let start = c in
     let pre = start.requires in
     let add-all = c.add_all in (
-      pre.0.discount_is,
       pre.1,
       omega (arith, pre.0.room),
       pre.0.sums_small,
@@ -23,7 +22,5 @@ pub returns : goal.returns
 returns c =
     let args = c.args in
     let add-all = c.add_all in
-    let value : ℕ → ℕ = λ x. 8192 * discounted args.average.discount x in (
-      c.store_sums.ensures ∙ stored_eq _ _ _ _ args.p.n (λ j l. ap value (add-all.ensures.each j l)),
-      add-all.ensures.long,
-    )
+    let value : ℕ → ℕ = λ x. 8192 * discounted args.average.discount x in
+    c.store_sums.ensures ∙ stored_eq _ _ _ _ args.p.n (λ j l. ap value (add-all.ensures.each j l))

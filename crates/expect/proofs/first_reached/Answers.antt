@@ -1,5 +1,6 @@
 -- `expect::first_reached` meets its contract. Assumes nothing.
 use Rattle.std.proofs.Common.{ℕ, ◌≤◌, ◌≡◌}
+use mathlib.Core.Path.{refl}
 use native.Mathlib.Nat.{le_trans}
 use native.Mathlib.Omega.{arith}
 use Rattle.laws.specs.Date.{account_le}
@@ -21,12 +22,12 @@ pub excess_paid-paid-requires : goal.excess_paid-paid-requires
 excess_paid-paid-requires c =
     let pre = c.requires in factor_in pre.0 _ pre.1 c.word-factor.ensures.0
 
-pub overflow_mul-account : goal.overflow_mul-account
-overflow_mul-account c =
+pub overflow_mul-value : goal.overflow_mul-value
+overflow_mul-value c =
     let pre = c.requires in omega (arith, account_in pre.0 _ pre.1 _ (account _ _ _ _ c.next_account-account.ensures))
 
-pub overflow_add-account : goal.overflow_add-account
-overflow_add-account c =
+pub overflow_add-value-2 : goal.overflow_add-value-2
+overflow_add-value-2 c =
     let pre = c.requires in omega (arith, account_in pre.0 _ pre.1 _ (account _ _ _ _ c.next_account-account.ensures))
 
 pub offset_bounds-work-account : goal.offset_bounds-work-account
@@ -46,13 +47,13 @@ pub death_share-requires : goal.death_share-requires
 death_share-requires c =
     let pre = c.requires in
     let low = value_low pre.0 _ pre.1 _ (account _ _ _ _ c.next_account-account.ensures) in
-    (pre.0.rate_is, rw c.wide-value.ensures low, omega (arith, c.death_payment-payment.ensures.1))
+    (pre.0.rate_is, low, omega (arith, c.death_payment-payment.ensures.1))
 
 pub returns : goal.returns
 returns c =
     let pre = c.requires in
     let valid = pre.0.first.layers.valid in (
       start_is pre.0 _ pre.1 c.word-factor.ensures.0 c.next_account-account.ensures c.excess_paid-paid.ensures.0
-          c.wide-value.ensures c.death_payment-payment.ensures.0 c.death_share.ensures.0,
+          refl c.death_payment-payment.ensures.0 c.death_share.ensures.0,
       omega (arith, c.excess_paid-paid.ensures.1, c.death_share.ensures.1, valid.premium, valid.top),
     )

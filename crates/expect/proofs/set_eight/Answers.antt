@@ -22,7 +22,7 @@ pub loop-j-preserved : goal.loop-j-preserved
 unfolding sum
 loop-j-preserved c =
     let loop = c.loop-j in
-    let paid = c.args.paid in
+    let paid = c.args.groups.now.paid in
     let all = sym (ap (λ (x : ℕ). paid + x) (c.eight_products.ensures.0 ∙ zero-add _)) in
     (omega arith, (λ i. set (loop.invariant.1 i) loop.j (all i)) ∙ stored_push _ _ _)
 
@@ -30,4 +30,4 @@ pub returns : goal.returns
 returns c =
     let pre = c.requires in
     let e : c.loop-j.j ≡ c.args.n = omega arith in
-    summed _ (c.loop-j.invariant.1 ∙ ap (stored _ 0 _) e) pre.0.short pre.1
+    summed _ (c.loop-j.invariant.1 ∙ ap (stored _ 0 _) e) (omega (arith, pre.0.short))

@@ -8,7 +8,7 @@ use Rattle.expect.proofs.set_eight.Given as goal
 
 abbrev pub invariant-loop-j : goal.invariant-loop-j
 invariant-loop-j l =
-    (l.j ≤ l.n) × (l.sums ≡ stored l.initial.sums 0 (λ i. l.paid + sum (term l.work l.starts l.weights (l.from + i)) 8) l.j)
+    (l.j ≤ l.n) × (l.sums ≡ stored l.initial.sums 0 (λ i. l.groups.paid + sum (term l.work l.groups (l.from + i)) 8) l.j)
 
 abbrev pub decreases-loop-j : goal.decreases-loop-j
 decreases-loop-j l = l.n - l.j

@@ -2,7 +2,7 @@
 use mathlib.Core.Path.{◌≡◌}
 use Prim.Native.Nat.{◌+◌, ◌-◌, ◌≤◌}
 use Rattle.keys.specs.Sums.{sums}
-use Rattle.rules.specs.Operations.{behaviour_of}
+use Rattle.date.specs.Behaviour.{behaviour_in}
 use Rattle.slices.specs.Stored.{stored}
 use Rattle.worth.specs.Worth.{best_key}
 use Rattle.mixed.proofs.below_level.Given as goal
@@ -10,7 +10,7 @@ use Rattle.mixed.proofs.below_level.Given as goal
 abbrev pub invariant-loop-j : goal.invariant-loop-j
 invariant-loop-j l =
     (l.j ≤ l.n) × (l.best ≡ stored l.initial.best 0
-    (λ x. best_key (behaviour_of l.behaviour) (sums l.work l.d) l.d.rate l.d.level l.s.w (l.s.from + x)) l.j)
+    (λ x. best_key (behaviour_in l.behaviour) (sums l.work l.d) l.d.rate l.d.level l.s.w (l.s.from + x)) l.j)
 
 abbrev pub decreases-loop-j : goal.decreases-loop-j
 decreases-loop-j l = l.n - l.j

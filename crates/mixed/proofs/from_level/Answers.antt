@@ -1,7 +1,7 @@
 -- `mixed::from_level` meets its contract. Assumes nothing.
-use mathlib.Core.Path.{◌≡◌, ◌∙◌}
+use mathlib.Core.Path.{◌∙◌}
 use native.Mathlib.Omega.{arith}
-use Rattle.mixed.proofs.Laws.{rest_static, rest_mixed, rest_larger, copying}
+use Rattle.mixed.proofs.Laws.{alone, not_static, rest_alone, rest_larger, copying}
 use Rattle.slices.specs.Stored.{stored_eq}
 use Rattle.mixed.proofs.from_level.Goals as goal
 
@@ -9,35 +9,25 @@ pub copy-requires : goal.copy-requires
 copy-requires c =
     copying c.requires.1 c.requires.2 c.saturating_sub.ensures c.saturating_sub-2.ensures c.place-at.ensures (omega (arith, c.key-add.ensures.1))
 
-pub returns-then-behaviour-eq0 : goal.returns-then-behaviour-eq0
-returns-then-behaviour-eq0 c =
-    let pre = c.requires in
-    c.copy.ensures
-    ∙ stored_eq _ _ _ _ _ (λ i l. rest_static pre.1 pre.2 c.saturating_sub.ensures c.saturating_sub-2.ensures c.place-at.ensures i l
-    c.key-add.ensures.0 c.if-behaviour-eq0.true)
-
-pub copy-requires-then-w-level : goal.copy-requires-then-w-level
-copy-requires-then-w-level c =
-    copying c.requires.1 c.requires.2 c.saturating_sub.ensures c.saturating_sub-2.ensures c.place-at.ensures (omega (arith, c.key-add.ensures.1))
-
 pub returns-then-w-level : goal.returns-then-w-level
 returns-then-w-level c =
     let pre = c.requires in
-    c.copy-then-w-level.ensures
-    ∙ stored_eq _ _ _ _ _ (λ i l. rest_mixed pre.1 pre.2 c.saturating_sub.ensures c.saturating_sub-2.ensures c.place-at.ensures i l
-    c.key-add.ensures.0 (omega arith) c.if-w-level.true)
+    let few = alone c.args.behaviour c.eq.ensures pre.0 c.if-w-level.either in
+    c.copy.ensures
+    ∙ stored_eq _ _ _ _ _ (λ i l. rest_alone pre.1 pre.2 c.saturating_sub.ensures c.saturating_sub-2.ensures c.place-at.ensures i l _
+    c.key-add.ensures.0 few)
 
 pub copy_larger-requires : goal.copy_larger-requires
 copy_larger-requires c = (
   copying c.requires.1 c.requires.2 c.saturating_sub.ensures c.saturating_sub-2.ensures c.place-at.ensures
       (omega (arith, c.key-add.ensures.1)),
-  c.surrender_key.ensures.1,
+  c.surrender_key-other.ensures.1,
 )
 
-pub returns : goal.returns
-returns c =
+pub returns-else-w-level : goal.returns-else-w-level
+returns-else-w-level c =
     let pre = c.requires in
-    let one : c.args.behaviour ≡ 1 = omega (arith, c.if-behaviour-eq0.false, pre.0) in
+    let is_mixed = not_static c.args.behaviour c.eq.ensures pre.0 c.if-w-level.false.0 in
     c.copy_larger.ensures
-    ∙ stored_eq _ _ _ _ _ (λ i l. rest_larger pre.1 pre.2 c.saturating_sub.ensures c.saturating_sub-2.ensures c.place-at.ensures i l
-    c.key-add.ensures.0 one c.if-w-level.false c.surrender_key.ensures.0)
+    ∙ stored_eq _ _ _ _ _ (λ i l. rest_larger pre.1 pre.2 c.saturating_sub.ensures c.saturating_sub-2.ensures c.place-at.ensures i l _
+    c.key-add.ensures.0 is_mixed c.if-w-level.false.1 c.surrender_key-other.ensures.0)

@@ -1,11 +1,14 @@
 -- `proportion::rises` meets its contract. Assumes nothing.
 use Rattle.std.proofs.Common.{◌≡◌, ℕ, ◌+◌, ◌*◌, ◌^◌, ◌<◌, get_or, subst, arith}
-use Rattle.proportion.proofs.Rising.{rising_next, row_ascends, row_rises}
+use Rattle.proportion.proofs.Rising.{rising_next, rising_none, row_ascends, row_rises}
 use Rattle.keys.specs.Sums.{sum_in, sum_small}
 use Rattle.proportion.proofs.rises.Goals as goal
 
-pub falls-requires : goal.falls-requires
-falls-requires c =
+pub loop-x-init : goal.loop-x-init
+loop-x-init c = (omega arith, rising_none _ _)
+
+pub ascends-requires : goal.ascends-requires
+ascends-requires c =
     let pre = c.requires in
     let args = c.args in
     let d = args.d in
@@ -25,18 +28,19 @@ falls-requires c =
 
 pub loop-x-preserved : goal.loop-x-preserved
 loop-x-preserved c =
-    let args = c.args in
-    let loop = c.loop-x in
-    let less = c.saturating_sub-steps in
-    let told = c.falls.ensures in
-    let e = less.ensures in (
-      omega arith,
-      omega (arith, told.0, c.requires.width),
-      λ z. rising_next loop.x (loop.invariant.2 (omega arith))
-          (row_rises args.work.now args.d.base args.d.stride loop.x less.result e (told.1 (omega arith))),
+    let d = c.args.d in
+    let e = c.saturating_sub-steps.ensures in
+    (omega arith, rising_next c.loop-x.x c.loop-x.invariant.1
+    (row_rises c.args.work.now d.base d.stride c.loop-x.x _ e (c.ascends.ensures.0 c.if-not-ascends.false)))
+
+pub returns-then-not-ascends : goal.returns-then-not-ascends
+returns-then-not-ascends c =
+    let d = c.args.d in
+    let e = c.saturating_sub-steps.ensures in
+    (
+      λ z. absurd cc,
       λ a.
-          let before = loop.invariant.3 a in
-          let last = told.2 (row_ascends args.work.now args.d.base args.d.stride loop.x args.n less.result e a
-          c.loop-x-test.true) in
-          omega arith,
+          let fell = c.if-not-ascends.true in
+          let rose = c.ascends.ensures.1 (row_ascends c.args.work.now d.base d.stride c.loop-x.x _ _ e a c.loop-x-test.true) in
+          cc,
     )

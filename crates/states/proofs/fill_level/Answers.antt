@@ -1,12 +1,6 @@
 -- `states::fill_level` meets its contract. Assumes nothing.
-use mathlib.Core.Path.{refl}
-use native.Mathlib.Omega.{arith}
-use Rattle.slices.specs.Stored.{stored, stored_more}
+use Rattle.keys.specs.Filled.{filled}
 use Rattle.states.proofs.fill_level.Goals as goal
 
-pub loop-j-init : goal.loop-j-init
-unfolding stored
-loop-j-init c = (omega arith, refl)
-
-pub loop-j-preserved : goal.loop-j-preserved
-loop-j-preserved c = (omega arith, stored_more _ _ _ _ c.loop-j.invariant.1 refl)
+pub returns : goal.returns
+returns c = filled _ _ c.args.at c.args.n c.args.level c.requires.0 (c.fill.ensures.after (λ y e. e))

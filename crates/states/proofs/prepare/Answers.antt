@@ -1,5 +1,5 @@
 -- `states::prepare` meets its contract. Assumes nothing.
-use Rattle.states.proofs.Layer.{prepared_further}
+use Rattle.states.proofs.Layers.{prepared_further}
 use Rattle.states.proofs.prepare.Goals as goal
 
 pub returns : goal.returns

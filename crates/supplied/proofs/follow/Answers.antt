@@ -9,16 +9,15 @@ use Rattle.supplied.proofs.follow.Goals as goal
 pub fill_maturity-requires : goal.fill_maturity-requires
 unfolding layer_size
 fill_maturity-requires c =
-    let pre = c.requires in
-    let v = pre.given.valid.terms in
-    (omega (arith, v.top), omega (arith, v.top, v.premium), omega (arith, pre.room))
+    let v = c.args.policy.given.valid.terms in
+    (omega (arith, v.top), omega (arith, v.top, v.premium), omega (arith, c.requires.room))
 
 pub follow_dates-requires : goal.follow_dates-requires
 unfolding layer_size
 follow_dates-requires c =
     let pre = c.requires in
     let sorted = part_sorted c.sort-count.ensures in
-    starting c.args.work.now pre.given sorted pre.room pre.entries pre.none_bad
+    starting c.args.work.now c.args.policy.given sorted pre.room pre.entries pre.none_bad
     c.fill_maturity.ensures
 
 pub settle-requires : goal.settle-requires
@@ -26,15 +25,15 @@ unfolding layer_size
 settle-requires c =
     let table₀ = c.args.table.now in
     let pre = c.requires in
+    let given = c.args.policy.given in
     let sorted = part_sorted c.sort-count.ensures in
     let valued = first_from_lem _ c.fill_maturity.ensures (of_the_list _ table₀ sorted.same c.follow_dates.ensures) in
-    settling pre.given pre.room valued
-    (λ w a. table_on_most _ _ table₀ pre.given.valid pre.none_bad 1 w a (omega arith) pre.given.valid.terms.dates_least)
+    settling given.valid.terms pre.room valued
+    (λ w a. table_on_most _ _ table₀ given.valid pre.none_bad 1 w a (omega arith) given.valid.terms.dates_least)
 
 pub returns : goal.returns
 unfolding layer_size
 returns c =
-    let pre = c.requires in
     let sorted = part_sorted c.sort-count.ensures in
     let valued = first_from_lem _ c.fill_maturity.ensures (of_the_list _ c.args.table.now sorted.same c.follow_dates.ensures) in
-    answered_accepted _ _ pre.room (pre.given.valid.rates.rate 0) valued c.settle.ensures
+    answered_accepted _ _ c.requires.room (c.args.policy.given.valid.rates.rate 0) valued c.settle.ensures

@@ -1,32 +1,40 @@
 -- `supplied::follow_dates` meets its contract. Assumes nothing.
+use Prim.Native.Nat.{ℕ, suc, ◌-◌, ◌<◌}
 use mathlib.Core.Path.{◌≡◌}
 use native.Mathlib.Omega.{arith}
+use Rattle.contract.specs.Reading.{terms_in}
+use Rattle.returns.specs.Sorted.{in_order}
+use Rattle.rules.specs.Contract.{rates_of}
+use Rattle.supplied.specs.Followed.{table_on}
+use Rattle.valuing.specs.First.{First}
 use Rattle.supplied.proofs.Laws.{dating, first_before, first_none}
 use Rattle.supplied.proofs.follow_dates.Goals as goal
-
-pub overflow_sub-i : goal.overflow_sub-i
-overflow_sub-i c = omega (arith, c.requires.given.valid.terms.dates_least)
+use Rattle.supplied.proofs.follow_dates.Goals.{In-loop-i}
 
 pub loop-i-init : goal.loop-i-init
-loop-i-init c =
-    let pre = c.requires in (omega (arith, pre.given.valid.terms.dates_least), first_none pre)
+loop-i-init c = (c.args.c.in_range.dates_least, first_none c.requires)
+
+-- what is followed so far, told of the date in hand
+above : (c : In-loop-i)
+    → First (table_on (terms_in c.args.c) (in_order c.args.order.now) (rates_of c.args.rates.now) c.args.table.now (suc (c.loop-i.i - 1)))
+    (terms_in c.args.c) c.args.work.now c.loop-i.work
+above c = let e : c.loop-i.i ≡ suc (c.loop-i.i - 1) = omega (arith, c.loop-i.invariant.0) in rw e at c.loop-i.invariant.1
 
 pub follow_date-requires : goal.follow_date-requires
 follow_date-requires c =
-    let loop = c.loop-i in
-    let pre = c.requires in
-    dating pre c.layer_of-part.ensures c.loop-i-test.true loop.invariant.0 loop.invariant.1
+    let some : 0 < c.loop-i.i - 1 = omega (arith, c.loop-i-test.true) in
+    let before : c.loop-i.i - 1 < c.args.c.dates = omega (arith, c.loop-i.auto.i, c.loop-i.invariant.0) in
+    dating c.requires c.layer_of-part.ensures some before (above (goal.at.follow_date-requires c).In-loop-i)
 
 pub loop-i-preserved : goal.loop-i-preserved
 loop-i-preserved c =
-    let loop = c.loop-i in
-    let part = c.layer_of-part.ensures in
-    let taken = c.loop-i-test.true in
-    let pre = c.requires in
-    (omega arith, first_before pre part taken loop.invariant.0 loop.invariant.1 _ c.follow_date.ensures)
+    let some : 0 < c.loop-i.i - 1 = omega (arith, c.loop-i-test.true) in
+    let before : c.loop-i.i - 1 < c.args.c.dates = omega (arith, c.loop-i.auto.i, c.loop-i.invariant.0) in
+    (some, first_before c.requires c.layer_of-part.ensures some before (above (goal.at.loop-i-preserved c).In-loop-i) _ c.follow_date.ensures)
 
 pub shape_of-work : goal.shape_of-work
 shape_of-work c = c.loop-i.invariant.1.long
 
 pub returns : goal.returns
-returns c = let e : c.loop-i.i ≡ 0 = omega arith in rw e at c.loop-i.invariant.1
+returns c =
+    let e : c.loop-i.i ≡ 1 = omega (arith, c.loop-i.invariant.0, c.loop-i-test.false) in rw e at c.loop-i.invariant.1

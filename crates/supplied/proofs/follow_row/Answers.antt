@@ -70,7 +70,7 @@ worth-requires c =
     let pre = c.requires in
     let loop = c.loop-a in
     let taken = c.loop-a-test.true in
-    let amount = amount_is args.layer.now args.d.stride args.w loop.a c.from-t.ensures.0 in (
+    let amount = amount_is args.layer.now args.d.stride args.w loop.a c.from-t.ensures in (
       rw loop.invariant.1 (row_layers args.w pre _ loop.a loop.invariant.0),
       taken,
       le_trans (le_of_eq amount) (amount_within args.w pre loop.a taken),
@@ -112,7 +112,7 @@ loop-a-preserved c =
     let value =
     c.worth.ensures
     ∙ ap₂ (λ (e : ℕ → ℕ → ℕ) (t : ℕ). worth_over e args.d.rate (free_amount args.d.level a') args.w a' t) kept
-    (amount_is args.layer.now args.d.stride args.w a' c.from-t.ensures.0) in
+    (amount_is args.layer.now args.d.stride args.w a' c.from-t.ensures) in
     (omega arith, (λ i. set (loop.invariant.1 i) (args.w * args.d.stride + a') (value i)) ∙ stored_next _ _ _ _)
 
 pub shape_of-work : goal.shape_of-work

@@ -3,16 +3,16 @@ use Prim.Native.Nat.{ℕ}
 use borrow.Author.Tests.{lt-ltb, le-ltb}
 use lib.Dec.{ltb}
 use lib.ListN.{length}
-use mathlib.Core.Path.{ap}
+use mathlib.Core.Path.{refl, ap, sym}
 use Rattle.rules.specs.Refusals.{short}
 use Rattle.supplied.proofs.too_short.Goals as goal
 
 pub returns-then-work-layer_size : goal.returns-then-work-layer_size
 unfolding short
-returns-then-work-layer_size c = rw (lt-ltb _ _ (rw c.layer_size.ensures.0 at c.if-work-layer_size.true))
+returns-then-work-layer_size c = rw (sym c.layer_size.ensures.0, lt-ltb _ _ c.if-work-layer_size.true) refl
 
-pub returns : goal.returns
+pub returns-else-work-layer_size : goal.returns-else-work-layer_size
 unfolding short
-returns c =
+returns-else-work-layer_size c =
     rw (le-ltb _ _ (rw c.layer_size.ensures.0 at c.if-work-layer_size.false))
     (ap (λ (n : ℕ). ltb (length c.args.table.now) n) c.table_size.ensures.0)

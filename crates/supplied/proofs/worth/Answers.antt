@@ -47,7 +47,7 @@ overflow_add-result c =
     let args = c.args in
     let s = sum_most_lem _ c.requires.0 c.requires.1 _ _ (balance_left args.w args.t c.balance_after.ensures)
     (guarantee_left c.free_amount-m.result args.w args.a args.t c.guarantee_after-g.ensures) in
-    let sum_is = c.wide.ensures ∙ ap (λ (i : ℕ). get_or args.work.now i 0 / 8192) c.place-at.ensures in
+    let sum_is = ap (λ (i : ℕ). get_or args.work.now i 0 / 8192) c.place-at.ensures in
     omega (arith, s, sum_is, c.cash.ensures.1)
 
 pub returns : goal.returns
@@ -58,5 +58,5 @@ returns c =
     let cash_is = c.cash.ensures.0 ∙ ap (λ (m : ℕ). cash args.d.rate m args.t) free in
     let after_free = ap (λ (m : ℕ). guarantee_after m args.w args.a args.t) free in
     let guarantee_is = c.guarantee_after-g.ensures ∙ after_free in
-    let sum_is = c.wide.ensures ∙ ap (λ (i : ℕ). get_or args.work.now i 0 / 8192) c.place-at.ensures in
+    let sum_is = ap (λ (i : ℕ). get_or args.work.now i 0 / 8192) c.place-at.ensures in
     ap₂ (λ (x y : ℕ). x + y) cash_is (sum_is ∙ ap₂ (sums args.work.now args.d) c.balance_after.ensures guarantee_is)

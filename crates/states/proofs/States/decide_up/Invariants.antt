@@ -1,0 +1,15 @@
+-- `states::States::decide_up` meets its contract. Assumes nothing.
+use lib.ListN.{length}
+use Prim.Native.Nat.{◌-◌, ◌*◌, ◌≤◌}
+use mathlib.Core.Path.{◌≡◌}
+use Rattle.states.specs.Decided.{Turned}
+use Rattle.states.proofs.States.decide_up.Given as goal
+
+abbrev pub invariant-loop-w : goal.invariant-loop-w
+invariant-loop-w l =
+    (l.w ≤ l.n)
+    × Turned l.self l.initial.work l.initial.table l.work l.table 0 (l.w * l.self.d.stride)
+    × (length l.best ≡ 512)
+
+abbrev pub decreases-loop-w : goal.decreases-loop-w
+decreases-loop-w l = l.n - l.w
