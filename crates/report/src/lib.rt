@@ -36,7 +36,8 @@ impl Text<'_> {
         self.at += 1;
     }
 
-    // The digits of x, where there are no more than `places`.
+    // The digits of x, where there are no more than `places`. By recursion: `itoa` would add a library and a second buffer, and
+    // `write!` to a buffer ensures no text.
     fn digits(&mut self, places: usize, x: u64)
         requires { Room places self.old }
         ensures { Put places self.old (digits places x) self.new }
