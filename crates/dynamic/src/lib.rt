@@ -42,7 +42,7 @@ impl<'a> States<'a> {
     {
         let Block { w, from, n } = self.s;
         let low = usize::min(n, t.saturating_sub(from));
-        let at = keys::place(self.d, w.saturating_sub(t), (from + low).saturating_sub(t));
+        let at = self.d.place(w.saturating_sub(t), (from + low).saturating_sub(t));
         offer(best, low, self.work, at, n - low, keys::key(10000 * t, t));
     }
 
@@ -50,7 +50,7 @@ impl<'a> States<'a> {
     fn free_block(self, best: &mut [u64; 512])
         ensures { Holding self.entry best.new 0 }
     {
-        let at = keys::place(self.d, self.s.w, self.s.from);
+        let at = self.d.place(self.s.w, self.s.from);
         keys::copy(best, 0, self.work, at, self.s.n, keys::key(0, 0));
         for t in 1..self.d.level + 1 {
             self.offer_amount(best, t);

@@ -1,5 +1,6 @@
 -- Runs of bits and the bits of a word: how many are set, and what number they make. Assumes nothing.
-use mathlib.Core.Bool.{Bool}
+use mathlib.Core.Bool.{Bool, true, false}
+use mir.Val.{bool_byte}
 use mathlib.Core.Path.{◌≡◌, refl, ap, sym, ◌∙◌, fun_ext}
 use Prim.Native.Nat.{ℕ, zero, suc, ◌+◌, ◌-◌, ◌*◌, ◌/◌, ◌%◌, ◌^◌, ◌≤◌, ◌<◌}
 use native.Mathlib.Nat.{le_refl, pow-le-pow_right, pow-succ', two-pow-succ, div-div-eq-div-mul, div-eq_of_lt, zero-add, zero-div}
@@ -61,6 +62,11 @@ module _ (f : ℕ → Bool) where
       let some = pow_pos d in
       let digits : 18446744073709551615 ≡ x * 2 ^ d + (2 ^ d - 1) = omega arith in
       rw digits (high_digit x (2 ^ d - 1) (2 ^ d) (omega arith))
+
+pub bit_is : (b : Bool) → bool_byte b ≡ bit b
+unfolding bit
+bit_is true = refl
+bit_is false = refl
 
 -- ---- a run of n bits, from the last down
 module _ (f : ℕ → Bool) (n : ℕ) where

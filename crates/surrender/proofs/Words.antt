@@ -14,7 +14,6 @@ use Rattle.slices.specs.Stored.{stored, stored_push, stored_front}
 use Rattle.rules.specs.Contract.{Terms}
 use Rattle.rules.specs.FixedTerm.{layer_size, fixed_term, process_of, layout_of}
 use Rattle.rules.specs.Map.{surrendered, surrender_map, surrender_count, map_size}
-use Rattle.laws.specs.Accepted.{Valid}
 use Rattle.surrender.specs.declared.State.{State}
 use Rattle.surrender.specs.declared.Run.{Run}
 use Rattle.surrender.specs.Mapped.{state_of, draws, Open, Wording, Worded}
@@ -116,6 +115,13 @@ module _ {c : Terms} {table : List ℕ} {from n bits k part : ℕ} {next : State
             inside = subst (λ (s : State). s.guarantee ≤ c.premium) (sym here) (guarantee_le c (from + (k + part)));
           }
 
+-- a run fits a word
+pub run_fits : {c : Terms} {table : List ℕ} {from n : ℕ} {r : Run} → Worded c table from n r → n ≤ 64 → r.bits < 2 ^ 64
+run_fits {c} {table} {from} {n} w few =
+    let l = bits_lt (λ k. surrendered (frame c) table (from + k)) n in
+    let p : 2 ^ n ≤ 2 ^ 64 = pow-le-pow_right (omega arith) few in
+    omega (arith, w.bits_are)
+
 -- what the loop over the words holds: j of them are filled
 pub record Filled (c : Terms) (table map : List ℕ) (at : State) (count : ℕ) (map' : List ℕ) (j : ℕ) : Type 0 where
   pub some : j ≤ map_size (frame c)
@@ -144,11 +150,11 @@ module _ {c : Terms} {table map map' : List ℕ} {at : State} {count j : ℕ} (d
     unfolding map_size words_for entries table_size fixed_term process_of layout_of
     word_some = omega arith
 
-    pub wording : {n : ℕ} → n ≡ bits_in (table_size c) j → Valid c → table_size c ≤ length table → Wording c table (64 * j) n at
-    wording {n} e valid room =
+    pub wording : {n : ℕ} → n ≡ bits_in (table_size c) j → table_size c ≤ length table → Wording c table (64 * j) n at
+    wording {n} e room =
         let l = word_some in
         let here : min (table_size c) (64 * j) ≡ 64 * j = omega arith in
-        record { valid = valid; few = omega arith; room = omega arith; within = omega arith; begins = d.at_is ∙ ap (state_of c) here }
+        record { few = omega arith; room = omega arith; within = omega arith; begins = d.at_is ∙ ap (state_of c) here }
 
     pub filled_more : {n set_bits_lem : ℕ} {r : Run} → n ≡ bits_in (table_size c) j → Worded c table (64 * j) n r
         → set_bits_lem ≡ ones r.bits → set_bits_lem ≤ 64

@@ -5,7 +5,6 @@ use Rattle.rules.specs.Contract.{Terms}
 use Rattle.rules.specs.Date.{free_amount}
 use Rattle.rules.specs.FixedTerm.{layer_size}
 use Rattle.rules.specs.Map.{surrendered, map_size}
-use Rattle.laws.specs.Accepted.{Valid}
 use Rattle.surrender.specs.declared.State.{State}
 use Rattle.surrender.specs.declared.Run.{Run}
 use Rattle.laws.specs.Terms.{table_size, frame}
@@ -26,7 +25,6 @@ pub record Open (level : ℕ) (at : State) (n r : ℕ) : Type 0 where
 
 -- a run of at most 64 entries
 pub record Wording (c : Terms) (table : List ℕ) (from n : ℕ) (at : State) : Type 0 where
-  pub valid : Valid c
   pub few : n ≤ 64
   pub room : from + n ≤ length table
   pub within : from + n ≤ table_size c
@@ -38,6 +36,5 @@ pub record Worded (c : Terms) (table : List ℕ) (from n : ℕ) (r : Run) : Type
 
 -- a table and a map that are long enough
 pub record MapRoom (c : Terms) (table map : List ℕ) : Type 0 where
-  pub valid : Valid c
   pub entries : table_size c ≤ length table
   pub words : map_size (frame c) ≤ length map

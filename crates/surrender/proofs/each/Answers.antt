@@ -5,7 +5,7 @@ use mathlib.Core.Path.{◌≡◌, ap, ap₂, sym, ◌∙◌}
 use native.Mathlib.Omega.{arith}
 use Rattle.decision.proofs.Bits.{bit_le}
 use Rattle.surrender.specs.Mapped.{draws}
-use Rattle.surrender.proofs.Bits.{above, above_none, above_next, above_all, above_fits}
+use Rattle.surrender.proofs.Bits.{above, above_none, above_next, above_all, above_fits, bit_is}
 use Rattle.surrender.proofs.each.Goals as goal
 
 pub loop-k-init : goal.loop-k-init
@@ -21,37 +21,24 @@ overflow_mul-bits c =
     let f = above_fits (draws args.row.now args.account) (length args.row.now) loop.k (pre) (omega arith) in
     omega (arith, loop.invariant.1)
 
-pub offset_bounds-row-k : goal.offset_bounds-row-k
-offset_bounds-row-k c = omega (arith, c.requires)
-
 pub bounds-row-k : goal.bounds-row-k
 bounds-row-k c = omega (arith, c.loop-k.invariant.0)
-
-pub same-requires : goal.same-requires
-same-requires c = tt
-
-pub wide-requires : goal.wide-requires
-wide-requires c = tt
 
 pub overflow_add-bits : goal.overflow_add-bits
 overflow_add-bits c =
     let args = c.args in
     let loop = c.loop-k in
     let pre = c.requires in
-    let wide = c.wide in
-    let same = c.same in
     let f = above_fits (draws args.row.now args.account) (length args.row.now) loop.k (pre) (omega arith) in
-    omega (arith, loop.invariant.1, wide.ensures, same.ensures, bit_le (draws args.row.now args.account (loop.k - 1)))
+    omega (arith, loop.invariant.1, c.from.ensures, bit_is (draws args.row.now args.account (loop.k - 1)), bit_le (draws args.row.now args.account (loop.k - 1)))
 
 pub loop-k-preserved : goal.loop-k-preserved
 loop-k-preserved c =
     let loop = c.loop-k in
     let args = c.args in
-    let wide = c.wide in
-    let same = c.same in
     let inv = loop.invariant in
     let next = above_next (draws args.row.now args.account) (length args.row.now) loop.k (omega arith) inv.0 in
-    (omega (arith, inv.0), ap₂ (λ (x y : ℕ). 2 * x + y) inv.1 (wide.ensures ∙ same.ensures) ∙ next)
+    (omega (arith, inv.0), ap₂ (λ (x y : ℕ). 2 * x + y) inv.1 (c.from.ensures ∙ bit_is _) ∙ next)
 
 pub returns : goal.returns
 returns c =

@@ -7,15 +7,10 @@ use Rattle.contract.specs.Reading.{terms_in}
 use Rattle.decision.specs.Bits.{bits_in}
 use Rattle.rules.specs.Map.{map_size}
 use Rattle.slices.specs.Stored.{length_stored}
-use Rattle.surrender.proofs.Words.{filled_none, word_some, wording, filled_more, filled_count, filled_map}
+use Rattle.surrender.proofs.Bits.{ones_le, ones_same}
+use Rattle.surrender.proofs.Words.{filled_none, word_some, wording, run_fits, filled_more, filled_count, filled_map}
 use Rattle.laws.specs.Terms.{frame}
 use Rattle.surrender.proofs.fill.Goals as goal
-
-pub table_size-size-requires : goal.table_size-size-requires
-table_size-size-requires c = c.requires.valid
-
-pub map_size-j-end-requires : goal.map_size-j-end-requires
-map_size-j-end-requires c = c.requires.valid
 
 pub loop-j-init : goal.loop-j-init
 loop-j-init c =
@@ -47,7 +42,7 @@ word-filled-requires c =
     let table-size = c.table_size-size in
     let pre = c.requires in
     let takes = smaller.ensures ∙ ap (λ (n : ℕ). bits_in n loop.j) table-size.ensures.0 in
-    wording loop.invariant more takes pre.valid pre.entries
+    wording loop.invariant more takes pre.entries
 
 pub offset_bounds-map-j : goal.offset_bounds-map-j
 offset_bounds-map-j c =
@@ -65,16 +60,15 @@ bounds-map-j c =
     let long : length loop.map ≡ length args.map.now = ap length loop.invariant.map_is ∙ length_stored _ _ _ _ in
     omega (arith, more, pre.words)
 
-pub ones-count-requires : goal.ones-count-requires
-ones-count-requires c = tt
-
 pub overflow_add-count : goal.overflow_add-count
 overflow_add-count c =
     let more : c.loop-j.j < map_size (frame (terms_in c.args.c)) = omega (arith, c.map_size-j-end.ensures) in
     let loop = c.loop-j in
-    let ones = c.ones-count in
+    let filled = c.word-filled.result.bits in
+    let few = run_fits c.word-filled.ensures (omega (arith, c.min.ensures)) in
+    let set = c.from-count.ensures ∙ ones_same filled few in
     let table-size = c.table_size-size in
-    omega (arith, loop.invariant.few, ones.ensures.1, word_some loop.invariant more, table-size.ensures.0, table-size.ensures.1)
+    omega (arith, loop.invariant.few, set, ones_le filled, word_some loop.invariant more, table-size.ensures.0, table-size.ensures.1)
 
 pub loop-j-preserved : goal.loop-j-preserved
 loop-j-preserved c =
@@ -83,9 +77,11 @@ loop-j-preserved c =
     let smaller = c.min in
     let table-size = c.table_size-size in
     let word = c.word-filled in
-    let ones = c.ones-count in
+    let filled = c.word-filled.result.bits in
+    let few = run_fits c.word-filled.ensures (omega (arith, c.min.ensures)) in
+    let set = c.from-count.ensures ∙ ones_same filled few in
     let takes = smaller.ensures ∙ ap (λ (n : ℕ). bits_in n loop.j) table-size.ensures.0 in
-    filled_more loop.invariant more takes word.ensures ones.ensures.0 ones.ensures.1
+    filled_more loop.invariant more takes word.ensures set (omega (arith, set, ones_le filled))
 
 pub shape_of-map : goal.shape_of-map
 shape_of-map c = ap length c.loop-j.invariant.map_is ∙ length_stored _ _ _ _

@@ -41,13 +41,13 @@ overflow_add-end c =
     let may-surrender = c.may_surrender in
     let pre = c.requires in
     let o = may-surrender.ensures in
-    omega (arith, part_room here o, part_within here, o.within, pre.within, table_most_lem pre.valid)
+    omega (arith, part_room here o, part_within here, o.within, pre.within, table_most_lem c.args.c.in_range)
 
 pub offset_bounds-table-start : goal.offset_bounds-table-start
 offset_bounds-table-start c =
     let here = part c.requires c.loop-k.invariant c.loop-k-test.true c.min-part.ensures in
     let pre = c.requires in
-    omega (arith, part_within here, table_most_lem pre.valid, pre.within)
+    omega (arith, part_within here, table_most_lem c.args.c.in_range, pre.within)
 
 pub slice_bounds-row_bits-end : goal.slice_bounds-row_bits-end
 slice_bounds-row_bits-end c =
@@ -58,7 +58,7 @@ pub overflow_cast-next : goal.overflow_cast-next
 overflow_cast-next c =
     let here = part c.requires c.loop-k.invariant c.loop-k-test.true c.min-part.ensures in
     let pre = c.requires in
-    omega (arith, next_within here, pre.valid.top)
+    omega (arith, next_within here, c.args.c.in_range.top)
 
 pub row_bits-requires : goal.row_bits-requires
 row_bits-requires c =
@@ -81,7 +81,7 @@ pub step-next-requires : goal.step-next-requires
 step-next-requires c =
     let here = part c.requires c.loop-k.invariant c.loop-k-test.true c.min-part.ensures in
     let pre = c.requires in
-    (pre.valid, next_within here, part_inside here)
+    (next_within here, part_inside here)
 
 pub overflow_add-k : goal.overflow_add-k
 overflow_add-k c =
@@ -89,8 +89,8 @@ overflow_add-k c =
     let pre = c.requires in
     omega (arith, part_within here, pre.few)
 
-pub loop-k-min : goal.loop-k-min
-loop-k-min c =
+pub loop-k-smaller : goal.loop-k-smaller
+loop-k-smaller c =
     let here = part c.requires c.loop-k.invariant c.loop-k-test.true c.min-part.ensures in
     omega (arith, part_some here, part_within here)
 
