@@ -3,7 +3,7 @@ use Rattle.std.specs.Prelude.{List, ◌≡◌, ℕ, ◌+◌, ◌*◌, ◌%◌, �
 use Rattle.std.proofs.Common.{ap, sym, ◌∙◌, le_trans, add-le-add, arith}
 use Rattle.decision.specs.Index.{sum, sum_eq, sum_add, weighted_le}
 use Rattle.slices.specs.Rows.{cells}
-use Rattle.rules.specs.Contract.{Terms, Returns, returns_of, rate_most, discount_most, weight_total, weight_most, returns_most}
+use Rattle.rules.specs.Contract.{Terms, Returns, returns_of, rate_most, weight_total, weight_most, returns_most}
 use Rattle.rules.specs.Date.{next_account, excess_paid, death_payment, death_share, discounted}
 use Rattle.rules.specs.FixedTerm.{mean_by_list, mean_by_account, layer_size}
 use Rattle.rules.proofs.ByList.{by_account_is_by_list}

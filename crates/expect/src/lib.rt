@@ -247,7 +247,7 @@ fn first_reached(work: &[u64], list: &[u8], rate: usize, c: Contract, k: usize) 
     let factor = contract::word(list, Contract::RETURN_BYTES * k);
     let account = date::next_account(c.fee, c.top, c.premium, factor);
     let paid = date::excess_paid(c.fee, c.top, c.premium, factor);
-    let value = (work[account * (c.premium + 1) + c.premium]) as usize;
+    let value = work[account * (c.premium + 1) + c.premium] as usize;
     let payment = date::death_payment(account, c.premium);
     paid + date::death_share(rate, value, payment)
 }

@@ -81,7 +81,12 @@ pub fn check<'a>(
 }
 
 // Values a policy over a working slice that is long enough and as much of a table as is lent.
-pub fn valued(policy: Policy, behaviour: Behaviour, work: &mut [u64], table: &mut [u16]) -> Valuation
+pub fn valued(
+    policy: Policy,
+    behaviour: Behaviour,
+    work: &mut [u64],
+    table: &mut [u16],
+) -> Valuation
     requires { WorkLent (terms_in policy.contract) work.old }
     ensures { Answered (behaviour_in behaviour) (terms_in policy.entry.contract) (returns_of policy.entry.list.now)
         (rates_of policy.entry.rates.now) work.old table.old result work.new table.new }
@@ -117,7 +122,11 @@ pub fn value(
 }
 
 // .. with no table.
-pub fn value_no_table(input: Input, behaviour: usize, work: &mut [u64]) -> Result<Valuation, Refusal>
+pub fn value_no_table(
+    input: Input,
+    behaviour: usize,
+    work: &mut [u64],
+) -> Result<Valuation, Refusal>
     ensures { ValuingNoTable (input_of input.entry) behaviour work.old (told result) work.new }
 {
     let (policy, behaviour) = check_no_table(input, behaviour, &work[..])?;
