@@ -230,7 +230,7 @@ fn falls_at(work: &[u64], k: usize) -> u64
         × (result ≡ 0 → slice_index work.now k ≤ slice_index work.now (k + 1))
         × (slice_index work.now k ≤ slice_index work.now (k + 1) → result ≡ 0) }
 {
-    std::num::wrapping_sub_u64(work[k + 1], work[k]) / 9223372036854775808
+    work[k + 1].wrapping_sub(work[k]) >> 63
 }
 
 // Whether a row never falls: its falls are counted, so that the loop can be widened.
