@@ -1,15 +1,14 @@
--- What is returned and written is an answer of the rules, where the margin is kept as it was. Assumes nothing.
-use mathlib.Core.Path.{◌≡◌, ap, ◌∙◌}
-use lib.IntN.{ℤ}
-use Rattle.rules.specs.Operations.{Answer}
-use Rattle.valuing.specs.declared.Answer as declared
-use Rattle.valuing.specs.Answered.{answer_of}
+-- What reading a record says of it. Assumes nothing.
+use Rattle.std.specs.Prelude.{List, ◌≡◌, ℕ, Result, Ok, Err}
+use Rattle.std.proofs.Common.{sym}
+use Rattle.rules.specs.Refusals.{verdict, record_checks}
+use Rattle.contract.specs.declared.Contract.{Contract}
+use Rattle.contract.specs.declared.refusal.Refusal.{Refusal}
+use Rattle.contract.specs.Refusal.{verdict_in}
+use Rattle.contract.specs.Reading.{reading_tells, record_read}
+use Rattle.contract.specs.Accepted.{read_accepted, read_refused}
 
-pub told : (a : Answer) (r : declared.Answer) {written : ℤ} → r ≡ answer_of a → written ≡ r.margin
-    → ◌≡◌ {A = Answer} (record { number = r.number; place = r.place; value = r.value; margin = written }) a
-told a r e f = λ i. record {
-  number = (e i).number;
-  place = (e i).place;
-  value = (e i).value;
-  margin = (f ∙ ap (λ (x : declared.Answer). x.margin) e) i;
-}
+pub read_verdict : (bytes : List ℕ) (r : Result Contract Refusal) → reading_tells r ≡ record_read bytes
+    → verdict_in r ≡ verdict (record_checks bytes)
+read_verdict bytes (Ok c) e = sym (read_accepted bytes c (sym e)).accepts
+read_verdict bytes (Err r) e = sym (read_refused bytes (sym e))

@@ -1,6 +1,6 @@
 -- What the calls for a C host are given, write and leave: `a` is the number returned with the place, value and margin written.
 -- Assumes nothing.
-use Rattle.std.specs.Prelude.{List, ◌++◌, ◌≡◌, ℕ}
+use Rattle.std.specs.Prelude.{List, ◌++◌, ◌≡◌, ℕ, ℤ}
 use Rattle.rules.specs.Contract.{Input}
 use Rattle.rules.specs.Product.{amount_layers, Claim}
 use Rattle.rules.specs.FixedTerm.{State, Held, fixed_term}
@@ -19,6 +19,10 @@ version = 701
 -- gmwb_sizes: the number returned and the sizes written
 abbrev pub sizes_told : ℕ → ℕ → ℕ → ℕ → Sizes
 sizes_told number work table map = record { number = number; work = work; table = table; map = map }
+
+-- the number returned, and the place, the value and the margin written
+abbrev pub answer_told : ℕ → ℕ → ℕ → ℤ → Answer
+answer_told number place value margin = record { number = number; place = place; value = value; margin = margin }
 
 -- a policy valued, by the verdict on the call; and the third demand, on number 0
 pub record Valued (p : Policy State Held) (v : Verdict) (behaviour : ℕ) (work table work' table' : List ℕ) (a : Answer) : Type 0 where

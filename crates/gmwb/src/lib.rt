@@ -7,19 +7,69 @@ ghost use Rattle.rules.specs.Operations.{walk_checks, walk_cashes};
 ghost use Rattle.rules.specs.Policy.{living_policy};
 ghost use Rattle.rules.specs.Booking.{booking_checks, booking_buffer};
 ghost use Rattle.rules.specs.Sizes.{sizes_of, record_policy};
-ghost use Rattle.gmwb.specs.Told.{version, sizes_told, ValueTold, NoTableTold, MapTold, FeeTold, TableTold};
+ghost use Rattle.contract.specs.Refusal.{verdict_in};
+ghost use Rattle.valuing.specs.Answered.{told};
+ghost use Rattle.gmwb.specs.Told.{version, sizes_told, answer_told, ValueTold, NoTableTold, MapTold, FeeTold, TableTold};
 
-use contract::Contract;
+use booking::Withdrawal;
+use contract::{Contract, Refusal};
+use input::Input;
+use valuing::Valuation;
+
+// The number that tells a result, and its place.
+#[tactic(auto, unfolding(rules::specs::Refusals::number_of))]
+fn number_told<T>(outcome: &Result<T, Refusal>) -> u32
+    ensures { result ≡ number_of (verdict_in outcome.now) }
+{
+    match outcome {
+        Ok(_) => 0,
+        Err(refusal) => refusal.number(),
+    }
+}
+
+#[tactic(auto, unfolding(rules::specs::Refusals::place_of))]
+fn place_told<T>(outcome: &Result<T, Refusal>) -> u64
+    ensures { result ≡ place_of (verdict_in outcome.now) }
+{
+    match outcome {
+        Ok(_) => 0,
+        Err(refusal) => refusal.place(),
+    }
+}
+
+// Tells a valuation: returns its number and writes the rest.
+fn tell(
+    answer: Result<Valuation, Refusal>,
+    place: &mut u64,
+    value: &mut u64,
+    margin: &mut i64,
+) -> u32
+    ensures { answer_told result place.new value.new margin.new ≡ told answer }
+{
+    match answer {
+        Ok(valuation) => {
+            *place = 0;
+            *value = valuation.value;
+            *margin = valuation.margin;
+            0
+        }
+        Err(refusal) => {
+            *place = refusal.place();
+            *value = 0;
+            *margin = 0;
+            refusal.number()
+        }
+    }
+}
 
 // Checks a record. The place of every refusal is 0.
+#[tactic(auto, using(laws::specs::Booking::record_places, crate::proofs::Laws::read_verdict))]
 #[unsafe(no_mangle)]
 pub extern "C" fn gmwb_check(bytes: &[u8]) -> u32
     ensures number { result ≡ number_of (verdict (record_checks bytes.now)) }
     ensures place { place_of (verdict (record_checks bytes.now)) ≡ 0 }
 {
-    let reading = Contract::read(bytes);
-    let outcome = reading.outcome();
-    outcome.number
+    number_told(&Contract::read(bytes))
 }
 
 // The edition: GMWB_VERSION of the header that belongs to the archive.
@@ -31,19 +81,30 @@ pub extern "C" fn gmwb_version() -> u32
 }
 
 // How long the slices of a contract have to be. The place of every refusal is 0.
+#[tactic(auto, using(laws::specs::Booking::record_places))]
 #[unsafe(no_mangle)]
 pub extern "C" fn gmwb_sizes(bytes: &[u8], work: &mut u64, table: &mut u64, map: &mut u64) -> u32
     ensures told { sizes_told result work.new table.new map.new ≡ sizes_of (record_policy bytes.now) }
     ensures place { place_of (verdict (record_checks bytes.now)) ≡ 0 }
 {
-    let sizes = sizes::needed(bytes);
-    *work = sizes.work;
-    *table = sizes.table;
-    *map = sizes.map;
-    sizes.number
+    match sizes::needed(bytes) {
+        Ok(sizes) => {
+            *work = sizes.work;
+            *table = sizes.table;
+            *map = sizes.map;
+            0
+        }
+        Err(refusal) => {
+            *work = 0;
+            *table = 0;
+            *map = 0;
+            refusal.number()
+        }
+    }
 }
 
 // Books an amount. The place of every refusal is 0.
+#[tactic(auto, using(laws::specs::Booking::booking_places))]
 #[unsafe(no_mangle)]
 pub extern "C" fn gmwb_book(
     bytes: &[u8],
@@ -57,15 +118,13 @@ pub extern "C" fn gmwb_book(
     ensures place { place_of (verdict (booking_checks bytes.now date account guarantee amount buffer.old)) ≡ 0 }
     ensures buffer_after { buffer.new ≡ booking_buffer bytes.now date account guarantee amount buffer.old }
 {
-    let outcome = booking::book(
-        bytes,
-        date as usize,
-        account as usize,
-        guarantee as usize,
-        amount as usize,
-        buffer,
-    );
-    outcome.number
+    let withdrawal = Withdrawal {
+        date: date as usize,
+        account: account as usize,
+        guarantee: guarantee as usize,
+        amount: amount as usize,
+    };
+    number_told(&booking::book(bytes, withdrawal, buffer))
 }
 
 // Values a contract under behaviour 0, 1 or 2.
@@ -85,12 +144,9 @@ pub extern "C" fn gmwb_value(
         work.old table.old work.new table.new
         (record { number = result; place = place.new; value = value.new; margin = margin.new }) }
 {
-    let answer = valuing::value(bytes, list, rates, behaviour as usize, work, table);
-    *place = answer.place;
-    *value = answer.value;
-    let difference = answer.margin;
-    *margin = difference;
-    answer.number
+    let input = Input { bytes, list, rates };
+    let answer = valuing::value(input, behaviour as usize, work, table);
+    tell(answer, place, value, margin)
 }
 
 // .. with no table.
@@ -109,12 +165,9 @@ pub extern "C" fn gmwb_value_no_table(
         work.old work.new
         (record { number = result; place = place.new; value = value.new; margin = margin.new }) }
 {
-    let alone = valuing::value_no_table(bytes, list, rates, behaviour as usize, work);
-    *place = alone.place;
-    *value = alone.value;
-    let difference = alone.margin;
-    *margin = difference;
-    alone.number
+    let input = Input { bytes, list, rates };
+    let alone = valuing::value_no_table(input, behaviour as usize, work);
+    tell(alone, place, value, margin)
 }
 
 // Values a contract and fills the map of surrender of its table.
@@ -136,14 +189,10 @@ pub extern "C" fn gmwb_value_map(
         work.old table.old map.old work.new table.new map.new
         (record { number = result; place = place.new; value = value.new; margin = margin.new }) count.new }
 {
-    let mapped = mapping::value_map(bytes, list, rates, behaviour as usize, work, table, map);
-    *count = mapped.count;
-    let figures = mapped.answer;
-    *place = figures.place;
-    *value = figures.value;
-    let difference = figures.margin;
-    *margin = difference;
-    figures.number
+    let input = Input { bytes, list, rates };
+    let mapped = mapping::value_map(input, behaviour as usize, work, table, map);
+    *count = mapped.map_or(0, |m| m.count);
+    tell(mapped.map(|m| m.valuation), place, value, margin)
 }
 
 // Finds the smallest fee whose value is at most `wanted`.
@@ -164,14 +213,10 @@ pub extern "C" fn gmwb_fee(
         wanted work.old work.new
         (record { number = result; place = place.new; value = value.new; margin = margin.new }) fee.new }
 {
-    let priced = pricing::find_fee(bytes, list, rates, behaviour as usize, wanted, work);
-    *fee = priced.fee;
-    let figures = priced.answer;
-    *place = figures.place;
-    *value = figures.value;
-    let difference = figures.margin;
-    *margin = difference;
-    figures.number
+    let input = Input { bytes, list, rates };
+    let priced = pricing::find_fee(input, behaviour as usize, wanted, work);
+    *fee = priced.map_or(0, |p| p.fee);
+    tell(priced.map(|p| p.valuation), place, value, margin)
 }
 
 // Values a supplied table.
@@ -190,12 +235,9 @@ pub extern "C" fn gmwb_value_table(
         work.old table.now work.new
         (record { number = result; place = place.new; value = value.new; margin = margin.new }) }
 {
-    let told = supplied::value(bytes, list, rates, work, table);
-    *place = told.place;
-    *value = told.value;
-    let difference = told.margin;
-    *margin = difference;
-    told.number
+    let input = Input { bytes, list, rates };
+    let told = supplied::value(input, work, table);
+    tell(told, place, value, margin)
 }
 
 // Walks a contract along a path and fills its cash.
@@ -216,6 +258,6 @@ pub extern "C" fn gmwb_walk(
         path.now cash.old }
 {
     let outcome = walk::walk(bytes, list, table, path, cash);
-    *place = outcome.place;
-    outcome.number
+    *place = place_told(&outcome);
+    number_told(&outcome)
 }

@@ -3,6 +3,9 @@
 
 ghost use Rattle.gmwbbench.specs.Told.{NoTableTold};
 
+use input::Input;
+
+// A twin of gmwb's call of this name, in an archive of its own: its C interface tells the value alone.
 #[unsafe(no_mangle)]
 pub extern "C" fn gmwb_value_no_table(
     bytes: &[u8],
@@ -15,7 +18,15 @@ pub extern "C" fn gmwb_value_no_table(
     ensures { NoTableTold (record { bytes = bytes.entry.now; list = list.now; rates = rates.now }) behaviour
         work.old result value.new work.new }
 {
-    let answer = valuing::value_no_table(bytes, list, rates, behaviour as usize, work);
-    *value = answer.value;
-    answer.number
+    let input = Input { bytes, list, rates };
+    match valuing::value_no_table(input, behaviour as usize, work) {
+        Ok(valuation) => {
+            *value = valuation.value;
+            0
+        }
+        Err(refusal) => {
+            *value = 0;
+            refusal.number()
+        }
+    }
 }
