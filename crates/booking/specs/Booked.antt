@@ -1,7 +1,7 @@
 -- What a call with one buffer answers and leaves. Assumes nothing.
 use Rattle.std.specs.Prelude.{List, ◌≡◌, ℕ, Result}
 use Rattle.rules.specs.Refusals.{Verdict, on_success}
-use Rattle.contract.specs.declared.refusal.Refusal.{Refusal}
+use Rattle.contract.specs.declared.Refusal.{Refusal}
 use Rattle.contract.specs.Refusal.{verdict_in}
 
 -- the verdict, and in the buffer the bytes on success or what it held

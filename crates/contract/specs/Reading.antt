@@ -3,7 +3,7 @@ use Rattle.std.specs.Prelude.{List, ℕ, Result, Ok, Err}
 use Rattle.rules.specs.Contract.{Terms, terms_of}
 use Rattle.rules.specs.Refusals.{Verdict, accepted, refused, verdict, record_checks}
 use Rattle.contract.specs.declared.Contract.{Contract}
-use Rattle.contract.specs.declared.refusal.Refusal.{Refusal}
+use Rattle.contract.specs.declared.Refusal.{Refusal}
 use Rattle.contract.specs.Refusal.{number_in, place_in}
 
 -- the struct and the record of the rules hold the same fields

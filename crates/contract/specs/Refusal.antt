@@ -1,8 +1,8 @@
 -- A refusal's number and place. Assumes nothing.
 use Rattle.std.specs.Prelude.{ℕ, Result, Ok, Err}
 use Rattle.rules.specs.Refusals.{Verdict, accepted, refused}
-use Rattle.contract.specs.declared.refusal.Refusal.{Refusal}
-use Rattle.contract.specs.declared.refusal.Refusal.TheVariants as refusal
+use Rattle.contract.specs.declared.Refusal.{Refusal}
+use Rattle.contract.specs.declared.Refusal.TheVariants as refusal
 
 -- the column of numbers
 abbrev pub number_in : Refusal → ℕ

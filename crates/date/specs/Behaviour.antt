@@ -2,9 +2,9 @@
 use Rattle.std.specs.Prelude.{◌≡◌, ℕ, ◌≤◌, ◌<◌, Result, MatchResult}
 use Rattle.rules.specs.Date as rules
 use Rattle.rules.specs.Operations.{behaviour_of}
-use Rattle.date.specs.declared.behaviour.Behaviour.{Behaviour}
-use Rattle.date.specs.declared.behaviour.Behaviour.TheVariants.{Static, Mixed, Dynamic}
-use Rattle.date.specs.declared.behaviour.UnknownBehaviour.{UnknownBehaviour}
+use Rattle.date.specs.declared.Behaviour.{Behaviour}
+use Rattle.date.specs.declared.Behaviour.TheVariants.{Static, Mixed, Dynamic}
+use Rattle.date.specs.declared.UnknownBehaviour.{UnknownBehaviour}
 
 abbrev pub behaviour_in : Behaviour → rules.Behaviour
 behaviour_in Static = rules.static

@@ -6,10 +6,36 @@ ghost use Rattle.rules.specs.Contract.{top_most, dates_most, rate_most, discount
 ghost use Rattle.rules.specs.Date.{dynamic, free_amount, largest_amount, admits, rate_on, penalty, cash, guarantee_after};
 ghost use Rattle.rules.specs.Date.{balance_after, lifted_account, next_account, excess_paid, maturity_value};
 ghost use Rattle.rules.specs.Date.{death_payment, death_share, discounted};
+ghost use Rattle.date.specs.Behaviour.{Numbers};
 
-mod behaviour;
+// Which amounts a holder may choose from.
+#[derive(Clone, Copy, Debug, PartialEq, Eq)]
+pub enum Behaviour {
+    Static,
+    Mixed,
+    Dynamic,
+}
 
-pub use behaviour::{Behaviour, UnknownBehaviour};
+// A number that no behaviour has.
+#[derive(Clone, Copy, Debug, PartialEq, Eq)]
+pub struct UnknownBehaviour {
+    pub number: usize,
+}
+
+impl TryFrom<usize> for Behaviour {
+    type Error = UnknownBehaviour;
+
+    ghost try_from_gives = { Numbers };
+
+    fn try_from(number: usize) -> Result<Self, UnknownBehaviour> {
+        match number {
+            0 => Ok(Behaviour::Static),
+            1 => Ok(Behaviour::Mixed),
+            2 => Ok(Behaviour::Dynamic),
+            _ => Err(UnknownBehaviour { number }),
+        }
+    }
+}
 
 pub fn free_amount(level: usize, a: usize) -> usize
     ensures { result ≡ free_amount level a }

@@ -3,7 +3,7 @@ use Rattle.std.specs.Prelude.{List, ◌≡◌, ℕ, Result, Ok, Err}
 use Rattle.std.proofs.Common.{sym}
 use Rattle.rules.specs.Refusals.{verdict, record_checks}
 use Rattle.contract.specs.declared.Contract.{Contract}
-use Rattle.contract.specs.declared.refusal.Refusal.{Refusal}
+use Rattle.contract.specs.declared.Refusal.{Refusal}
 use Rattle.contract.specs.Refusal.{verdict_in}
 use Rattle.contract.specs.Reading.{reading_tells, record_read}
 use Rattle.contract.specs.Accepted.{read_accepted, read_refused}

@@ -1,7 +1,7 @@
 -- What is read, in the words of the rules. Assumes nothing.
 use Rattle.std.specs.Prelude.{ℕ, Result}
 use Rattle.rules.specs.Contract.{Input, Terms, returns_of}
-use Rattle.contract.specs.declared.refusal.Refusal.{Refusal}
+use Rattle.contract.specs.declared.Refusal.{Refusal}
 use Rattle.contract.specs.Reading.{Taken, terms_in, tells}
 use Rattle.input.specs.declared.Input as declared
 use Rattle.input.specs.declared.Agreement.{Agreement}

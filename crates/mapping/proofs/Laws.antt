@@ -14,7 +14,7 @@ use Rattle.laws.specs.Accepted.{success_reports}
 use Rattle.laws.specs.Map.{mapping_short, mapping_same, mapping_accepts, mapping_valid}
 use Rattle.contract.specs.Reading.{terms_in}
 use Rattle.date.specs.Behaviour.{behaviour_in}
-use Rattle.date.specs.declared.behaviour.Behaviour as date
+use Rattle.date.specs.declared.Behaviour as date
 use Rattle.input.specs.declared.Policy as input
 use Rattle.valuing.specs.declared.Valuation.{Valuation}
 use Rattle.valuing.specs.Answered.{told, Passed, Answered, Reported, reported, reported_refused}

@@ -6,7 +6,7 @@ use Rattle.rules.specs.Refusals.{verdict}
 use Rattle.rules.specs.Operations.{Answer, behaviour_of}
 use Rattle.rules.specs.Policy.{policy_of}
 use Rattle.rules.specs.Map.{mapping_checks, map_after, count_after}
-use Rattle.contract.specs.declared.refusal.Refusal.{Refusal}
+use Rattle.contract.specs.declared.Refusal.{Refusal}
 use Rattle.contract.specs.Refusal.{number_in, place_in}
 use Rattle.valuing.specs.Answered.{told, refusal, Reported}
 use Rattle.mapping.specs.declared.Mapped as declared

@@ -3,8 +3,8 @@ use Rattle.std.specs.Prelude.{◌≢◌, ◌⊎◌, Bool, true, false}
 use Rattle.std.proofs.Common.{inl, inr, true≢false}
 use denote.Enum.Bare.{sameb}
 use Rattle.date.specs.contracts.behaviour.Behaviour.{the_type}
-use Rattle.date.specs.declared.behaviour.Behaviour as code
-use Rattle.date.specs.declared.behaviour.Behaviour.TheVariants.{Static, Mixed, Dynamic}
+use Rattle.date.specs.declared.Behaviour as code
+use Rattle.date.specs.declared.Behaviour.TheVariants.{Static, Mixed, Dynamic}
 use Rattle.date.specs.Behaviour.{behaviour_in}
 use mathlib.Core.List.{List}
 use mathlib.Core.Path.{◌≡◌, refl, ap, ap₂, sym, ◌∙◌}

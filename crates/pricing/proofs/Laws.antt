@@ -27,10 +27,10 @@ use Rattle.laws.specs.Fee.{fee_value, meets, smallest_fee, first_to_meet}
 use Rattle.laws.proofs.FeeSought.{meets_lasts}
 use Rattle.laws.proofs.Pricing.{valid_fee, fee_refused, fee_accepted, fee_wanting, fee_accepts, fee_claim}
 use Rattle.std.specs.Prelude.{Option, Some, None, Ok, ok_or}
-use Rattle.contract.specs.declared.refusal.Refusal.TheVariants.{NoFee}
+use Rattle.contract.specs.declared.Refusal.TheVariants.{NoFee}
 use Rattle.date.specs.Behaviour.{behaviour_in}
 use Rattle.contract.specs.Reading.{terms_in}
-use Rattle.date.specs.declared.behaviour.Behaviour as date
+use Rattle.date.specs.declared.Behaviour as date
 use Rattle.input.specs.declared.Policy as input
 use Rattle.valuing.specs.declared.Valuation.{Valuation}
 use Rattle.valuing.specs.Answered.{WorkLent, Worked, told, Passed, of_the_bytes}

@@ -10,7 +10,7 @@ use Rattle.rules.specs.Operations.{Answer, answer, behaviour_of}
 use Rattle.rules.specs.Policy.{policy_of}
 use Rattle.rules.specs.Fee.{under_fee, fee_answer, fee_found, fee_work}
 use Rattle.laws.specs.Fee.{fee_value, meets, smallest_fee}
-use Rattle.contract.specs.declared.refusal.Refusal.{Refusal}
+use Rattle.contract.specs.declared.Refusal.{Refusal}
 use Rattle.contract.specs.Refusal.{number_in, place_in}
 use Rattle.valuing.specs.declared.Valuation.{Valuation}
 use Rattle.valuing.specs.Answered.{told, refusal}

@@ -28,8 +28,8 @@ use Rattle.laws.specs.Date.{account_le}
 use Rattle.laws.specs.Demand.{table_filled}
 use Rattle.laws.specs.FixedTerm.{sound}
 use Rattle.laws.specs.ThirdDemand.{valuing_accepts, valuing_valid, valued_reports}
-use Rattle.contract.specs.declared.refusal.Refusal.{Refusal}
-use Rattle.contract.specs.declared.refusal.Refusal.TheVariants as refusal
+use Rattle.contract.specs.declared.Refusal.{Refusal}
+use Rattle.contract.specs.declared.Refusal.TheVariants as refusal
 use Rattle.contract.specs.Refusal.{number_in, place_in, verdict_in}
 use Rattle.input.specs.Accepted.{Both}
 use Rattle.valuing.specs.declared.Valuation.{Valuation}

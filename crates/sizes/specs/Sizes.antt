@@ -10,7 +10,7 @@ use Rattle.rules.specs.Policy.{policy_of}
 use Rattle.rules.specs.Map.{map_size}
 use Rattle.rules.specs.Sizes.{Sizes, sizes_of, record_policy}
 use Rattle.laws.specs.Terms.{table_size, frame}
-use Rattle.contract.specs.declared.refusal.Refusal.{Refusal}
+use Rattle.contract.specs.declared.Refusal.{Refusal}
 use Rattle.contract.specs.Refusal.{number_in}
 use Rattle.sizes.specs.declared.Sizes as declared
 

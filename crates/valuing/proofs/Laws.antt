@@ -29,7 +29,7 @@ use Rattle.laws.specs.FixedTerm.{size_some}
 use Rattle.laws.specs.Valuing.{behaviour_refused, work_refused, work_accepted, table_last, table_verdict, no_table_refused}
 use Rattle.contract.specs.Reading.{terms_in, turned, taken}
 use Rattle.date.specs.Behaviour.{behaviour_in}
-use Rattle.date.specs.declared.behaviour.Behaviour as date
+use Rattle.date.specs.declared.Behaviour as date
 use Rattle.input.specs.declared.Policy as input
 use Rattle.input.specs.Given.{Given}
 use Rattle.input.specs.Read.{input_read}

@@ -15,8 +15,8 @@ use Rattle.laws.specs.Terms.{table_size, read_policy}
 use Rattle.laws.specs.Date.{shared}
 use Rattle.expect.specs.Expected.{expected, Values}
 use Rattle.date.specs.Behaviour.{behaviour_in}
-use Rattle.date.specs.declared.behaviour.Behaviour as date
-use Rattle.contract.specs.declared.refusal.Refusal.{Refusal}
+use Rattle.date.specs.declared.Behaviour as date
+use Rattle.contract.specs.declared.Refusal.{Refusal}
 use Rattle.contract.specs.Refusal.{number_in, place_in}
 use Rattle.contract.specs.Reading.{Taken, terms_in, tells}
 use Rattle.input.specs.declared.Policy as input

@@ -13,9 +13,9 @@ use Rattle.rules.specs.Date.{maturity_value}
 use Rattle.rules.specs.FixedTerm.{layer_size, fixed_term, layout_of, process_of}
 use Rattle.rules.specs.Refusals.{Verdict, accepted, refused, verdict}
 use Rattle.laws.specs.Bounds.{state_most}
-use Rattle.contract.specs.declared.refusal.Refusal.{Refusal}
+use Rattle.contract.specs.declared.Refusal.{Refusal}
 use Rattle.contract.specs.Refusal.{number_in, place_in}
-use Rattle.date.specs.declared.behaviour.Behaviour as date
+use Rattle.date.specs.declared.Behaviour as date
 use Rattle.input.specs.declared.Policy as input
 use Rattle.input.specs.Read.{agreed_by}
 use Rattle.input.specs.Accepted.{agreed, disagreed}

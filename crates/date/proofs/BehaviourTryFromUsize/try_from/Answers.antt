@@ -1,7 +1,7 @@
 -- A number is read as its behaviour. Assumes nothing.
 use Rattle.std.proofs.Common.{arith}
 use Rattle.rules.specs.Operations.{behaviour_of}
-use Rattle.date.proofs.behaviour.BehaviourTryFromUsize.try_from.Goals as goal
+use Rattle.date.proofs.BehaviourTryFromUsize.try_from.Goals as goal
 
 pub returns-in-0 : goal.returns-in-0
 unfolding behaviour_of
