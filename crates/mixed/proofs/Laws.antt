@@ -115,7 +115,8 @@ module _ {work : List ℕ} {d : Date} {s : Block} (b : Span work d s) {x y at lo
       free = sym (free_level d.level _ (level_from d.level s.from low s.n low_is i l).0)
 
       module _ {k : ℕ} (behaviour : Behaviour) (k_is : k ≡ key (10000 * d.level) d.level) where
-        pub rest_alone : Alone behaviour s.w d.level → get_or work (at + i) 0 + k ≡ row_key behaviour d s.w (sums work d) (s.from + (low + i))
+        pub rest_alone : Alone behaviour s.w d.level
+            → get_or work (at + i) 0 + k ≡ row_key behaviour d s.w (sums work d) (s.from + (low + i))
         rest_alone h = free_alone s.w _ b.layers column free x_is place_is k_is behaviour h
 
         pub rest_larger : {other : ℕ} → behaviour ≡ mixed → d.level < s.w → other
@@ -132,7 +133,8 @@ module _ {work : List ℕ} {d : Date} {s : Block} (b : Span work d s) {x y at lo
     }
 
 -- ---- the two parts of a block
-pub both_parts : {d : Date} {s : Block} {e : ℕ → ℕ → ℕ} (behaviour : Behaviour) (best best₁ best₂ : List ℕ) (low : ℕ) → low ≤ s.n → s.n ≤ 512
+pub both_parts : {d : Date} {s : Block} {e : ℕ → ℕ → ℕ} (behaviour : Behaviour) (best best₁ best₂ : List ℕ) (low : ℕ) → low ≤ s.n
+    → s.n ≤ 512
     → 512 ≤ length best
     → best₁ ≡ stored best 0 (λ j. row_key behaviour d s.w e (s.from + j)) low
     → best₂ ≡ stored best₁ low (λ i. row_key behaviour d s.w e (s.from + (low + i))) (s.n - low)

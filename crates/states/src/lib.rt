@@ -31,7 +31,7 @@ fn take_amounts(best: &Best, table: &mut [u16], at: usize, n: usize)
     }
 }
 
-// .. and their values.
+// .. and their values: of another part of a key, and of another type.
 fn take_values(best: &Best, work: &mut [u64], at: usize, n: usize)
     requires { (n ≤ 512) × (at + n ≤ length work.old) }
     ensures { work.new ≡ stored work.old at (λ (j : ℕ). get_or best.now j 0 / 8192) n }

@@ -8,5 +8,6 @@ pub returns : goal.returns
 returns c =
     let args = c.args in
     let pre = c.requires in
-    both_parts (behaviour_in args.behaviour) args.best.now _ _ c.min-low.result (omega (arith, c.min-low.ensures)) pre.1.short (omega (arith, c.told-best))
+    both_parts (behaviour_in args.behaviour) args.best.now _ _ c.min-low.result (omega (arith, c.min-low.ensures)) pre.1.short
+    (omega (arith, c.told-best))
     c.below_level.ensures c.from_level.ensures

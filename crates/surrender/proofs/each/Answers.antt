@@ -30,7 +30,13 @@ overflow_add-bits c =
     let loop = c.loop-k in
     let pre = c.requires in
     let f = above_fits (draws args.row.now args.account) (length args.row.now) loop.k (pre) (omega arith) in
-    omega (arith, loop.invariant.1, c.from.ensures, bit_is (draws args.row.now args.account (loop.k - 1)), bit_le (draws args.row.now args.account (loop.k - 1)))
+    omega (
+      arith,
+      loop.invariant.1,
+      c.from.ensures,
+      bit_is (draws args.row.now args.account (loop.k - 1)),
+      bit_le (draws args.row.now args.account (loop.k - 1)),
+    )
 
 pub loop-k-preserved : goal.loop-k-preserved
 loop-k-preserved c =

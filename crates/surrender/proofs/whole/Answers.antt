@@ -17,7 +17,15 @@ overflow_add-n c =
     let loop = c.loop-t in
     let pre = c.requires in
     let f = draws args.row.now args.account in
-    omega (arith, loop.invariant.1, c.from-n.ensures ∙ bit_is _, set_most f loop.t-index, set_next f loop.t-index, set_most f (loop.t-index + 1), pre)
+    omega (
+      arith,
+      loop.invariant.1,
+      c.from-n.ensures ∙ bit_is _,
+      set_most f loop.t-index,
+      set_next f loop.t-index,
+      set_most f (loop.t-index + 1),
+      pre,
+    )
 
 pub loop-t-preserved : goal.loop-t-preserved
 loop-t-preserved c =

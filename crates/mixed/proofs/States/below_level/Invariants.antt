@@ -10,7 +10,8 @@ use Rattle.mixed.proofs.States.below_level.Given as goal
 abbrev pub invariant-loop-j : goal.invariant-loop-j
 invariant-loop-j l =
     (l.j ≤ l.n) × (l.best ≡ stored l.initial.best 0
-    (λ x. best_key (behaviour_in l.self.behaviour) (sums l.self.work.now l.self.d) l.self.d.rate l.self.d.level l.self.s.w (l.self.s.from + x)) l.j)
+    (λ x. best_key (behaviour_in l.self.behaviour) (sums l.self.work.now l.self.d) l.self.d.rate
+    l.self.d.level l.self.s.w (l.self.s.from + x)) l.j)
 
 abbrev pub decreases-loop-j : goal.decreases-loop-j
 decreases-loop-j l = l.n - l.j
