@@ -21,8 +21,8 @@ use Rattle.rules.specs.Date.{Behaviour, maturity_value, margin}
 use Rattle.rules.specs.Product.{contract_value, value_layer, amount_layers, state_value, recorded_amount, entries}
 use Rattle.rules.specs.FixedTerm.{fixed_term, process_of, layout_of, layer_size, State, Held}
 use Rattle.rules.specs.Refusals.{accepted, refused, verdict, number_of, place_of, on_success, short, input_checks, Verdict}
-use Rattle.rules.specs.Operations.{Answer, answer, work_after, behaviour_of, filled, work_size, Policy, valued_answer, no_table_checks, valued_work}
-use Rattle.rules.specs.Operations.{valuing_checks}
+use Rattle.rules.specs.Operations.{Answer, answer, work_after, behaviour_of, filled, work_size, Policy, valued_answer, valued_work}
+use Rattle.rules.specs.Operations.{no_table_checks, valuing_checks}
 use Rattle.laws.specs.Date.{shared}
 use Rattle.laws.specs.Accepted.{Valid, and_then, input_valid}
 use Rattle.laws.specs.FixedTerm.{size_some}
