@@ -8,7 +8,7 @@ use Rattle.std.specs.Prelude.{Ok}
 use lib.ListN.{drop, length}
 use Rattle.rules.specs.Contract.{Terms, returns_of, rates_of, Input}
 use Rattle.rules.specs.Refusals.{refused, on_success, short, verdict, Verdict}
-use Rattle.rules.specs.Operations.{Answer, behaviour_of, Policy, valuing_checks, filled}
+use Rattle.rules.specs.Operations.{Answer, Policy, valuing_checks, filled}
 use Rattle.rules.specs.Map.{surrender_map, surrender_count, map_size, count_after, map_after, mapping_checks, surrendered}
 use Rattle.laws.specs.Accepted.{success_reports}
 use Rattle.laws.specs.Map.{mapping_short, mapping_same, mapping_accepts, mapping_valid}

@@ -13,7 +13,7 @@ use Rattle.rules.specs.Operations.{valued_table, no_table_checks}
 use Rattle.rules.specs.Policy.{policy_of}
 use Rattle.laws.specs.Terms.{table_size, read_policy}
 use Rattle.laws.specs.Date.{shared}
-use Rattle.expect.specs.Expected.{expected, Values}
+use Rattle.expect.specs.Expected.{expected}
 use Rattle.date.specs.Behaviour.{behaviour_in}
 use Rattle.date.specs.declared.behaviour.Behaviour as date
 use Rattle.contract.specs.declared.refusal.Refusal.{Refusal}
