@@ -42,7 +42,9 @@ impl<'a> States<'a> {
     {
         let Block { w, from, n } = self.s;
         let low = usize::min(n, t.saturating_sub(from));
-        let at = self.d.place(w.saturating_sub(t), (from + low).saturating_sub(t));
+        let at = self
+            .d
+            .place(w.saturating_sub(t), (from + low).saturating_sub(t));
         offer(best, low, self.work, at, n - low, keys::key(10000 * t, t));
     }
 

@@ -8,7 +8,7 @@ use Rattle.std.specs.Prelude.{Ok}
 use lib.ListN.{drop, length}
 use Rattle.rules.specs.Contract.{Terms, returns_of, rates_of, Input}
 use Rattle.rules.specs.Refusals.{refused, on_success, short, verdict, Verdict}
-use Rattle.rules.specs.Operations.{Answer, behaviour_of, Policy, valuing_checks, filled}
+use Rattle.rules.specs.Operations.{Answer, Policy, valuing_checks, filled}
 use Rattle.rules.specs.Map.{surrender_map, surrender_count, map_size, count_after, map_after, mapping_checks, surrendered}
 use Rattle.laws.specs.Accepted.{success_reports}
 use Rattle.laws.specs.Map.{mapping_short, mapping_same, mapping_accepts, mapping_valid}
@@ -17,7 +17,7 @@ use Rattle.date.specs.Behaviour.{behaviour_in}
 use Rattle.date.specs.declared.Behaviour as date
 use Rattle.input.specs.declared.Policy as input
 use Rattle.valuing.specs.declared.Valuation.{Valuation}
-use Rattle.valuing.specs.Answered.{told, Passed, Answered, Reported, reported, reported_refused}
+use Rattle.valuing.specs.Answered.{told, Passed, Answered, Reported, reported_passed, reported_refused}
 use Rattle.valuing.specs.First.{table_lent}
 use Rattle.mapping.specs.Mapped.{Told, map_refusal, Mapping}
 use Rattle.rules.specs.FixedTerm.{State, Held, fixed_term, process_of, layout_of}
@@ -68,16 +68,20 @@ module _ (x : Input) (behaviour : ℕ) (work table map : List ℕ) where
       unfolding short
       too_short l = refused_whole 16 0 (mapping_short p behaviour work table map passed.accepts (same_map true (lt-ltb _ _ l)))
 
+      fits : map_size (frame c) ≤ length map → short (map_size p.product) map ≡ false
+      unfolding short
+      fits l = same_map false (le-ltb _ _ l)
+
       pub filled_whole : {v : Valuation} {n : ℕ} {work' table' map' : List ℕ} → map_size (frame c) ≤ length map
           → Answered (behaviour_in b) c (returns_of policy.list.now) (rates_of policy.rates.now) work table v work' table'
           → n ≡ surrender_count (frame c) table'
           → map' ≡ surrender_map (frame c) table' ++ drop (map_size (frame c)) map
           → Mapping x behaviour work table map (record { answer = told (Ok v); count = n }) work' table' map'
-      unfolding short count_after map_after filled map_size surrender_map surrender_count surrendered entries fixed_term process_of layout_of
+      unfolding count_after map_after filled map_size surrender_map surrender_count surrendered entries fixed_term process_of layout_of
       filled_whole l a e f =
-          let yes_to = mapping_same p behaviour work table map (same_map false (le-ltb _ _ l)) ∙ passed.accepts in
+          let yes_to = mapping_same p behaviour work table map (fits l) ∙ passed.accepts in
           let room = (table_lent x behaviour work table passed.accepts passed.terms).room_table in
-          let w = reported x behaviour (record { accepts = yes_to; terms = passed.terms; same = passed.same }) room a in
+          let w = reported_passed x behaviour (record { accepts = yes_to; terms = passed.terms; same = passed.same }) room a in
           whole w
           (e ∙ ap₂ (λ (z : Terms) (left : List ℕ). surrender_count (frame z) left) passed.terms w.table_is
           ∙ sym (success_reports _ _ yes_to))

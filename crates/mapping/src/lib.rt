@@ -1,7 +1,6 @@
 // Valuing a contract under one of the three behaviours, with a map of surrender.
 #![tactic(auto)]
 
-ghost use Rattle.std.specs.Prelude.{◌≡◌};
 ghost use Rattle.input.specs.Reading.{input_of};
 ghost use Rattle.mapping.specs.Mapped.{told_map, Mapping};
 

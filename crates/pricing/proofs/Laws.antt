@@ -3,8 +3,7 @@ use mathlib.Core.Bool.{Bool, true, false, cond, not}
 use mathlib.Core.List.{List}
 use mathlib.Core.Logic.{inr}
 use mathlib.Core.Path.{◌≡◌, refl, ap, sym, ◌∙◌, subst}
-use Prim.Native.Nat.{ℕ, suc, ◌+◌, ◌-◌, ◌*◌, ◌/◌, ◌^◌, ◌≤◌, ◌<◌}
-use native.Mathlib.Nat.{pow-suc}
+use Prim.Native.Nat.{ℕ, ◌+◌, ◌-◌, ◌*◌, ◌≤◌, ◌<◌}
 use native.Mathlib.Omega.{arith}
 use lib.Dec.{T, leb, ltb, leb→le, le→leb, ltb→lt, nltb→le}
 use lib.ListN.{length, get_or}
@@ -13,7 +12,6 @@ use borrow.Author.Tests.{lt-ltb, le-ltb}
 use Rattle.decision.specs.Index.{first, first_from, false_is}
 use Rattle.decision.specs.Layers.{layer}
 use Rattle.decision.specs.Bisection.{narrow_none, narrow_down, narrow_up, narrow_end, halvings, half, Halved, halved, halvings_fall}
-use Rattle.decision.specs.Bisection.{half_is}
 use Rattle.slices.specs.Stored.{stored, length_stored, stored_out, stored_two, stored_clear}
 use Rattle.rules.specs.Contract.{Terms, Returns, Rates, terms_of, returns_of, rates_of, rate_most, Input, terms_under}
 use Rattle.rules.specs.Date.{Behaviour}
@@ -25,15 +23,21 @@ use Rattle.rules.specs.Fee.{under_fee, fee_found, fee_answer, fee_work}
 use Rattle.laws.specs.Terms.{with_fee}
 use Rattle.laws.specs.Fee.{fee_value, meets, smallest_fee, first_to_meet}
 use Rattle.laws.proofs.FeeSought.{meets_lasts}
+<<<<<<< HEAD
 use Rattle.laws.proofs.Pricing.{valid_fee, fee_refused, fee_accepted, fee_wanting, fee_accepts, fee_claim}
 use Rattle.std.specs.Prelude.{Option, Some, None, Ok, ok_or}
 use Rattle.contract.specs.declared.Refusal.TheVariants.{NoFee}
+=======
+use Rattle.laws.proofs.Pricing.{fee_refused, fee_accepted, fee_wanting, fee_accepts, fee_claim}
+use Rattle.std.specs.Prelude.{Option, Some, None, ok_or}
+use Rattle.contract.specs.declared.Refusal.TheVariants.{NoFee}
+>>>>>>> c465fd2c0fd9df9d44021b065b57b1ba879ebc5e
 use Rattle.date.specs.Behaviour.{behaviour_in}
 use Rattle.contract.specs.Reading.{terms_in}
 use Rattle.date.specs.declared.Behaviour as date
 use Rattle.input.specs.declared.Policy as input
 use Rattle.valuing.specs.declared.Valuation.{Valuation}
-use Rattle.valuing.specs.Answered.{WorkLent, Worked, told, Passed, of_the_bytes}
+use Rattle.valuing.specs.Answered.{WorkLent, Worked, Passed, of_the_bytes}
 use Rattle.pricing.specs.declared.Bracket as bracket
 use Rattle.pricing.specs.declared.Priced as declared
 use Rattle.pricing.specs.Priced.{Told, told_fee, told_found, fee_refusal, priced_at, narrowed, Kept, Searching, Found, Pricing}

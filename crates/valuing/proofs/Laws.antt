@@ -2,8 +2,8 @@
 use mathlib.Core.Bool.{Bool, true, false, cond}
 use mathlib.Core.List.{List, ◌++◌}
 use mathlib.Core.Logic.{inl, inr, ◌⊎◌}
-use Rattle.std.specs.Prelude.{Ok, Err}
-use mathlib.Core.Path.{◌≡◌, refl, ap, sym, ◌∙◌, subst}
+use Rattle.std.specs.Prelude.{Ok}
+use mathlib.Core.Path.{◌≡◌, refl, ap, sym, ◌∙◌}
 use Prim.Native.Nat.{ℕ, zero, suc, ◌+◌, ◌-◌, ◌*◌, ◌/◌, ◌%◌, ◌≤◌, ◌<◌}
 use native.Mathlib.Nat.{mod-lt, div-add-mod', div-lt_iff_lt-mul, zero-add}
 use native.Mathlib.Omega.{arith}
@@ -16,15 +16,15 @@ use Rattle.decision.specs.Process.{start_value}
 use Rattle.decision.specs.Layers.{layer, layers}
 use Rattle.slices.specs.Stored.{stored, length_stored, is_stored, stored_front}
 use Rattle.slices.specs.Rows.{cells, flat}
-use Rattle.rules.specs.Contract.{Terms, Returns, Rates, terms_of, returns_of, rates_of, rate_most, Input}
+use Rattle.rules.specs.Contract.{Terms, Returns, Rates, returns_of, rates_of, rate_most, Input}
 use Rattle.rules.specs.Date.{Behaviour, maturity_value, margin}
 use Rattle.rules.specs.Product.{contract_value, value_layer, amount_layers, state_value, recorded_amount, entries}
 use Rattle.rules.specs.FixedTerm.{fixed_term, process_of, layout_of, layer_size, State, Held}
 use Rattle.rules.specs.Refusals.{accepted, refused, verdict, number_of, place_of, on_success, short, input_checks, Verdict}
-use Rattle.rules.specs.Operations.{Answer, answer, work_after, behaviour_of, filled, work_size, Policy, valued_answer, no_table_checks, valued_work}
-use Rattle.rules.specs.Operations.{valuing_checks}
+use Rattle.rules.specs.Operations.{Answer, answer, work_after, filled, work_size, Policy, valued_answer, valued_work}
+use Rattle.rules.specs.Operations.{no_table_checks, valuing_checks}
 use Rattle.laws.specs.Date.{shared}
-use Rattle.laws.specs.Accepted.{Valid, and_then, input_valid}
+use Rattle.laws.specs.Accepted.{and_then}
 use Rattle.laws.specs.FixedTerm.{size_some}
 use Rattle.laws.specs.Valuing.{behaviour_refused, work_refused, work_accepted, table_last, table_verdict, no_table_refused}
 use Rattle.contract.specs.Reading.{terms_in, turned, taken}

@@ -1,6 +1,6 @@
 -- What the calls answer, and what the valuing of terms that were read leaves. Assumes nothing.
 use Rattle.std.specs.Prelude.{List, ◌++◌, ◌≡◌, ℕ, ◌+◌, ◌≤◌, pos, length, drop, Result, Ok, Err}
-use Rattle.std.proofs.Common.{sym, subst}
+use Rattle.std.proofs.Common.{refl, sym, subst}
 use Rattle.slices.specs.Stored.{stored}
 use Rattle.slices.specs.Rows.{cells}
 use Rattle.rules.specs.Contract.{Input, Terms, Returns, Rates, terms_of, returns_of, rates_of}
@@ -13,7 +13,7 @@ use Rattle.rules.specs.Operations.{valued_table, no_table_checks}
 use Rattle.rules.specs.Policy.{policy_of}
 use Rattle.laws.specs.Terms.{table_size, read_policy}
 use Rattle.laws.specs.Date.{shared}
-use Rattle.expect.specs.Expected.{expected, Values}
+use Rattle.expect.specs.Expected.{expected}
 use Rattle.date.specs.Behaviour.{behaviour_in}
 use Rattle.date.specs.declared.Behaviour as date
 use Rattle.contract.specs.declared.Refusal.{Refusal}
@@ -124,16 +124,26 @@ module _ (p : Policy State Held) {v : Verdict} (behaviour : ℕ) {work table : L
   reported_refused n q e f = record { answer_is = rw e f; work_is = rw e; table_is = rw e }
 
 -- the policy that was read
-pub reported : (x : Input) {v : Verdict} (behaviour : ℕ) {work table work' table' : List ℕ} {r : Valuation} {policy : input.Policy}
-    {b : date.Behaviour} → Passed v x behaviour policy b → table_size (terms_in policy.contract) ≤ length table
-    → Answered (behaviour_in b) (terms_in policy.contract) (returns_of policy.list.now) (rates_of policy.rates.now) work table r work' table'
+pub reported : (x : Input) {v : Verdict} (behaviour : ℕ) {work table work' table' : List ℕ} {r : Valuation} {c : Terms}
+    → v ≡ accepted → c ≡ terms_of x.bytes → table_size c ≤ length table
+    → Answered (behaviour_of behaviour) c (returns_of x.list) (rates_of x.rates) work table r work' table'
     → Reported (policy_of x) v behaviour work table (told (Ok r)) work' table'
 unfolding valued_answer valued_work valued_table work_after filled on_success entries table_size fixed_term process_of layout_of
-reported x behaviour {work} {table} {work'} {table'} {r} told room a =
+reported x {v} behaviour {work} {table} {work'} {table'} {r} e same room a =
     let b =
-    of_the_bytes told (λ d t list rates. Answered d t (returns_of list) (rates_of rates) work table r work' table') a in
+    subst (λ (t : Terms). Answered (behaviour_of behaviour) t (returns_of x.list) (rates_of x.rates) work table r work' table') same a in
     record {
-      answer_is = rw told.accepts b.worked.answer_is;
-      work_is = rw told.accepts b.worked.work_is;
-      table_is = rw told.accepts (b.table_is (subst (λ (t : Terms). table_size t ≤ length table) told.terms room));
+      answer_is = rw e b.worked.answer_is;
+      work_is = rw e b.worked.work_is;
+      table_is = rw e (b.table_is (rw (sym same) room));
     }
+
+-- .. and passed
+pub reported_passed : (x : Input) {v : Verdict} (behaviour : ℕ) {work table work' table' : List ℕ} {r : Valuation}
+    {policy : input.Policy} {b : date.Behaviour} → Passed v x behaviour policy b → table_size (terms_in policy.contract) ≤ length table
+    → Answered (behaviour_in b) (terms_in policy.contract) (returns_of policy.list.now) (rates_of policy.rates.now) work table
+    r work' table'
+    → Reported (policy_of x) v behaviour work table (told (Ok r)) work' table'
+reported_passed x behaviour {work} {table} {work'} {table'} {r} passed room a =
+    reported x behaviour passed.accepts refl (subst (λ (t : Terms). table_size t ≤ length table) passed.terms room)
+    (of_the_bytes passed (λ d t list rates. Answered d t (returns_of list) (rates_of rates) work table r work' table') a)

@@ -26,7 +26,7 @@ use Rattle.rules.specs.Product.{entries}
 use Rattle.laws.specs.Terms.{table_size}
 use Rattle.rules.specs.Operations.{no_table_checks, valuing_checks}
 use Rattle.rules.specs.Policy.{policy_of}
-use Rattle.laws.specs.Valuing.{valuing_no_table, no_table_room, no_table_read}
+use Rattle.laws.specs.Valuing.{valuing_no_table, no_table_room}
 
 -- the first layer holds f, and what stands behind both layers is kept
 pub record First (f : ℕ → ℕ → ℕ) (c : Terms) (work work' : List ℕ) : Type 0 where

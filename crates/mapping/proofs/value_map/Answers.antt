@@ -27,7 +27,6 @@ pub fill-count-requires : goal.fill-count-requires
 fill-count-requires c =
     let told = passed _ _ _ c.in_ok-policy.ensures.tells c.in_ok-policy.ensures.checked in
     let given = table_lent _ _ _ _ told.accepts told.terms in record {
-      valid = c.in_ok-policy.policy.contract.in_range;
       entries = omega (arith, given.room_table);
       words = omega (arith, c.map_size.ensures, c.if-map-map_size.false);
     }

@@ -1,6 +1,5 @@
 -- `pricing::power_within` meets its contract. Assumes nothing.
 use mathlib.Core.Path.{◌∙◌}
-use native.Mathlib.Omega.{arith}
 use Rattle.decision.specs.Bisection.{half_is}
 use Rattle.pricing.proofs.power_within.Goals as goal
 

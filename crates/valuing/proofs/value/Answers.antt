@@ -2,7 +2,7 @@
 use mathlib.Core.Path.{refl}
 use Rattle.std.proofs.lemmas.Result.{err_from_is_err_and}
 use Rattle.input.specs.Reading.{input_of}
-use Rattle.valuing.specs.Answered.{reported, reported_refused}
+use Rattle.valuing.specs.Answered.{reported_passed, reported_refused}
 use Rattle.valuing.specs.First.{turned_away, passed, table_lent}
 use Rattle.valuing.proofs.Laws.{valuing}
 use Rattle.valuing.proofs.value.Goals as goal
@@ -20,4 +20,4 @@ valued-requires c =
 pub returns : goal.returns
 returns c =
     let told = passed _ _ _ c.in_ok-policy.ensures.tells c.in_ok-policy.ensures.checked in
-    valuing _ _ _ _ (reported _ _ told (table_lent _ _ _ _ told.accepts told.terms).room_table c.valued.ensures)
+    valuing _ _ _ _ (reported_passed _ _ told (table_lent _ _ _ _ told.accepts told.terms).room_table c.valued.ensures)
