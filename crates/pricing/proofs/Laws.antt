@@ -23,15 +23,9 @@ use Rattle.rules.specs.Fee.{under_fee, fee_found, fee_answer, fee_work}
 use Rattle.laws.specs.Terms.{with_fee}
 use Rattle.laws.specs.Fee.{fee_value, meets, smallest_fee, first_to_meet}
 use Rattle.laws.proofs.FeeSought.{meets_lasts}
-<<<<<<< HEAD
-use Rattle.laws.proofs.Pricing.{valid_fee, fee_refused, fee_accepted, fee_wanting, fee_accepts, fee_claim}
-use Rattle.std.specs.Prelude.{Option, Some, None, Ok, ok_or}
-use Rattle.contract.specs.declared.Refusal.TheVariants.{NoFee}
-=======
 use Rattle.laws.proofs.Pricing.{fee_refused, fee_accepted, fee_wanting, fee_accepts, fee_claim}
 use Rattle.std.specs.Prelude.{Option, Some, None, ok_or}
 use Rattle.contract.specs.declared.Refusal.TheVariants.{NoFee}
->>>>>>> c465fd2c0fd9df9d44021b065b57b1ba879ebc5e
 use Rattle.date.specs.Behaviour.{behaviour_in}
 use Rattle.contract.specs.Reading.{terms_in}
 use Rattle.date.specs.declared.Behaviour as date
