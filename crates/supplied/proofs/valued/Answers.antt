@@ -8,7 +8,7 @@ use Rattle.std.specs.Prelude.{◌||◌}
 use Rattle.contract.specs.Reading.{terms_in}
 use Rattle.slices.specs.Found.{found_first, none_first}
 use Rattle.laws.specs.Supplied.{lent_room, slices_refused, entry_refused, table_accepted}
-use Rattle.laws.specs.Terms.{table_size, bad_in}
+use Rattle.laws.specs.Terms.{table_size}
 use Rattle.rules.specs.Contract.{returns_of, rates_of}
 use Rattle.rules.specs.FixedTerm.{layer_size}
 use Rattle.rules.specs.Refusals.{short}
