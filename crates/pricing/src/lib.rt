@@ -38,6 +38,7 @@ fn with_fee<'a>(policy: Policy<'a>, fee: usize) -> Policy<'a>
     ensures list { result.list.now ≡ policy.entry.list.now }
     ensures rates { result.rates.now ≡ policy.entry.rates.now }
 {
+    // Field by field: a literal of a struct with a ghost field takes no `..`.
     let mut contract = policy.contract;
     contract.fee = fee;
     Policy {
