@@ -2,7 +2,7 @@
 use Rattle.std.specs.Prelude.{◌≢◌, ◌⊎◌, Bool, true, false}
 use Rattle.std.proofs.Common.{inl, inr, true≢false}
 use denote.Enum.Bare.{sameb}
-use Rattle.date.specs.contracts.behaviour.Behaviour.{the_type}
+use Rattle.date.specs.contracts.Behaviour.{the_type}
 use Rattle.date.specs.declared.Behaviour as code
 use Rattle.date.specs.declared.Behaviour.TheVariants.{Static, Mixed, Dynamic}
 use Rattle.date.specs.Behaviour.{behaviour_in}
