@@ -9,7 +9,7 @@ use lib.ListN.{get_or, length}
 use Rattle.decision.specs.Index.{sum, sum_eq, sum_next, sum_term, weighted_le}
 use Rattle.slices.specs.Stored.{stored, length_stored, stored_out, stored_first, stored_join}
 use Rattle.slices.specs.Rows.{cells, flat, flat_at, within_rows, rows_le, rows_step}
-use Rattle.rules.specs.Contract.{Terms, Returns, word, returns_of, top_most, rate_most, factor_most, weight_total, weight_most}
+use Rattle.rules.specs.Contract.{Terms, Returns, returns_of, top_most, rate_most, factor_most, weight_total, weight_most}
 use Rattle.rules.specs.Date.{next_account, excess_paid, death_payment, death_share, discounted}
 use Rattle.rules.specs.FixedTerm.{mean_by_list, layer_size}
 use Rattle.laws.specs.Bounds.{state_most, value_room, value_most_lem, entry_most}
@@ -222,25 +222,24 @@ module _ {c : Terms} {i : ℕ} {rs : Returns} {work : List ℕ} (gs : Groups) {d
         ∙ sym (expected_listed c rs (cells work 0 (c.premium + 1)) balance a)
 
 -- ---- the balances: the first layer stays as the second is filled
-pub layer_balance : {c : Terms} {rs : Returns} {work : List ℕ} {i discount most : ℕ} (work' : List ℕ) (f : ℕ → ℕ) (n b : ℕ)
-    → ValidReturns rs → Values c i work → (discount ≡ c.discount) × (most ≡ state_most c (i + 1))
-    → work' ≡ stored work ((c.top + 1) * (c.premium + 1)) f n → b ≤ c.top
-    → Balance c i rs work' discount most b (c.premium + 1) ((c.top + 1) * (c.premium + 1))
-layer_balance {c = c} {work = work} {most = most} work' f n b h v m e top = record {
+pub layer_balance : {c : Terms} {rs : Returns} {work : List ℕ} {i discount most stride size : ℕ} (work' : List ℕ) (f : ℕ → ℕ)
+    (n b : ℕ) → stride ≡ c.premium + 1 → size ≡ (c.top + 1) * (c.premium + 1) → ValidReturns rs → Values c i work → (discount ≡ c.discount) × (most ≡ state_most c (i + 1))
+    → work' ≡ stored work size f n → b ≤ c.top → Balance c i rs work' discount most b stride size
+layer_balance {c = c} {work = work} {most = most} {size = size} work' f n b s z h v m e top = record {
   returns = h;
   layers = record { valid = v.layers.valid; room = omega (arith, v.layers.room, ap length e ∙ length_stored _ _ _ _) };
   discount_is = m.0;
   most_is = m.1;
   small = kept_within;
   balance_is = top;
-  stride_is = refl;
-  size_is = refl;
+  stride_is = s;
+  size_is = z ∙ ap (λ (n : ℕ). (c.top + 1) * n) (sym s);
 }
   where
     kept_within : Within c work' most
     kept_within w a h l =
         let i = within_rows (c.premium + 1) (c.top + 1) w a (omega arith) (omega arith) in
-        rw (m.1, ap (λ (xs : List ℕ). cells xs 0 (c.premium + 1) w a) e ∙ stored_out work _ f n _ (inl (omega arith))) (v.small w a h l)
+        rw (m.1, ap (λ (xs : List ℕ). cells xs 0 (c.premium + 1) w a) e ∙ stored_out work size f n _ (inl (omega (arith, z)))) (v.small w a h l)
 
 -- ---- row after row
 module _ (c : Terms) (rs : Returns) (work : List ℕ) (stride size : ℕ) (size_is : size ≡ (c.top + 1) * stride) where
@@ -285,42 +284,39 @@ module _ {c : Terms} {rate : ℕ} {work list : List ℕ} (s : Starting c rate wo
   return_number = omega (arith, s.returns.count)
 
   -- what the leaves ask of its factor
-  pub factor_in : {factor : ℕ} → factor ≡ word list (4 * k) → (c.fee ≤ rate_most) × (c.premium ≤ top_most) × (factor ≤ factor_most)
-  unfolding returns_of
+  pub factor_in : {factor : ℕ} → factor ≡ (returns_of list).factor k
+      → (c.fee ≤ rate_most) × (c.premium ≤ top_most) × (factor ≤ factor_most)
   factor_in e =
       let valid = s.first.layers.valid in (valid.fee, le_trans valid.premium valid.top, rw e (s.returns.factor k l))
 
-  pub weight_is : {weight : ℕ} → weight ≡ word list (4 * k + 2) → weight ≡ (returns_of list).weight k
-  unfolding returns_of
-  weight_is e = e
-
-  pub weight_small : {weight : ℕ} → weight ≡ word list (4 * k + 2) → weight ≤ weight_most
-  weight_small e = rw (weight_is e) (s.returns.weight k l)
+  pub weight_small : {weight : ℕ} → weight ≡ (returns_of list).weight k → weight ≤ weight_most
+  weight_small e = rw e (s.returns.weight k l)
 
   -- what it leads to stands in the first layer, and is of 32 bits
-  pub account_in : (w : ℕ) → w ≤ c.top → w * (c.premium + 1) + c.premium < length work
+  pub account_in : (w : ℕ) {stride : ℕ} → stride ≡ c.premium + 1 → w ≤ c.top → w * stride + c.premium < length work
   unfolding layer_size
-  account_in w h =
-      let i = within_rows (c.premium + 1) (c.top + 1) w c.premium (omega arith) (omega arith) in
+  account_in w e h =
+      rw e let i = within_rows (c.premium + 1) (c.top + 1) w c.premium (omega arith) (omega arith) in
       omega (arith, s.first.layers.room)
 
-  pub value_low : (w : ℕ) → w ≤ c.top → get_or work (w * (c.premium + 1) + c.premium) 0 ≤ low_most
-  value_low w h =
-      let small = s.first.small w c.premium h (omega arith) in
+  pub value_low : (w : ℕ) {stride : ℕ} → stride ≡ c.premium + 1 → w ≤ c.top → get_or work (w * stride + c.premium) 0 ≤ low_most
+  value_low w e h =
+      rw e let small = s.first.small w c.premium h (omega arith) in
       let low = value_narrow c s.first.layers.valid 1 (omega arith) in
       let at = ap (λ (i : ℕ). get_or work i 0) (zero-add (w * (c.premium + 1) + c.premium)) in
       omega arith
 
   -- with its share, it is what every date's sum takes
-  pub start_is : {factor account paid value payment r : ℕ}
-      → factor ≡ word list (4 * k)
+  pub start_is : {factor stride account paid value payment r : ℕ}
+      → factor ≡ (returns_of list).factor k
+      → stride ≡ c.premium + 1
       → account ≡ next_account c.fee c.top c.premium factor
       → paid ≡ excess_paid c.fee c.top c.premium factor
-      → value ≡ get_or work (account * (c.premium + 1) + c.premium) 0
+      → value ≡ get_or work (account * stride + c.premium) 0
       → payment ≡ death_payment account c.premium 0
       → r ≡ death_share rate value payment
       → paid + r ≡ reached_from c (returns_of list) (shared rate (cells work 0 (c.premium + 1))) c.premium c.premium k
-  unfolding returns_of
-  start_is {account = account} f w x v p r =
-      let at = ap (λ (i : ℕ). get_or work i 0) (sym (zero-add (account * (c.premium + 1) + c.premium))) in
+  start_is {account = account} f s w x v p r =
+      let at = ap (λ (n : ℕ). get_or work (account * n + c.premium) 0) s
+      ∙ ap (λ (i : ℕ). get_or work i 0) (sym (zero-add (account * (c.premium + 1) + c.premium))) in
       rw (x, r, p, v ∙ at, w, f) refl

@@ -26,7 +26,20 @@ struct Average {
     ghost discount_is: { discount ≤ discount_most },
 }
 
-// The value that group k reaches with guarantee a.
+impl Average {
+    // On date i: no value of date i + 1 is above `most`.
+    fn on(c: Contract, i: usize) -> Average
+        requires { i ≤ dates_most }
+        ensures { (result.discount ≡ c.discount) × (result.most ≡ state_most (terms_in c) (i + 1)) }
+    {
+        Average {
+            discount: c.discount,
+            most: 10000 * c.top + c.dates.saturating_sub(i + 1) * (20000 * c.top),
+        }
+    }
+}
+
+// The value that group k reaches with guarantee a. Work and groups stay apart, here and below: a struct of both is no plainer.
 fn reached(work: &[u64], groups: &Groups, k: usize, a: usize) -> u64
     requires { (k < returns_most) × (get_or groups.now.starts k 0 + a < length work.now) }
     ensures { result ≡ get_or work.now (get_or groups.now.starts k 0 + a) 0 }
@@ -67,7 +80,7 @@ fn eight_products(work: &[u64], groups: &Groups, k: usize, a: usize) -> usize
     four_products(work, groups, k, a) + four_products(work, groups, k + 4, a)
 }
 
-// Eight groups, for n guarantees: one load and one store of a sum for eight products.
+// Eight groups, for n guarantees: one load and one store of a sum for eight products. By index, here and below: plain loops are widened.
 fn add_eight(
     sums: &mut [usize; 512],
     work: &[u64],
@@ -193,19 +206,6 @@ fn expect_row(
     }
 }
 
-impl Average {
-    // On date i: no value of date i + 1 is above `most`.
-    fn on(c: Contract, i: usize) -> Average
-        requires { i ≤ dates_most }
-        ensures { (result.discount ≡ c.discount) × (result.most ≡ state_most (terms_in c) (i + 1)) }
-    {
-        Average {
-            discount: c.discount,
-            most: 10000 * c.top + c.dates.saturating_sub(i + 1) * (20000 * c.top),
-        }
-    }
-}
-
 // The second layer: the discounted sum of every balance and guarantee, times 8,192, where the first holds the values of date i + 1.
 // The returns are in order of their factors.
 pub fn expect_layer(work: &mut [u64], order: &[u32], c: Contract, i: usize)
@@ -217,8 +217,8 @@ pub fn expect_layer(work: &mut [u64], order: &[u32], c: Contract, i: usize)
         (cells work.old 0 (c.premium + 1)))))
         (layer_size (terms_in c)) }
 {
-    let stride = c.premium + 1;
-    let size = (c.top + 1) * stride;
+    let stride = c.stride();
+    let size = c.layer_size();
     let average = Average::on(c, i);
     // One of each for all balances: what a balance leaves there does not matter to the next, and clearing takes time.
     let mut sums = [0usize; 512];
@@ -244,10 +244,10 @@ fn first_reached(work: &[u64], list: &[u8], rate: usize, c: Contract, k: usize) 
         c.premium c.premium k)
         × (result ≤ entry_most) }
 {
-    let factor = contract::word(list, Contract::RETURN_BYTES * k);
+    let factor = input::factor_of(list, k);
     let account = date::next_account(c.fee, c.top, c.premium, factor);
     let paid = date::excess_paid(c.fee, c.top, c.premium, factor);
-    let value = work[account * (c.premium + 1) + c.premium] as usize;
+    let value = work[account * c.stride() + c.premium] as usize;
     let payment = date::death_payment(account, c.premium);
     paid + date::death_share(rate, value, payment)
 }
@@ -262,8 +262,7 @@ pub fn start_value(work: &[u64], list: &[u8], rate: usize, c: Contract) -> u64
 {
     let mut sum: usize = 0;
     for k in 0..input::returns_in(list) {
-        let weight = contract::word(list, Contract::RETURN_BYTES * k + 2);
-        sum += weight * first_reached(work, list, rate, c, k);
+        sum += input::weight_of(list, k) * first_reached(work, list, rate, c, k);
     }
     date::discounted(c.discount, sum) as u64
 }

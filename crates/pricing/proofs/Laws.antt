@@ -207,7 +207,7 @@ module _ (x : Input) (behaviour wanted : ℕ) (work : List ℕ) where
     -- the working slice is cleared behind the search
     pub told_cleared : {r : Option declared.Priced} {work' work'' : List ℕ} {size : ℕ} → layer_size c + layer_size c ≤ length work
         → Found c (returns_of policy.list.now) (rates_of policy.rates.now) (behaviour_in b) wanted work r work'
-        → size ≡ layer_size c → work'' ≡ stored work' 0 (λ (i : ℕ). 0) (2 * size)
+        → size ≡ 2 * layer_size c → work'' ≡ stored work' 0 (λ (i : ℕ). 0) size
         → Pricing x behaviour wanted work (told_fee (ok_or r NoFee)) work''
     unfolding fee_work filled on_success fixed_term layout_of
     told_cleared {r = r} {work' = work'} room s size_is cleared =
@@ -217,6 +217,6 @@ module _ (x : Input) (behaviour wanted : ℕ) (work : List ℕ) where
         let ds = rates_of rates in
         told_found r ≡ priced_at t rs ds d (smallest_fee t rs ds d wanted)) s.found_is)
         (cleared
-        ∙ ap (λ (n : ℕ). stored work' 0 (λ (i : ℕ). 0) (2 * n)) size_is
+        ∙ ap (λ (n : ℕ). stored work' 0 (λ (i : ℕ). 0) n) size_is
         ∙ stored_clear work _ (2 * layer_size c) s.kept.long (omega arith) (λ j l. s.kept.rest j (omega arith))
         ∙ rw (passed.accepts, passed.terms))

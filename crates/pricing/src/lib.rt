@@ -106,6 +106,6 @@ pub fn find_fee(
 {
     let (policy, behaviour) = valuing::check_no_table(input, behaviour, &work[..])?;
     let found = search(policy, behaviour, wanted, work);
-    dates::clear(work, 0, 2 * policy.contract.layer_size());
+    dates::clear(work, 0, policy.contract.work_size());
     found.ok_or(Refusal::NoFee)
 }

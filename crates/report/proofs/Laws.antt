@@ -2,11 +2,11 @@
 use mathlib.Core.Bool.{Bool, cond, ◌||◌}
 use mathlib.Core.List.{List, [], ◌∷◌, ◌++◌}
 use mathlib.Core.Path.{◌≡◌, refl, ap, ap₂, sym, ◌∙◌, subst}
-use Prim.Native.Nat.{ℕ, zero, suc, ◌+◌, ◌-◌, ◌*◌, ◌≤◌, ◌<◌}
+use Prim.Native.Nat.{ℕ, zero, suc, ◌+◌, ◌*◌, ◌≤◌, ◌<◌}
 use native.Mathlib.Nat.{zero-mul, zero-add, le_refl}
 use native.Mathlib.Decide.{dec_le}
 use native.Mathlib.Omega.{arith}
-use borrow.Author.Tests.{lt-ltb, le-ltb}
+use borrow.Author.Tests.{le-ltb}
 use lib.Dec.{ltb}
 use lib.ListN.{length, get_or, take, drop, replicate, length-append, length-replicate}
 use lib.Seq.{drop-append_seam}
@@ -30,11 +30,11 @@ use Rattle.laws.specs.FixedTerm.{sound}
 use Rattle.laws.specs.ThirdDemand.{valuing_accepts, valuing_valid, valued_reports}
 use Rattle.contract.specs.declared.Refusal.{Refusal}
 use Rattle.contract.specs.declared.Refusal.TheVariants as refusal
-use Rattle.contract.specs.Refusal.{number_in, place_in, verdict_in}
+use Rattle.contract.specs.Refusal.{number_in, verdict_in}
 use Rattle.input.specs.Accepted.{Both}
 use Rattle.valuing.specs.declared.Valuation.{Valuation}
 use Rattle.valuing.specs.Answered.{told, Valuing}
-use Rattle.report.specs.Tables.{account_by, entry_by, table_line, lines_in, Tabled, Filled, Valued, table_left, work_left}
+use Rattle.report.specs.Tables.{account_by, entry_by, table_line, lines_in, Filled, Valued, table_left, work_left}
 use Rattle.laws.specs.Terms.{start_held, table_size}
 use Rattle.laws.specs.Valuing.{valuing_no_table, no_table_read}
 

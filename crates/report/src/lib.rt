@@ -20,7 +20,7 @@ const WORK: usize = 4096;
 
 const TABLE: usize = 16384;
 
-// Text in a lent buffer, up to `at`.
+// Text in a lent buffer, up to `at`: there is no heap, and the caller has the room.
 #[derive(Drop)]
 struct Text<'a> {
     bytes: &'a mut [u8],
@@ -128,9 +128,9 @@ impl Tables<'_> {
         ensures { Put 126 text.old (line_in self.now k) text.new }
     {
         let c = self.agreement.contract;
-        let factor = contract::word(self.agreement.list, Contract::RETURN_BYTES * k);
+        let factor = input::factor_of(self.agreement.list, k);
         let account = date::next_account(c.fee, c.top, c.premium, factor);
-        let entry = account * (c.premium + 1) + c.premium;
+        let entry = account * c.stride() + c.premium;
         text.digits(20, k as u64);
         text.numbers(&[
             account as u64,
@@ -174,7 +174,7 @@ fn rates_length(bytes: &[u8]) -> usize
     }
 }
 
-// Values the contract three times, at rates of zero.
+// Values the contract three times, at rates of zero: behaviours 0 to 2. Three names, here and below: an array by number is no plainer.
 fn value_all(
     bytes: &[u8],
     list: &[u8],

@@ -20,7 +20,7 @@ pub fn needed(bytes: &[u8]) -> Result<Sizes, Refusal>
 {
     let contract = Contract::read(bytes)?;
     Ok(Sizes {
-        work: (2 * contract.layer_size()) as u64,
+        work: contract.work_size() as u64,
         table: contract.table_size() as u64,
         map: surrender::map_size(contract) as u64,
     })

@@ -12,8 +12,8 @@ use contract::Contract;
 
 #[derive(Clone, Copy)]
 struct State {
-    pub account: usize,
-    pub guarantee: usize,
+    account: usize,
+    guarantee: usize,
 }
 
 const FIRST: State = State {
@@ -24,8 +24,8 @@ const FIRST: State = State {
 // The bits of a run of entries, and the state of the entry behind them.
 #[derive(Clone, Copy)]
 struct Run {
-    pub bits: u64,
-    pub next: State,
+    bits: u64,
+    next: State,
 }
 
 // How many of the amounts are the whole account: in u16, so that more of them are added at once than as usize.
@@ -109,7 +109,7 @@ fn word(table: &[u16], c: Contract, from: usize, n: usize, at: State) -> Run
     let mut next = at;
     let mut k: usize = 0;
     while k < n {
-        let part = usize::min(n - k, c.premium + 1 - next.guarantee);
+        let part = usize::min(n - k, c.stride() - next.guarantee);
         let start = from + k;
         let end = start + next.may_surrender(c, part);
         bits += row_bits(&table[start..end], next.account as u16) << k;

@@ -22,7 +22,7 @@ use input::Agreement;
 
 // The account and guarantee that are met, and what is paid on arrival there.
 #[derive(Clone, Copy)]
-pub struct Place {
+struct Place {
     pub account: usize,
     pub guarantee: usize,
     pub paid: usize,
@@ -101,7 +101,7 @@ impl<'a> Walkable<'a> {
     {
         let c = self.contract;
         let number = usize::from(self.path[j]);
-        let factor = contract::word(self.list, Contract::RETURN_BYTES * number);
+        let factor = input::factor_of(self.list, number);
         Place {
             account: date::next_account(c.fee, c.top, balance, factor),
             guarantee,
@@ -122,9 +122,11 @@ impl<'a> Walkable<'a> {
         ensures { result ≡ walk_amount (term_of self.now) self.now.table.now self.now.path.now i }
     {
         let part = dates::layer_of(self.contract, i);
-        let from = part.from;
-        let to = part.to;
-        entry_of(&self.table[from..to], self.contract.premium + 1, place)
+        entry_of(
+            &self.table[part.from..part.to],
+            self.contract.stride(),
+            place,
+        )
     }
 
     // What is met on the next date, where t is withdrawn on date i.
@@ -161,7 +163,7 @@ impl<'a> Walkable<'a> {
         Ok(())
     }
 
-    // Pays the cash of each date, and at maturity.
+    // Pays the cash of each date, and at maturity. By index: a date's number is needed, too.
     fn pay(&self, cash: &mut [u64])
         requires { (self.now.contract.dates ≤ length cash.old)
             × (self.now.contract.dates - 1

@@ -1,6 +1,6 @@
 -- `expect::expect_layer` meets its contract. Assumes nothing.
 use Prim.Native.Nat.{ℕ, ◌+◌, ◌*◌}
-use mathlib.Core.Path.{◌≡◌, refl, ap, ◌∙◌}
+use mathlib.Core.Path.{◌≡◌, ap, ap₂, sym, ◌∙◌}
 use native.Mathlib.Omega.{arith}
 use Rattle.contract.specs.Reading.{terms_in}
 use Rattle.expect.specs.Expected.{expected, scaled}
@@ -15,26 +15,36 @@ pub loop-balance-init : goal.loop-balance-init
 loop-balance-init c = stored_none _ _ _ _
 
 pub expect_row-requires : goal.expect_row-requires
+unfolding layer_size
 expect_row-requires c =
     let pre = c.requires in
     let loop = c.loop-balance in
     let met =
-    layer_balance loop.work _ _ loop.balance pre.0.valid pre.1 c.on-average.ensures loop.invariant (omega arith) in
+    layer_balance loop.work _ _ loop.balance c.stride-stride.ensures c.layer_size-size.ensures.0 pre.0.valid pre.1
+    c.on-average.ensures loop.invariant (omega arith) in
     balance_row _ met c.gather.ensures
 
 pub loop-balance-preserved : goal.loop-balance-preserved
+unfolding layer_size
 loop-balance-preserved c =
     let pre = c.requires in
     let loop = c.loop-balance in
+    let stride = c.stride-stride in
+    let size = c.layer_size-size in
     let groups = c.gather.ensures in
     let c₀ = c.args.c in
+    let rs = in_order c.args.order.now in
     let met =
-    layer_balance loop.work _ _ loop.balance pre.0.valid pre.1 c.on-average.ensures loop.invariant (omega arith) in
+    layer_balance loop.work _ _ loop.balance stride.ensures size.ensures.0 pre.0.valid pre.1 c.on-average.ensures
+    loop.invariant (omega arith) in
     let step =
-    expect_step (terms_in c₀) (in_order c.args.order.now) c.args.work.now
-    (c₀.premium + 1) ((c₀.top + 1) * (c₀.premium + 1)) refl in
+    expect_step (terms_in c₀) rs c.args.work.now stride.result size.result
+    (size.ensures.0 ∙ ap (λ (n : ℕ). (c₀.top + 1) * n) (sym stride.ensures)) in
     c.expect_row.ensures
-    ∙ stored_eq _ _ _ _ _ (λ k l. ap (λ (x : ℕ). 8192 * x) (balance_cells c.gather.new.self met groups k))
+    ∙ stored_eq _ _ _ _ _ (λ k l.
+    ap (λ (x : ℕ). 8192 * x)
+    (balance_cells c.gather.new.self met groups k
+    ∙ ap (λ (n : ℕ). expected (terms_in c₀) rs (cells loop.work 0 n) loop.balance k) (sym stride.ensures)))
     ∙ step loop.balance loop.work loop.invariant
 
 pub returns : goal.returns
@@ -44,7 +54,8 @@ returns c =
     let loop = c.loop-balance in
     let work₀ = args.work.now in
     let c₀ = args.c in
-    let rs = in_order args.order.now in
-    let sums = flat (c₀.premium + 1) (scaled (expected (terms_in c₀) rs (cells work₀ 0 (c₀.premium + 1)))) in
+    let sums : ℕ → ℕ → ℕ = λ n. flat n (scaled (expected (terms_in c₀) (in_order args.order.now) (cells work₀ 0 n))) in
     let e : loop.balance ≡ c₀.top + 1 = omega arith in
-    loop.invariant ∙ ap (λ (b : ℕ). stored work₀ ((c₀.top + 1) * (c₀.premium + 1)) sums (b * (c₀.premium + 1))) e
+    loop.invariant
+    ∙ ap₂ (λ (n size : ℕ). stored work₀ size (sums n) (loop.balance * n)) c.stride-stride.ensures c.layer_size-size.ensures.0
+    ∙ ap (λ (b : ℕ). stored work₀ ((c₀.top + 1) * (c₀.premium + 1)) (sums (c₀.premium + 1)) (b * (c₀.premium + 1))) e

@@ -5,7 +5,7 @@ use Rattle.contract.specs.Refusal.{number_in, place_in, verdict_in}
 use Rattle.rules.specs.Date.{static, mixed, dynamic}
 use Rattle.rules.specs.Operations.{behaviour_of}
 use Rattle.rules.specs.Printed.{program_verdict}
-use Rattle.rules.specs.Refusals.{accepted, refused}
+use Rattle.rules.specs.Refusals.{refused}
 use Rattle.report.specs.Tables.{work_left}
 use Rattle.report.proofs.Laws.{called, Called, not_both, zeros_lent, table_kept, work_kept, work_again}
 use Rattle.report.proofs.value_all.Goals as goal

@@ -21,23 +21,30 @@ loop-k-init c =
     let pre = c.requires in
     taken_none (terms_in args.c) args.table.now args.from args.n args.at pre.begins
 
-pub overflow_sub-c : goal.overflow_sub-c
-overflow_sub-c c = omega (arith, c.loop-k.invariant.inside)
+pub overflow_sub-stride : goal.overflow_sub-stride
+overflow_sub-stride c = omega (arith, c.loop-k.invariant.inside, c.stride.ensures)
 
 pub min-part-requires : goal.min-part-requires
 min-part-requires c = tt
 
 -- what the goals behind it are answered by
-part : {c : Terms} {table : List ℕ} {from n bits k part : ℕ} {next at : State} → Wording c table from n at
-    → Taken c table from n bits next k → k < n → part ≡ min (n - k) (c.premium + 1 - next.guarantee) → Part c table from n bits k part next
-part w t more size = record { taken = t; few = w.few; room = w.room; more = more; size = size }
+part : {c : Terms} {table : List ℕ} {from n bits k part : ℕ} {next at : State} {stride : ℕ} → Wording c table from n at
+    → Taken c table from n bits next k → k < n → stride ≡ c.premium + 1 → part ≡ min (n - k) (stride - next.guarantee)
+    → Part c table from n bits k part next
+part {n = n} {k = k} {next = next} w t more s size = record {
+  taken = t;
+  few = w.few;
+  room = w.room;
+  more = more;
+  size = size ∙ ap (λ (x : ℕ). min (n - k) (x - next.guarantee)) s;
+}
 
 pub may_surrender-requires : goal.may_surrender-requires
 may_surrender-requires c = tt
 
 pub overflow_add-end : goal.overflow_add-end
 overflow_add-end c =
-    let here = part c.requires c.loop-k.invariant c.loop-k-test.true c.min-part.ensures in
+    let here = part c.requires c.loop-k.invariant c.loop-k-test.true c.stride.ensures c.min-part.ensures in
     let may-surrender = c.may_surrender in
     let pre = c.requires in
     let o = may-surrender.ensures in
@@ -45,24 +52,24 @@ overflow_add-end c =
 
 pub offset_bounds-table-start : goal.offset_bounds-table-start
 offset_bounds-table-start c =
-    let here = part c.requires c.loop-k.invariant c.loop-k-test.true c.min-part.ensures in
+    let here = part c.requires c.loop-k.invariant c.loop-k-test.true c.stride.ensures c.min-part.ensures in
     let pre = c.requires in
     omega (arith, part_within here, table_most_lem c.args.c.in_range, pre.within)
 
 pub slice_bounds-row_bits-end : goal.slice_bounds-row_bits-end
 slice_bounds-row_bits-end c =
-    let here = part c.requires c.loop-k.invariant c.loop-k-test.true c.min-part.ensures in
+    let here = part c.requires c.loop-k.invariant c.loop-k-test.true c.stride.ensures c.min-part.ensures in
     part_room here c.may_surrender.ensures
 
 pub overflow_cast-next : goal.overflow_cast-next
 overflow_cast-next c =
-    let here = part c.requires c.loop-k.invariant c.loop-k-test.true c.min-part.ensures in
+    let here = part c.requires c.loop-k.invariant c.loop-k-test.true c.stride.ensures c.min-part.ensures in
     let pre = c.requires in
     omega (arith, next_within here, c.args.c.in_range.top)
 
 pub row_bits-requires : goal.row_bits-requires
 row_bits-requires c =
-    let here = part c.requires c.loop-k.invariant c.loop-k-test.true c.min-part.ensures in
+    let here = part c.requires c.loop-k.invariant c.loop-k-test.true c.stride.ensures c.min-part.ensures in
     let may-surrender = c.may_surrender in
     let pre = c.requires in
     omega (arith, row_long here may-surrender.ensures, may-surrender.ensures.within, part_within here, pre.few)
@@ -72,31 +79,31 @@ overflow_shl-bits c = omega (arith, c.requires.few)
 
 pub overflow_add-bits : goal.overflow_add-bits
 overflow_add-bits c =
-    let here = part c.requires c.loop-k.invariant c.loop-k-test.true c.min-part.ensures in
+    let here = part c.requires c.loop-k.invariant c.loop-k-test.true c.stride.ensures c.min-part.ensures in
     let may-surrender = c.may_surrender in
     let row-bits = c.row_bits in
     let f = added_fits here may-surrender.ensures row-bits.ensures in omega arith
 
 pub step-next-requires : goal.step-next-requires
 step-next-requires c =
-    let here = part c.requires c.loop-k.invariant c.loop-k-test.true c.min-part.ensures in
+    let here = part c.requires c.loop-k.invariant c.loop-k-test.true c.stride.ensures c.min-part.ensures in
     let pre = c.requires in
     (next_within here, part_inside here)
 
 pub overflow_add-k : goal.overflow_add-k
 overflow_add-k c =
-    let here = part c.requires c.loop-k.invariant c.loop-k-test.true c.min-part.ensures in
+    let here = part c.requires c.loop-k.invariant c.loop-k-test.true c.stride.ensures c.min-part.ensures in
     let pre = c.requires in
     omega (arith, part_within here, pre.few)
 
 pub loop-k-smaller : goal.loop-k-smaller
 loop-k-smaller c =
-    let here = part c.requires c.loop-k.invariant c.loop-k-test.true c.min-part.ensures in
+    let here = part c.requires c.loop-k.invariant c.loop-k-test.true c.stride.ensures c.min-part.ensures in
     omega (arith, part_some here, part_within here)
 
 pub loop-k-preserved : goal.loop-k-preserved
 loop-k-preserved c =
-    let here = part c.requires c.loop-k.invariant c.loop-k-test.true c.min-part.ensures in
+    let here = part c.requires c.loop-k.invariant c.loop-k-test.true c.stride.ensures c.min-part.ensures in
     let may-surrender = c.may_surrender in
     let row-bits = c.row_bits in
     let step = c.step-next in
