@@ -1,7 +1,7 @@
 -- `supplied::follow` meets its contract. Assumes nothing.
 use native.Mathlib.Omega.{arith}
 use Rattle.rules.specs.FixedTerm.{layer_size}
-use Rattle.returns.specs.Sorted.{part_sorted}
+use Rattle.returns.specs.Sorted.{part_sorted, ordered_input}
 use Rattle.valuing.specs.First.{first_from_lem, settling}
 use Rattle.supplied.proofs.Laws.{answered_accepted, starting, table_on_most, of_the_list}
 use Rattle.supplied.proofs.follow.Goals as goal
@@ -12,13 +12,14 @@ fill_maturity-requires c =
     let v = c.args.policy.given.valid.terms in
     (omega (arith, v.top), omega (arith, v.top, v.premium), omega (arith, c.requires.room))
 
+pub invariant_of-course : goal.invariant_of-course
+invariant_of-course c = record { given = ordered_input c.args.policy.given (part_sorted c.sort-count.ensures) }
+
 pub follow_dates-requires : goal.follow_dates-requires
 unfolding layer_size
 follow_dates-requires c =
     let pre = c.requires in
-    let sorted = part_sorted c.sort-count.ensures in
-    starting c.args.work.now c.args.policy.given sorted pre.room pre.entries pre.none_bad
-    c.fill_maturity.ensures
+    starting c.args.work.now pre.room pre.entries pre.none_bad c.fill_maturity.ensures
 
 pub settle-requires : goal.settle-requires
 unfolding layer_size

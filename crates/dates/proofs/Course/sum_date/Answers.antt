@@ -1,4 +1,4 @@
--- `dates::sum_date` meets its contract. Assumes nothing.
+-- `dates::Course::sum_date` meets its contract. Assumes nothing.
 use mathlib.Core.List.{List}
 use mathlib.Core.Path.{◌≡◌, ap, sym, ◌∙◌, subst}
 use native.Mathlib.Omega.{arith}
@@ -11,10 +11,10 @@ use Rattle.dates.proofs.Laws.{sharing, shared_values, summed}
 use Rattle.dates.specs.Dated.{Summed, date_of}
 use Rattle.returns.specs.Sorted.{in_order}
 use Rattle.rules.specs.Contract.{rates_of}
-use Rattle.dates.proofs.sum_date.Goals as goal
+use Rattle.dates.proofs.Course.sum_date.Goals as goal
 
 pub share_layer-requires : goal.share_layer-requires
-share_layer-requires c = rw c.rate_of.ensures (sharing c.requires)
+share_layer-requires c = rw c.rate_of.ensures (sharing c.args.self.given c.requires)
 
 -- what the shares leave, by the period's rate
 abbrev leaves : List ℕ → (stride n r : ℕ) → List ℕ
@@ -23,23 +23,23 @@ leaves work stride n r = stored work 0 (flat stride (shared r (cells work 0 stri
 pub expect_layer-requires : goal.expect_layer-requires
 expect_layer-requires c =
     let args = c.args in
-    let left = c.share_layer.ensures ∙ ap (leaves args.work.now (args.c.premium + 1) (args.c.top + 1)) c.rate_of.ensures in
+    let left = c.share_layer.ensures ∙ ap (leaves args.work.now (args.self.contract.premium + 1) (args.self.contract.top + 1)) c.rate_of.ensures in
     let pre = c.requires in
-    let given = pre.given in (
+    let given = args.self.given in (
       record { valid = given.valid.returns; climbing = given.climbing },
-      shared_values pre _ left,
+      shared_values given pre _ left,
       omega (arith, pre.before, given.valid.terms.dates),
     )
 
 pub returns : goal.returns
 returns c =
     let args = c.args in
-    let left = c.share_layer.ensures ∙ ap (leaves args.work.now (args.c.premium + 1) (args.c.top + 1)) c.rate_of.ensures in
+    let left = c.share_layer.ensures ∙ ap (leaves args.work.now (args.self.contract.premium + 1) (args.self.contract.top + 1)) c.rate_of.ensures in
     let size = c.layer_size.ensures.0 in
     let rate = c.rate_on.ensures.0 in
-    let is : record { base = _; stride = args.c.premium + 1; level = args.c.level; rate = _ } ≡ date_of (terms_in args.c) args.i =
-    λ x. record { base = size x; stride = args.c.premium + 1; level = args.c.level; rate = rate x } in (
+    let is : record { base = _; stride = args.self.contract.premium + 1; level = args.self.contract.level; rate = _ } ≡ date_of (terms_in args.self.contract) args.i =
+    λ x. record { base = size x; stride = args.self.contract.premium + 1; level = args.self.contract.level; rate = rate x } in (
       is,
-      subst (Summed (terms_in args.c) (in_order args.order.now) (rates_of args.rates.now args.i) args.work.now _) (sym is)
-          (summed c.requires _ left _ c.expect_layer.ensures),
+      subst (Summed (terms_in args.self.contract) (in_order args.self.order.now) (rates_of args.self.rates.now args.i) args.work.now _) (sym is)
+          (summed args.self.given c.requires _ left _ c.expect_layer.ensures),
     )
