@@ -1,7 +1,7 @@
 // The contract record, read from bytes: all in range, or a refusal.
 #![tactic(auto)]
 
-ghost use Rattle.std.specs.Prelude.{◌≡◌, ◌||◌, not, ℕ, ◌+◌, ◌≤◌, ◌<◌, ltb, eqb, length};
+ghost use Rattle.std.specs.Prelude.{◌≡◌, ◌||◌, not, ℕ, ◌+◌, ◌*◌, ◌≤◌, ◌<◌, ltb, eqb, length};
 ghost use Rattle.rules.specs.Contract.{word, long, terms_of, top_most, rate_most};
 ghost use Rattle.rules.specs.Refusals.{outside, verdict, terms_checks};
 ghost use Rattle.rules.specs.FixedTerm.{layer_size};
@@ -12,7 +12,7 @@ ghost use Rattle.laws.specs.Terms.{table_size};
 
 use date::UnknownBehaviour;
 
-// Why a call is refused: the table of refusals.
+// Why a call is refused: the table of refusals. The numbers that comments use are those of `number`.
 #[derive(Clone, Copy, Debug, PartialEq, Eq)]
 pub enum Refusal {
     RecordLength,
@@ -157,7 +157,7 @@ fn bad_step(step: usize, spare: usize) -> bool
     Contract::RATE_MOST < step || spare != 0
 }
 
-// Refusals 2 to 6 and 15, in their order.
+// Refusals 2 to 6 and 15, in their order. `read` reads the fields again: no Contract is made before they are in range.
 fn check(bytes: &[u8]) -> Result<(), Refusal>
     requires { length bytes.now ≡ 20 }
     ensures { verdict_in result ≡ verdict (terms_checks (terms_of bytes.now)) }
@@ -230,11 +230,23 @@ impl Contract {
         })
     }
 
-    // The entries of a layer, and of a table.
+    // The entries of a row, of a layer, of a working slice and of a table.
+    pub fn stride(self) -> usize
+        ensures { result ≡ self.premium + 1 }
+    {
+        self.premium + 1
+    }
+
     pub fn layer_size(self) -> usize
         ensures { (result ≡ layer_size (terms_in self)) × (result ≤ layer_most) }
     {
-        (self.top + 1) * (self.premium + 1)
+        (self.top + 1) * self.stride()
+    }
+
+    pub fn work_size(self) -> usize
+        ensures { (result ≡ 2 * layer_size (terms_in self)) × (result ≤ 2 * layer_most) }
+    {
+        2 * self.layer_size()
     }
 
     pub fn table_size(self) -> usize

@@ -30,13 +30,29 @@ pub struct Agreement<'a> {
     pub ghost returns: { ValidReturns (returns_of list.now) },
 }
 
-// .. and its death rates, which stay in theirs.
+// .. and its death rates, which stay in theirs. The fields are told again, since `given` is of all three.
 #[derive(Clone, Copy)]
 pub struct Policy<'a> {
     pub contract: Contract,
     pub list: &'a [u8],
     pub rates: &'a [u8],
     pub ghost given: { Given (terms_in contract) list.now rates.now },
+}
+
+// The factor of return k.
+pub fn factor_of(list: &[u8], k: usize) -> usize
+    requires { (k < returns_most) × (return_bytes * k + 4 ≤ length list.now) }
+    ensures { (result ≡ (returns_of list.now).factor k) × (result < 65536) }
+{
+    contract::word(list, Contract::RETURN_BYTES * k)
+}
+
+// .. and its weight.
+pub fn weight_of(list: &[u8], k: usize) -> usize
+    requires { (k < returns_most) × (return_bytes * k + 4 ≤ length list.now) }
+    ensures { (result ≡ (returns_of list.now).weight k) × (result < 65536) }
+{
+    contract::word(list, Contract::RETURN_BYTES * k + 2)
 }
 
 // Refusal 7.
@@ -52,9 +68,8 @@ fn bad_return(bytes: &[u8], k: usize) -> bool
     requires { (return_bytes * k + 4 ≤ length bytes.now) × (k < returns_most) }
     ensures { result ≡ bad_return (returns_of bytes.now) k }
 {
-    let at = Contract::RETURN_BYTES * k;
-    Contract::FACTOR_MOST < contract::word(bytes, at)
-        || contract::outside(1, Contract::WEIGHT_MOST, contract::word(bytes, at + 2))
+    Contract::FACTOR_MOST < factor_of(bytes, k)
+        || contract::outside(1, Contract::WEIGHT_MOST, weight_of(bytes, k))
 }
 
 // The first of the returns that is bad, if any.
@@ -65,13 +80,14 @@ fn first_bad(bytes: &[u8], count: usize) -> Option<usize>
     slices::first(count, |k| bad_return(bytes, k))
 }
 
+// By index, as expect::start_value: a return is read by its number, and a loop's invariant bounds the sum.
 fn total_weight(bytes: &[u8], count: usize) -> usize
     requires { (return_bytes * count ≤ length bytes.now) × (count ≤ returns_most) }
     ensures { result ≡ sum (returns_of bytes.now).weight count }
 {
     let mut total: usize = 0;
     for k in 0..count {
-        total += contract::word(bytes, Contract::RETURN_BYTES * k + 2);
+        total += weight_of(bytes, k);
     }
     total
 }

@@ -6,11 +6,11 @@ use Rattle.rules.specs.Contract.{returns_of}
 use Rattle.rules.specs.Refusals.{bad_return, outside}
 use Rattle.input.proofs.bad_return.Goals as goal
 
-pub returns-then-word-gt-FACTOR_MOST : goal.returns-then-word-gt-FACTOR_MOST
+pub returns-then-factor_of-gt-FACTOR_MOST : goal.returns-then-factor_of-gt-FACTOR_MOST
 unfolding bad_return returns_of
-returns-then-word-gt-FACTOR_MOST c = rw (sym c.word.ensures.0, lt-ltb _ _ c.if-word-gt-FACTOR_MOST.true)
+returns-then-factor_of-gt-FACTOR_MOST c = rw (sym c.factor_of.ensures.0, lt-ltb _ _ c.if-factor_of-gt-FACTOR_MOST.true)
 
-pub returns-else-word-gt-FACTOR_MOST : goal.returns-else-word-gt-FACTOR_MOST
+pub returns-else-factor_of-gt-FACTOR_MOST : goal.returns-else-factor_of-gt-FACTOR_MOST
 unfolding bad_return returns_of
-returns-else-word-gt-FACTOR_MOST c = rw (sym c.word.ensures.0, le-ltb _ _ c.if-word-gt-FACTOR_MOST.false)
-    (c.outside.ensures ∙ ap (outside 1 10000) c.word-else-word-gt-FACTOR_MOST.ensures.0)
+returns-else-factor_of-gt-FACTOR_MOST c = rw (sym c.factor_of.ensures.0, le-ltb _ _ c.if-factor_of-gt-FACTOR_MOST.false)
+    (c.outside.ensures ∙ ap (outside 1 10000) c.weight_of.ensures.0)
