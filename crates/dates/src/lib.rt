@@ -95,7 +95,7 @@ impl<'a> Course<'a> {
             work.new result }
     {
         let c = self.contract;
-        let stride = c.premium + 1;
+        let stride = c.stride();
         death::share_layer(work, input::rate_of(self.rates, i), stride, c.top + 1);
         expect::expect_layer(work, self.order, c, i);
         Date {

@@ -31,7 +31,7 @@ fn bad_entry(layer: &[u16], c: Contract, e: usize) -> bool
     requires { e < length layer.now }
     ensures { result ≡ bad_at (terms_in c) e (get_or layer.now e 0) }
 {
-    let stride = c.premium + 1;
+    let stride = c.stride();
     let m = date::free_amount(c.level, e % stride);
     !date::admits_dynamic(m, e / stride, usize::from(layer[e]))
 }
@@ -122,7 +122,7 @@ fn follow_dates(work: &mut [u64], table: &[u16], course: Course)
 fn too_short(c: Contract, work: &[u64], table: &[u16]) -> bool
     ensures { result ≡ (short (2 * layer_size (terms_in c)) work.now || short (table_size (terms_in c)) table.now) }
 {
-    work.len() < 2 * c.layer_size() || table.len() < c.table_size()
+    work.len() < c.work_size() || table.len() < c.table_size()
 }
 
 // The value of a table whose entries are all admissible.
@@ -134,7 +134,7 @@ fn follow(policy: Policy, work: &mut [u64], table: &[u16]) -> Valuation
     let c = policy.contract;
     let mut order = [0u32; Contract::RETURNS_MOST];
     let count = returns::sort(&mut order, policy.list);
-    dates::fill_maturity(work, c.premium + 1, c.top + 1);
+    dates::fill_maturity(work, c.stride(), c.top + 1);
     let course = Course {
         contract: c,
         order: &order[0..count],

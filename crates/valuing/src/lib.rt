@@ -59,7 +59,7 @@ pub fn check_no_table<'a>(
 {
     let policy = Policy::read(input)?;
     let behaviour = Behaviour::try_from(behaviour)?;
-    if work.len() < 2 * policy.contract.layer_size() {
+    if work.len() < policy.contract.work_size() {
         return Err(Refusal::Short);
     }
     Ok((policy, behaviour))
@@ -96,7 +96,7 @@ pub fn valued(
     let c = policy.contract;
     let mut order = [0u32; Contract::RETURNS_MOST];
     let count = returns::sort(&mut order, policy.list);
-    dates::fill_maturity(work, c.premium + 1, c.top + 1);
+    dates::fill_maturity(work, c.stride(), c.top + 1);
     let course = Course {
         contract: c,
         order: &order[0..count],

@@ -10,7 +10,8 @@ use Rattle.dates.proofs.Course.all_dates.Given as goal
 abbrev pub invariant-loop-i : goal.invariant-loop-i
 invariant-loop-i l =
     (0 < l.i) × (l.i ≤ l.self.contract.dates)
-    × Valued (behaviour_in l.behaviour) (terms_in l.self.contract) (in_order l.self.order.now) (rates_of l.self.rates.now) l.initial.work l.initial.table
+    × Valued (behaviour_in l.behaviour) (terms_in l.self.contract) (in_order l.self.order.now) (rates_of l.self.rates.now)
+    l.initial.work l.initial.table
     l.work l.table (l.i - 1)
 
 abbrev pub decreases-loop-i : goal.decreases-loop-i

@@ -1,6 +1,6 @@
 -- `dates::Course::sum_date` meets its contract. Assumes nothing.
 use mathlib.Core.List.{List}
-use mathlib.Core.Path.{◌≡◌, ap, sym, ◌∙◌, subst}
+use mathlib.Core.Path.{◌≡◌, ap₂, sym, ◌∙◌, subst}
 use native.Mathlib.Omega.{arith}
 use Prim.Native.Nat.{ℕ, ◌+◌, ◌*◌}
 use Rattle.contract.specs.Reading.{terms_in}
@@ -14,32 +14,34 @@ use Rattle.rules.specs.Contract.{rates_of}
 use Rattle.dates.proofs.Course.sum_date.Goals as goal
 
 pub share_layer-requires : goal.share_layer-requires
-share_layer-requires c = rw c.rate_of.ensures (sharing c.args.self.given c.requires)
+share_layer-requires c = rw (c.rate_of.ensures, c.stride-stride.ensures) (sharing c.args.self.given c.requires)
 
 -- what the shares leave, by the period's rate
-abbrev leaves : List ℕ → (stride n r : ℕ) → List ℕ
-leaves work stride n r = stored work 0 (flat stride (shared r (cells work 0 stride))) (n * stride)
+abbrev leaves : List ℕ → (n stride r : ℕ) → List ℕ
+leaves work n stride r = stored work 0 (flat stride (shared r (cells work 0 stride))) (n * stride)
 
 pub expect_layer-requires : goal.expect_layer-requires
 expect_layer-requires c =
     let args = c.args in
-    let left = c.share_layer.ensures ∙ ap (leaves args.work.now (args.self.contract.premium + 1) (args.self.contract.top + 1)) c.rate_of.ensures in
-    let pre = c.requires in
-    let given = args.self.given in (
+    let course = args.self in
+    let left = c.share_layer.ensures ∙ ap₂ (leaves args.work.now (course.contract.top + 1)) c.stride-stride.ensures c.rate_of.ensures in
+    let given = course.given in (
       record { valid = given.valid.returns; climbing = given.climbing },
-      shared_values given pre _ left,
-      omega (arith, pre.before, given.valid.terms.dates),
+      shared_values given c.requires _ left,
+      omega (arith, c.requires.before, given.valid.terms.dates),
     )
 
 pub returns : goal.returns
 returns c =
     let args = c.args in
-    let left = c.share_layer.ensures ∙ ap (leaves args.work.now (args.self.contract.premium + 1) (args.self.contract.top + 1)) c.rate_of.ensures in
+    let course = args.self in
+    let left = c.share_layer.ensures ∙ ap₂ (leaves args.work.now (course.contract.top + 1)) c.stride-stride.ensures c.rate_of.ensures in
     let size = c.layer_size.ensures.0 in
+    let stride = c.stride-stride.ensures in
     let rate = c.rate_on.ensures.0 in
-    let is : record { base = _; stride = args.self.contract.premium + 1; level = args.self.contract.level; rate = _ } ≡ date_of (terms_in args.self.contract) args.i =
-    λ x. record { base = size x; stride = args.self.contract.premium + 1; level = args.self.contract.level; rate = rate x } in (
+    let is : record { base = _; stride = _; level = course.contract.level; rate = _ } ≡ date_of (terms_in course.contract) args.i =
+    λ x. record { base = size x; stride = stride x; level = course.contract.level; rate = rate x } in (
       is,
-      subst (Summed (terms_in args.self.contract) (in_order args.self.order.now) (rates_of args.self.rates.now args.i) args.work.now _) (sym is)
-          (summed args.self.given c.requires _ left _ c.expect_layer.ensures),
+      subst (Summed (terms_in course.contract) (in_order course.order.now) (rates_of course.rates.now args.i) args.work.now _) (sym is)
+          (summed course.given c.requires _ left _ c.expect_layer.ensures),
     )
