@@ -21,6 +21,7 @@ use Rattle.laws.specs.Accepted.{Valid}
 use Rattle.laws.specs.Date.{shared, shared_le}
 use Rattle.laws.specs.Bounds.{state_most}
 use Rattle.laws.specs.Narrow.{value_narrow}
+use Rattle.returns.specs.Sorted.{OrderedInput}
 use Rattle.expect.specs.Expected.{Values, expected, scaled, expected_le, expected_same, shared_same}
 use Rattle.death.specs.Shared.{Rows}
 use Rattle.keys.specs.declared.Date.{Date}
@@ -37,7 +38,7 @@ unfolding layer_size
 first_end c h = omega arith
 
 -- ---- the shares of the next date's values, and the sums over them
-module _ {c : Terms} {i : ℕ} {work : List ℕ} {rs : Returns} {rates : List ℕ} (d : OneDate c i work rs rates) where
+module _ {c : Terms} {i : ℕ} {work : List ℕ} {rs : Returns} {rates : List ℕ} (g : OrderedInput c rs rates) (d : OneDate c i work) where
   abbrev stride : ℕ
   stride = c.premium + 1
 
@@ -51,7 +52,7 @@ module _ {c : Terms} {i : ℕ} {work : List ℕ} {rs : Returns} {rates : List �
   expects = expected c rs shares
 
   valid : Valid c
-  valid = d.given.valid.terms
+  valid = g.valid.terms
 
   first_room : (c.top + 1) * stride ≤ length work
   unfolding layer_size
@@ -60,7 +61,7 @@ module _ {c : Terms} {i : ℕ} {work : List ℕ} {rs : Returns} {rates : List �
   -- the first layer before
   pub sharing : Rows work rate stride (c.top + 1)
   sharing = record {
-    rate_is = d.given.valid.rates.rate i;
+    rate_is = g.valid.rates.rate i;
     few = omega (arith, valid.top);
     width = omega (arith, valid.premium, valid.top);
     room = first_room;
@@ -85,7 +86,7 @@ module _ {c : Terms} {i : ℕ} {work : List ℕ} {rs : Returns} {rates : List �
       layers = record { valid = valid; room = rw long₁ d.first.layers.room };
       small = λ w a h l.
           le_trans (le_of_eq (cells_shared w a h l))
-          (shared_le rate c.top (cells work 0 stride) (d.given.valid.rates.rate i) h (le_trans l valid.premium) (omega arith)
+          (shared_le rate c.top (cells work 0 stride) (g.valid.rates.rate i) h (le_trans l valid.premium) (omega arith)
           (d.first.small w a h l));
     }
 
@@ -123,7 +124,7 @@ module _ {c : Terms} {i : ℕ} {work : List ℕ} {rs : Returns} {rates : List �
               cells_are w a (omega arith) (omega arith) ∙ ap (λ (x : ℕ). 8192 * x) (sym (sums_of w a (omega arith) (omega arith)));
           small = λ w a h k.
               rw (sums_of w a (omega arith) (omega arith) ∙ sym (sums_shared w a (omega arith)))
-              (expected_le c rs _ i w a valid d.given.valid.returns (omega arith) (λ x l.
+              (expected_le c rs _ i w a valid g.valid.returns (omega arith) (λ x l.
               shared_values.small x a l (omega arith)));
         }
 
@@ -174,19 +175,18 @@ dated {b} {c} {rs} ds {i} {work} {table} {work₁} {work'} {table'} is s x =
 
 -- ---- from one date to the date before it
 module _ {behaviour : Behaviour} {c : Terms} {work₀ table₀ work table : List ℕ} {rs : Returns} {rates : List ℕ}
-    (s : Starting c work₀ rs rates) {i : ℕ} (v : Valued behaviour c rs (rates_of rates) work₀ table₀ work table i)
+    (g : OrderedInput c rs rates) (s : Starting c work₀) {i : ℕ} (v : Valued behaviour c rs (rates_of rates) work₀ table₀ work table i)
   where
-    pub dating : i < c.dates → OneDate c i work rs rates
+    pub dating : i < c.dates → OneDate c i work
     dating before = record {
       before = before;
-      given = s.given;
       first = record {
-        layers = record { valid = s.given.valid.terms; room = omega (arith, s.room, v.long) };
+        layers = record { valid = g.valid.terms; room = omega (arith, s.room, v.long) };
         small = λ w a h k.
             le_trans (le_of_eq (v.values w a h k))
             (subst (λ (n : ℕ). values_on c rs (rates_of rates) behaviour (suc i) w a ≤ state_most c n)
             (sym (add-one i))
-            (values_most c rs (rates_of rates) behaviour s.given.valid (suc i) w a h k));
+            (values_most c rs (rates_of rates) behaviour g.valid (suc i) w a h k));
       };
     }
 
@@ -217,7 +217,7 @@ module _ {behaviour : Behaviour} {c : Terms} {work₀ table₀ work table : List
         value_is w a h k =
             d.values w a h k
             ∙ value_same behaviour _ _ (rate_in c i) c.level w a (λ x y p q. sums_are x y (le_trans q k))
-            ∙ value_back c rs (rates_of rates) behaviour i w a (s.given.valid.rates.rate i) before
+            ∙ value_back c rs (rates_of rates) behaviour i w a (g.valid.rates.rate i) before
 
         amount_is : (w a : ℕ) → w ≤ c.top → a ≤ c.premium → w * (c.premium + 1) + a < to - from
             → cells part₁ 0 (c.premium + 1) w a
@@ -225,7 +225,7 @@ module _ {behaviour : Behaviour} {c : Terms} {work₀ table₀ work table : List
         amount_is w a h k l =
             d.amounts w a h k (omega (arith, mid_len from to table ends))
             ∙ amount_same behaviour _ _ (rate_in c i) c.level w a (λ x y p q. sums_are x y (le_trans q k))
-            ∙ amount_back c rs (rates_of rates) behaviour i w a (s.given.valid.rates.rate i)
+            ∙ amount_back c rs (rates_of rates) behaviour i w a (g.valid.rates.rate i)
 
         -- entries behind the layer
         behind : (x n : ℕ) → i ≤ n → n * layer_size c ≤ x → get_or (put_mid from (to - from) table part₁) x 0 ≡ get_or table x 0
@@ -266,10 +266,10 @@ module _ {behaviour : Behaviour} {c : Terms} {work₀ table₀ work table : List
         }
 
 -- before the first of them, the last date is valued
-pub valued_none : {behaviour : Behaviour} {c : Terms} {work table : List ℕ} {rs : Returns} {rates : List ℕ} → Starting c work rs rates
-    → Valued behaviour c rs (rates_of rates) work table work table (c.dates - 1)
-valued_none {behaviour} {c} {work} {table} {rs} {rates} s =
-    let last : suc (c.dates - 1) ≡ c.dates = omega (arith, s.given.valid.terms.dates_least) in
+pub valued_none : {behaviour : Behaviour} {c : Terms} {work table : List ℕ} {rs : Returns} {rates : List ℕ} → OrderedInput c rs rates
+    → Starting c work → Valued behaviour c rs (rates_of rates) work table work table (c.dates - 1)
+valued_none {behaviour} {c} {work} {table} {rs} {rates} g s =
+    let last : suc (c.dates - 1) ≡ c.dates = omega (arith, g.valid.terms.dates_least) in
     record {
       long = refl;
       long_table = refl;

@@ -13,7 +13,6 @@ use Rattle.laws.specs.ByList.{mean_by_account_same}
 use Rattle.laws.specs.Bounds.{state_most, state_value_le}
 use Rattle.rules.specs.FixedTerm.{State, free_in, admissible_in, rate_in, cash_in, after_in, value_with, held_by_account, process_of}
 use Rattle.rules.specs.FixedTerm.{layer_size, fixed_term}
-use Rattle.returns.specs.Sorted.{OrderedInput}
 use Rattle.expect.specs.Expected.{expected}
 use Rattle.worth.specs.Worth.{worth_over, best_value, best_amount, value_same, amount_same}
 
@@ -71,7 +70,6 @@ pub record Valued (b : Behaviour) (c : Terms) (rs : Returns) (ds : Rates) (work 
   pub rest : (x : ℕ) → layer_size c + layer_size c ≤ x → get_or work' x 0 ≡ get_or work x 0
   pub rest_table : (x : ℕ) → (c.dates - 1) * layer_size c ≤ x → get_or table' x 0 ≡ get_or table x 0
 
-pub record Starting (c : Terms) (work : List ℕ) (rs : Returns) (rates : List ℕ) : Type 0 where
-  pub given : OrderedInput c rs rates
+pub record Starting (c : Terms) (work : List ℕ) : Type 0 where
   pub room : layer_size c + layer_size c ≤ length work
   pub mature : (w a : ℕ) → w ≤ c.top → a ≤ c.premium → cells work 0 (c.premium + 1) w a ≡ maturity_value w a

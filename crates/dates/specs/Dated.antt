@@ -5,16 +5,14 @@ use Rattle.rules.specs.Contract.{Terms, Returns, Rates}
 use Rattle.rules.specs.Date.{Behaviour}
 use Rattle.rules.specs.FixedTerm.{rate_in, layer_size}
 use Rattle.laws.specs.Date.{shared}
-use Rattle.returns.specs.Sorted.{OrderedInput}
 use Rattle.expect.specs.Expected.{expected, Values}
 use Rattle.keys.specs.declared.Date.{Date}
 use Rattle.keys.specs.Sums.{Sums, sums}
 use Rattle.worth.specs.Worth.{best_value, best_amount}
 
 -- date i, where the next one is valued
-pub record OneDate (c : Terms) (i : ℕ) (work : List ℕ) (rs : Returns) (rates : List ℕ) : Type 0 where
+pub record OneDate (c : Terms) (i : ℕ) (work : List ℕ) : Type 0 where
   pub before : i < c.dates
-  pub given : OrderedInput c rs rates
   pub first : Values c i work
 
 -- its two layers, with its penalty rate

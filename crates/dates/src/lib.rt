@@ -8,7 +8,7 @@ ghost use Rattle.rules.specs.Contract.{top_most, rates_of};
 ghost use Rattle.rules.specs.Date.{maturity_value};
 ghost use Rattle.date.specs.Behaviour.{behaviour_in};
 ghost use Rattle.contract.specs.Reading.{terms_in};
-ghost use Rattle.returns.specs.Sorted.{in_order};
+ghost use Rattle.returns.specs.Sorted.{in_order, OrderedInput};
 ghost use Rattle.dates.specs.Dated.{OneDate, date_of, Summed, Dated};
 ghost use Rattle.dates.specs.Back.{Valued, Starting};
 ghost use Rattle.dates.specs.Layer.{DateLayer, LentLayer};
@@ -17,7 +17,7 @@ use contract::Contract;
 use date::Behaviour;
 use keys::Date;
 
-// The maturity values of account w. By index: each is of w and a.
+// The maturity values of account w. By index: `enumerate` gives a, too, but is no plainer.
 fn maturity_row(work: &mut [u64], stride: usize, w: usize)
     requires { (w ≤ top_most) × (stride ≤ top_most + 1) × (w * stride + stride ≤ length work.old) }
     ensures { work.new ≡ stored work.old (w * stride) (maturity_value w) stride }
@@ -44,44 +44,7 @@ pub fn clear(work: &mut [u64], from: usize, n: usize)
     work[from..from + n].fill(0);
 }
 
-// The discounted sums of date i, in the second layer, over the next date's values, each with its share at death. Gives where they
-// stand, with the date's terms.
-pub fn sum_date(work: &mut [u64], order: &[u32], rates: &[u8], c: Contract, i: usize) -> Date
-    requires { OneDate (terms_in c) i work.old (in_order order.now) rates.now }
-    ensures { (result ≡ date_of (terms_in c) i)
-        × Summed (terms_in c) (in_order order.now) (rates_of rates.now i) work.old
-        work.new result }
-{
-    let stride = c.premium + 1;
-    death::share_layer(work, input::rate_of(rates, i), stride, c.top + 1);
-    expect::expect_layer(work, order, c, i);
-    Date {
-        base: c.layer_size(),
-        stride,
-        level: c.level,
-        rate: date::rate_on(c.penalty, c.step, i),
-    }
-}
-
-// The values and amounts of date i.
-fn one_date(
-    behaviour: Behaviour,
-    work: &mut [u64],
-    table: &mut [u16],
-    order: &[u32],
-    rates: &[u8],
-    c: Contract,
-    i: usize,
-)
-    requires { OneDate (terms_in c) i work.old (in_order order.now) rates.now }
-    ensures { Dated (behaviour_in behaviour) (terms_in c) (in_order order.now) (rates_of rates.now) i
-        work.old table.old work.new table.new }
-{
-    let d = sum_date(work, order, rates, c, i);
-    states::decide_layer(behaviour, work, table, d, c.top + 1);
-}
-
-// Where a part of the table starts and ends. Copied, as no Range is.
+// Where a part of the table starts and ends. No Range: contracts here, in `supplied` and in `walk` name both ends.
 #[derive(Clone, Copy)]
 pub struct Part {
     pub from: usize,
@@ -113,29 +76,55 @@ fn lent_layer(c: Contract, i: usize, lent: usize) -> Part
     }
 }
 
-// Every decision date, from the last to the first, each in its own layer of the table, if one is lent.
-pub fn all_dates(
-    behaviour: Behaviour,
-    work: &mut [u64],
-    table: &mut [u16],
-    order: &[u32],
-    rates: &[u8],
-    c: Contract,
-)
-    requires { Starting (terms_in c) work.old (in_order order.now) rates.now }
-    ensures { Valued (behaviour_in behaviour) (terms_in c) (in_order order.now) (rates_of rates.now)
-        work.old table.old work.new table.new 0 }
-{
-    for i in (1..c.dates).rev() {
-        let part = lent_layer(c, i, table.len());
-        one_date(
-            behaviour,
-            work,
-            &mut table[part.from..part.to],
-            order,
-            rates,
-            c,
-            i,
-        );
+// What leads back over the dates: a contract, its returns from the smallest factor up, and its death rates.
+#[derive(Clone, Copy)]
+pub struct Course<'a> {
+    pub contract: Contract,
+    pub order: &'a [u32],
+    pub rates: &'a [u8],
+    pub ghost given: { OrderedInput (terms_in contract) (in_order order.now) rates.now },
+}
+
+impl<'a> Course<'a> {
+    // The discounted sums of date i, in the second layer, over the next date's values, each with its share at death. Gives where they
+    // stand, with the date's terms.
+    pub fn sum_date(self, work: &mut [u64], i: usize) -> Date
+        requires { OneDate (terms_in self.contract) i work.old }
+        ensures { (result ≡ date_of (terms_in self.entry.contract) i)
+            × Summed (terms_in self.entry.contract) (in_order self.entry.order.now) (rates_of self.entry.rates.now i) work.old
+            work.new result }
+    {
+        let c = self.contract;
+        let stride = c.stride();
+        death::share_layer(work, input::rate_of(self.rates, i), stride, c.top + 1);
+        expect::expect_layer(work, self.order, c, i);
+        Date {
+            base: c.layer_size(),
+            stride,
+            level: c.level,
+            rate: date::rate_on(c.penalty, c.step, i),
+        }
+    }
+
+    // The values and amounts of date i.
+    fn one_date(self, behaviour: Behaviour, work: &mut [u64], table: &mut [u16], i: usize)
+        requires { OneDate (terms_in self.contract) i work.old }
+        ensures { Dated (behaviour_in behaviour) (terms_in self.entry.contract) (in_order self.entry.order.now)
+            (rates_of self.entry.rates.now) i work.old table.old work.new table.new }
+    {
+        let d = self.sum_date(work, i);
+        states::decide_layer(behaviour, work, table, d, self.contract.top + 1);
+    }
+
+    // Every decision date, from the last to the first, each in its own layer of the table, if one is lent.
+    pub fn all_dates(self, behaviour: Behaviour, work: &mut [u64], table: &mut [u16])
+        requires { Starting (terms_in self.contract) work.old }
+        ensures { Valued (behaviour_in behaviour) (terms_in self.entry.contract) (in_order self.entry.order.now)
+            (rates_of self.entry.rates.now) work.old table.old work.new table.new 0 }
+    {
+        for i in (1..self.contract.dates).rev() {
+            let part = lent_layer(self.contract, i, table.len());
+            self.one_date(behaviour, work, &mut table[part.from..part.to], i);
+        }
     }
 }

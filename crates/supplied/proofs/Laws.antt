@@ -31,8 +31,7 @@ use Rattle.laws.specs.Accepted.{Valid, ValidInput}
 use Rattle.laws.specs.Bounds.{table_value_le, state_most, entry_most}
 use Rattle.laws.specs.AnyOrder.{Reordered}
 use Rattle.laws.proofs.AnyOrder.{any_order_table}
-use Rattle.input.specs.Given.{Given}
-use Rattle.returns.specs.Sorted.{Sorted, ordered_input}
+use Rattle.returns.specs.Sorted.{OrderedInput}
 use Rattle.expect.specs.Expected.{expected, shared_same}
 use Rattle.keys.specs.declared.Date.{Date}
 use Rattle.keys.specs.Sums.{sums, Sums, sum_in, row_in, sums_less, sums_kept, sums_same}
@@ -106,7 +105,7 @@ module _ {work layer : List ℕ} {d : Date} {n : ℕ} (f : Following work layer 
         ap (λ (e : ℕ → ℕ → ℕ). followed e (cells layer 0 d.stride) d.rate d.level w a) same)
 
 -- ---- one date
-module _ {c : Terms} {i : ℕ} {work layer work₁ : List ℕ} {rs : Returns} {rates : List ℕ} {date : Date} (d : Dating c i work layer rs rates)
+module _ {c : Terms} {i : ℕ} {work layer work₁ : List ℕ} {rs : Returns} (rates : List ℕ) {date : Date} (d : Dating c i work layer)
     (is : date ≡ date_of c i) (told : Summed c rs (rates_of rates i) work work₁ date)
   where
     s : Summed c rs (rates_of rates i) work work₁ (date_of c i)
@@ -206,7 +205,7 @@ table_on_most {c} rs ds table v none i w a some before h l =
     let good = all_admitted c rs ds table v.terms none in
     table_value_le c rs ds v (lookup (layout_of c) table) good i (at w a) some before (record { account = h; guarantee = l })
 
-module _ {c : Terms} {work₀ table work : List ℕ} {rs : Returns} {rates : List ℕ} (s : Starting c work₀ table rs rates)
+module _ {c : Terms} {work₀ table work : List ℕ} {rs : Returns} {rates : List ℕ} (g : OrderedInput c rs rates) (s : Starting c work₀ table)
     {i from to : ℕ} (p : DateLayer c i from to) (some : 0 < i) (before : i < c.dates)
     (v : First (table_on c rs (rates_of rates) table (suc i)) c work₀ work)
   where
@@ -217,24 +216,23 @@ module _ {c : Terms} {work₀ table work : List ℕ} {rs : Returns} {rates : Lis
         ap (λ (x : ℕ). get_or (mid_of from (to - from) table) x 0) (zero-add (w * (c.premium + 1) + a))
         ∙ layer_entry p table s.entries h l
 
-    pub dating : Dating c i work (mid_of from (to - from) table) rs rates
+    pub dating : Dating c i work (mid_of from (to - from) table)
     dating = record {
       date = record {
         before = before;
-        given = s.given;
         first = record {
-          layers = record { valid = s.given.valid.terms; room = omega (arith, s.room, v.long) };
+          layers = record { valid = g.valid.terms; room = omega (arith, s.room, v.long) };
           small = λ w a h l.
               le_trans (le_of_eq (v.values w a h l))
               (subst (λ (n : ℕ). table_on c rs (rates_of rates) table (suc i) w a ≤ state_most c n) (sym (add-one i))
-              (table_on_most rs (rates_of rates) table s.given.valid s.none_bad (suc i) w a (omega arith) (omega arith)
+              (table_on_most rs (rates_of rates) table g.valid s.none_bad (suc i) w a (omega arith) (omega arith)
               h l));
         };
       };
       layer_is = layer_long p table s.entries;
       admitted = λ w a h l.
           subst (λ (t : ℕ). T (admits dynamic (free_amount c.level a) w t)) (sym (amount_is w a h l))
-          (admitted_at c rs (rates_of rates) table s.given.valid.terms s.none_bad i w a some before h l);
+          (admitted_at c rs (rates_of rates) table g.valid.terms s.none_bad i w a some before h l);
     }
 
     -- the sums are those of the next date's values
@@ -253,13 +251,13 @@ module _ {c : Terms} {work₀ table work : List ℕ} {rs : Returns} {rates : Lis
           d.values w a h l
           ∙ ap (worth_over sums (rate_in c i) m w a) (amount_is w a h l)
           ∙ worth_same _ _ (rate_in c i) m w a (lookup (layout_of c) table i (at w a)) (λ x y p q. next_sums x y (le_trans q l))
-          ∙ table_on_back c rs (rates_of rates) table i w a (s.given.valid.rates.rate i) before;
+          ∙ table_on_back c rs (rates_of rates) table i w a (g.valid.rates.rate i) before;
       rest = λ x h. d.rest x h ∙ v.rest x h;
     }
 
-pub first_none : {c : Terms} {work table : List ℕ} {rs : Returns} {rates : List ℕ} → Starting c work table rs rates
+pub first_none : {c : Terms} {work table : List ℕ} {rs : Returns} {rates : List ℕ} → OrderedInput c rs rates → Starting c work table
     → First (table_on c rs (rates_of rates) table c.dates) c work work
-first_none {c} {work} {table} {rs} {rates} s = record {
+first_none {c} {work} {table} {rs} {rates} g s = record {
   long = refl;
   values = λ w a h l. s.mature w a h l ∙ sym (last_is c rs (rates_of rates) table w a);
   rest = λ x h. refl;
@@ -274,12 +272,10 @@ of_the_list {c} ds table same v = record {
   rest = v.rest;
 }
 
-pub starting : {c : Terms} {list rates work' table : List ℕ} {rs : Returns} (work : List ℕ) → Given c list rates
-    → Sorted (returns_of list) rs
+pub starting : {c : Terms} {work' table : List ℕ} (work : List ℕ)
     → layer_size c + layer_size c ≤ length work → table_size c ≤ length table → table_size c ≤ first (bad_in c table) (table_size c)
-    → work' ≡ stored work 0 (flat (c.premium + 1) maturity_value) (layer_size c) → Starting c work' table rs rates
-starting {c} {work' = work'} work given sorted room room_table none e = record {
-  given = ordered_input given sorted;
+    → work' ≡ stored work 0 (flat (c.premium + 1) maturity_value) (layer_size c) → Starting c work' table
+starting {c} {work'} work room room_table none e = record {
   room = let l = ap length e ∙ length_stored work 0 (flat (c.premium + 1) maturity_value) (layer_size c) in omega arith;
   entries = room_table;
   none_bad = none;

@@ -11,7 +11,6 @@ use Rattle.rules.specs.FixedTerm.{rate_in, layer_size, layout_of, process_of, fi
 use Rattle.rules.specs.Refusals.{Verdict}
 use Rattle.rules.specs.Operations.{Answer, answer, work_after, supplied_answer, supplied_work}
 use Rattle.laws.specs.Date.{shared}
-use Rattle.returns.specs.Sorted.{OrderedInput}
 use Rattle.expect.specs.Expected.{expected}
 use Rattle.keys.specs.declared.Date.{Date}
 use Rattle.keys.specs.Sums.{sums, Sums}
@@ -37,8 +36,8 @@ pub record Following (work layer : List ℕ) (d : Date) (n : ℕ) : Type 0 where
       → T (admits dynamic (free_amount d.level a) w (cells layer 0 d.stride w a))
 
 -- one date back, by its layer of the table
-pub record Dating (c : Terms) (i : ℕ) (work layer : List ℕ) (rs : Returns) (rates : List ℕ) : Type 0 where
-  pub date : OneDate c i work rs rates
+pub record Dating (c : Terms) (i : ℕ) (work layer : List ℕ) : Type 0 where
+  pub date : OneDate c i work
   pub layer_is : length layer ≡ layer_size c
   pub admitted : (w a : ℕ) → w ≤ c.top → a ≤ c.premium
       → T (admits dynamic (free_amount c.level a) w (cells layer 0 (c.premium + 1) w a))
@@ -55,8 +54,7 @@ pub record Back (c : Terms) (rs : Returns) (ds : Rates) (i : ℕ) (work layer wo
 abbrev pub table_on : Terms → Returns → Rates → List ℕ → ℕ → ℕ → ℕ → ℕ
 table_on c rs ds table i w a = table_value (process_of c rs ds) (lookup (layout_of c) table) i (at w a)
 
-pub record Starting (c : Terms) (work table : List ℕ) (rs : Returns) (rates : List ℕ) : Type 0 where
-  pub given : OrderedInput c rs rates
+pub record Starting (c : Terms) (work table : List ℕ) : Type 0 where
   pub room : layer_size c + layer_size c ≤ length work
   pub entries : table_size c ≤ length table
   pub none_bad : table_size c ≤ first (bad_in c table) (table_size c)

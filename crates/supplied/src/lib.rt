@@ -21,6 +21,7 @@ ghost use Rattle.supplied.specs.Followed.{followed_on, Following, Dating, Back, 
 ghost use Rattle.laws.specs.Terms.{table_size, bad_at, bad_in};
 
 use contract::{Contract, Refusal};
+use dates::Course;
 use input::{Input, Policy};
 use keys::Date;
 use valuing::Valuation;
@@ -30,7 +31,7 @@ fn bad_entry(layer: &[u16], c: Contract, e: usize) -> bool
     requires { e < length layer.now }
     ensures { result ≡ bad_at (terms_in c) e (get_or layer.now e 0) }
 {
-    let stride = c.premium + 1;
+    let stride = c.stride();
     let m = date::free_amount(c.level, e % stride);
     !date::admits_dynamic(m, e / stride, usize::from(layer[e]))
 }
@@ -42,17 +43,15 @@ fn first_in_layer(layer: &[u16], c: Contract) -> Option<usize>
     slices::first(layer.len(), |e| bad_entry(layer, c, e))
 }
 
-// The first bad entry of the table, if any: date by date, each in its own layer.
+// The first bad entry of the table, if any: date by date, each in its own layer. A `find_map` is no plainer.
 fn first_bad(table: &[u16], c: Contract) -> Option<usize>
     requires { table_size (terms_in c) ≤ length table.now }
     ensures { result ≡ found (bad_in (terms_in c) table.now) (table_size (terms_in c)) }
 {
     for i in 1..c.dates {
         let part = dates::layer_of(c, i);
-        let from = part.from;
-        let to = part.to;
-        if let Some(e) = first_in_layer(&table[from..to], c) {
-            return Some(from + e);
+        if let Some(e) = first_in_layer(&table[part.from..part.to], c) {
+            return Some(part.from + e);
         }
     }
     None
@@ -96,27 +95,26 @@ fn follow_layer(work: &mut [u64], layer: &[u16], d: Date, n: usize)
 }
 
 // The values of date i.
-fn follow_date(work: &mut [u64], layer: &[u16], order: &[u32], rates: &[u8], c: Contract, i: usize)
-    requires { Dating (terms_in c) i work.old layer.now (in_order order.now) rates.now }
-    ensures { Back (terms_in c) (in_order order.now) (rates_of rates.now) i work.old
+fn follow_date(work: &mut [u64], layer: &[u16], course: Course, i: usize)
+    requires { Dating (terms_in course.contract) i work.old layer.now }
+    ensures { Back (terms_in course.entry.contract) (in_order course.entry.order.now) (rates_of course.entry.rates.now) i work.old
         layer.now work.new }
 {
-    let d = dates::sum_date(work, order, rates, c, i);
-    follow_layer(work, layer, d, c.top + 1);
+    let d = course.sum_date(work, i);
+    follow_layer(work, layer, d, course.contract.top + 1);
 }
 
-// Every decision date, from the last to the first, each by its own layer of the table.
-fn follow_dates(work: &mut [u64], table: &[u16], order: &[u32], rates: &[u8], c: Contract)
-    requires { Starting (terms_in c) work.old table.now (in_order order.now) rates.now }
+// Every decision date, from the last to the first, each by its own layer of the table. Beside `Course::all_dates`, which writes
+// the layer: a closure for the date would need its law in every contract, which is no plainer.
+fn follow_dates(work: &mut [u64], table: &[u16], course: Course)
+    requires { Starting (terms_in course.contract) work.old table.now }
     ensures { First
-        (table_on (terms_in c) (in_order order.now) (rates_of rates.now) table.now 1)
-        (terms_in c) work.old work.new }
+        (table_on (terms_in course.entry.contract) (in_order course.entry.order.now) (rates_of course.entry.rates.now) table.now 1)
+        (terms_in course.entry.contract) work.old work.new }
 {
-    for i in (1..c.dates).rev() {
-        let part = dates::layer_of(c, i);
-        let from = part.from;
-        let to = part.to;
-        follow_date(work, &table[from..to], order, rates, c, i);
+    for i in (1..course.contract.dates).rev() {
+        let part = dates::layer_of(course.contract, i);
+        follow_date(work, &table[part.from..part.to], course, i);
     }
 }
 
@@ -124,7 +122,7 @@ fn follow_dates(work: &mut [u64], table: &[u16], order: &[u32], rates: &[u8], c:
 fn too_short(c: Contract, work: &[u64], table: &[u16]) -> bool
     ensures { result ≡ (short (2 * layer_size (terms_in c)) work.now || short (table_size (terms_in c)) table.now) }
 {
-    work.len() < 2 * c.layer_size() || table.len() < c.table_size()
+    work.len() < c.work_size() || table.len() < c.table_size()
 }
 
 // The value of a table whose entries are all admissible.
@@ -136,8 +134,13 @@ fn follow(policy: Policy, work: &mut [u64], table: &[u16]) -> Valuation
     let c = policy.contract;
     let mut order = [0u32; Contract::RETURNS_MOST];
     let count = returns::sort(&mut order, policy.list);
-    dates::fill_maturity(work, c.premium + 1, c.top + 1);
-    follow_dates(work, table, &order[0..count], policy.rates, c);
+    dates::fill_maturity(work, c.stride(), c.top + 1);
+    let course = Course {
+        contract: c,
+        order: &order[0..count],
+        rates: policy.rates,
+    };
+    follow_dates(work, table, course);
     valuing::settle(work, policy)
 }
 

@@ -31,12 +31,10 @@ use Rattle.contract.specs.Reading.{terms_in, turned, taken}
 use Rattle.date.specs.Behaviour.{behaviour_in}
 use Rattle.date.specs.declared.Behaviour as date
 use Rattle.input.specs.declared.Policy as input
-use Rattle.input.specs.Given.{Given}
 use Rattle.input.specs.Read.{input_read}
 use Rattle.input.specs.Accepted.{Agreed, agreed, disagreed, agree, refuse, input_read_lem, input_not_read}
 use Rattle.laws.specs.AnyOrder.{Reordered}
 use Rattle.laws.proofs.AnyOrder.{any_order_state, any_order_amount}
-use Rattle.returns.specs.Sorted.{Sorted, ordered_input}
 use Rattle.expect.specs.Expected.{expected, shared_same}
 use Rattle.dates.specs.Back.{at, values_on, shared_expects, Valued, Starting}
 use Rattle.valuing.specs.declared.Valuation.{Valuation}
@@ -137,12 +135,10 @@ of_the_list {b} {c} {ds = ds} same v = record {
 }
 
 -- the first layer at maturity
-pub starting : {c : Terms} {list rates work work' : List ℕ} {rs : Returns} → Given c list rates → (lent : WorkLent c work)
-    → Sorted (returns_of list) rs → work' ≡ stored work 0 (flat (c.premium + 1) maturity_value) (layer_size c)
-    → Starting c work' rs rates
+pub starting : {c : Terms} {work work' : List ℕ} → (lent : WorkLent c work)
+    → work' ≡ stored work 0 (flat (c.premium + 1) maturity_value) (layer_size c) → Starting c work'
 unfolding layer_size
-starting {c} {work = work} given lent sorted e = record {
-  given = ordered_input given sorted;
+starting {c} {work} lent e = record {
   room =
       let l = ap length e ∙ length_stored work 0 (flat (c.premium + 1) maturity_value) ((c.top + 1) * (c.premium + 1)) in
       omega (arith, lent.room);

@@ -14,6 +14,7 @@ ghost use Rattle.valuing.specs.Answered.{Worked, Answered, Valuing, ValuingNoTab
 
 use contract::{Contract, Refusal};
 use date::Behaviour;
+use dates::Course;
 use input::{Input, Policy};
 
 // What a contract is worth, and by how much that is above the premium.
@@ -46,6 +47,7 @@ pub fn settle(work: &mut [u64], policy: Policy) -> Valuation
     }
 }
 
+// A behaviour comes as a number, here and wherever a contract is valued: that it is none is refusal 10, found after the policy's.
 // What a valuation is given, checked in order: record, list, rates, behaviour, the length of the working slice.
 pub fn check_no_table<'a>(
     input: Input<'a>,
@@ -57,7 +59,7 @@ pub fn check_no_table<'a>(
 {
     let policy = Policy::read(input)?;
     let behaviour = Behaviour::try_from(behaviour)?;
-    if work.len() < 2 * policy.contract.layer_size() {
+    if work.len() < policy.contract.work_size() {
         return Err(Refusal::Short);
     }
     Ok((policy, behaviour))
@@ -94,8 +96,13 @@ pub fn valued(
     let c = policy.contract;
     let mut order = [0u32; Contract::RETURNS_MOST];
     let count = returns::sort(&mut order, policy.list);
-    dates::fill_maturity(work, c.premium + 1, c.top + 1);
-    dates::all_dates(behaviour, work, table, &order[0..count], policy.rates, c);
+    dates::fill_maturity(work, c.stride(), c.top + 1);
+    let course = Course {
+        contract: c,
+        order: &order[0..count],
+        rates: policy.rates,
+    };
+    course.all_dates(behaviour, work, table);
     settle(work, policy)
 }
 
@@ -121,7 +128,7 @@ pub fn value(
     Ok(valued(policy, behaviour, work, table))
 }
 
-// .. with no table.
+// .. with no table: a call of its own, as the C interface has. An Option of a table would be matched in both checks.
 pub fn value_no_table(
     input: Input,
     behaviour: usize,

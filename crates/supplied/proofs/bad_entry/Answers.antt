@@ -10,5 +10,7 @@ use Rattle.supplied.proofs.bad_entry.Goals as goal
 pub returns : goal.returns
 unfolding bad_at admissible_in layout_of free_in
 returns c =
-    ap not (c.admits_dynamic.ensures ∙ ap₂ (λ (m t : ℕ). admits dynamic m (c.args.e / (c.args.c.premium + 1)) t)
-    c.free_amount-m.ensures c.from.ensures)
+    let admitted = rw c.stride-stride.ensures at c.admits_dynamic.ensures in
+    let free = rw c.stride-stride.ensures at c.free_amount-m.ensures in
+    ap not (admitted ∙ ap₂ (λ (m t : ℕ). admits dynamic m (c.args.e / (c.args.c.premium + 1)) t)
+    free c.from.ensures)

@@ -11,4 +11,5 @@ use Rattle.supplied.proofs.follow_dates.Given as goal
 abbrev pub invariant-loop-i : goal.invariant-loop-i
 invariant-loop-i l =
     (0 < l.i)
-    × First (table_on (terms_in l.c) (in_order l.order) (rates_of l.rates) l.table l.i) (terms_in l.c) l.initial.work l.work
+    × First (table_on (terms_in l.course.contract) (in_order l.course.order.now) (rates_of l.course.rates.now) l.table l.i)
+    (terms_in l.course.contract) l.initial.work l.work

@@ -15,12 +15,12 @@ returns-in_err-behaviour-clause-tells c =
     let p = err_from_is_err_and from.result from.ensures.1 in
     rw (p.1, p.2) (check_behaviour _ _ _ c.in_ok-policy.ensures.tells c.in_err-behaviour.ensures)
 
-pub returns-then-work-layer_size-clause-tells : goal.returns-then-work-layer_size-clause-tells
-returns-then-work-layer_size-clause-tells c =
+pub returns-then-work-work_size-clause-tells : goal.returns-then-work-work_size-clause-tells
+returns-then-work-work_size-clause-tells c =
     check_work _ _ _ c.in_ok-policy.ensures.tells c.in_ok-behaviour.ensures.0
-    (omega (arith, c.if-work-layer_size.true, c.layer_size.ensures.0))
+    (omega (arith, c.if-work-work_size.true, c.work_size.ensures.0))
 
 pub returns-clause-tells : goal.returns-clause-tells
 returns-clause-tells c =
     check_passed _ _ _ c.in_ok-policy.ensures.tells c.in_ok-behaviour.ensures.0
-    (omega (arith, c.if-work-layer_size.false, c.layer_size.ensures.0))
+    (omega (arith, c.if-work-work_size.false, c.work_size.ensures.0))

@@ -1,7 +1,7 @@
 -- `valuing::valued` meets its contract. Assumes nothing.
 use native.Mathlib.Omega.{arith}
 use Rattle.rules.specs.FixedTerm.{layer_size}
-use Rattle.returns.specs.Sorted.{part_sorted}
+use Rattle.returns.specs.Sorted.{part_sorted, ordered_input}
 use Rattle.valuing.specs.First.{settling}
 use Rattle.dates.specs.Back.{values_most}
 use Rattle.valuing.proofs.Laws.{answered, starting, first, from_start, of_the_list}
@@ -13,13 +13,14 @@ fill_maturity-requires c =
     let given = c.args.policy.given in
     let v = given.valid.terms in
     let pre = c.requires in
-    (omega (arith, v.top), omega (arith, v.top, v.premium), omega (arith, pre.room))
+    rw c.stride.ensures (omega (arith, v.top), omega (arith, v.top, v.premium), omega (arith, pre.room))
+
+pub invariant_of-course : goal.invariant_of-course
+invariant_of-course c = record { given = ordered_input c.args.policy.given (part_sorted c.sort-count.ensures) }
 
 pub all_dates-requires : goal.all_dates-requires
 unfolding layer_size
-all_dates-requires c =
-    let start = c in
-    starting start.args.policy.given start.requires (part_sorted c.sort-count.ensures) c.fill_maturity.ensures
+all_dates-requires c = starting c.requires (rw c.stride.ensures at c.fill_maturity.ensures)
 
 pub settle-requires : goal.settle-requires
 unfolding layer_size
@@ -27,7 +28,7 @@ settle-requires c =
     let pre = c.requires in
     let given = c.args.policy.given in
     let sorted = part_sorted c.sort-count.ensures in
-    let v = from_start _ c.fill_maturity.ensures (of_the_list sorted.same c.all_dates.ensures) in
+    let v = from_start _ (rw c.stride.ensures at c.fill_maturity.ensures) (of_the_list sorted.same c.all_dates.ensures) in
     settling given.valid.terms pre.room (first v) (values_most _ _ _ _ given.valid 1)
 
 pub returns : goal.returns
@@ -36,5 +37,5 @@ returns c =
     let pre = c.requires in
     let given = c.args.policy.given in
     let sorted = part_sorted c.sort-count.ensures in
-    let v = from_start _ c.fill_maturity.ensures (of_the_list sorted.same c.all_dates.ensures) in
+    let v = from_start _ (rw c.stride.ensures at c.fill_maturity.ensures) (of_the_list sorted.same c.all_dates.ensures) in
     answered _ _ pre.room (given.valid.rates.rate 0) v c.settle.ensures
