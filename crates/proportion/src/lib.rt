@@ -246,8 +246,8 @@ fn ascends(work: &[u64], at: usize, n: usize) -> bool
     falls == 0
 }
 
-// Whether each of n rows rises with the guarantee: tested, so that nothing here rests on the rules of a date. No `all`: tried, and
-// what it asks of its closure was not proved.
+// Whether each of n rows rises with the guarantee: tested, so that nothing here rests on the rules of a date. No `all`: tried, but its
+// closure has to say again what `ascends` requires, which is no plainer.
 pub fn rises(work: &[u64], d: Date, n: usize) -> bool
     requires { Sums work.now d n }
     ensures { (result ≡ true → Rising (cells work.now d.base d.stride) d.stride n)
