@@ -57,7 +57,7 @@ fn fill(buffer: &mut [u8], cash: usize, penalty: usize, balance: usize, guarante
     buffer[4..8].copy_from_slice(&(penalty as u32).to_le_bytes());
     buffer[8..10].copy_from_slice(&(balance as u16).to_le_bytes());
     buffer[10..12].copy_from_slice(&(guarantee as u16).to_le_bytes());
-    buffer[12..16].copy_from_slice(&[0; 4]);
+    buffer[12..16].fill(0);
 }
 
 // Books a withdrawal under terms that were read.

@@ -1,4 +1,4 @@
-// One date on plain numbers: the leaves that every operation is made of.
+// One date on plain numbers: the leaves that every operation is made of. No structs: each is a function of rules/Date, with its bounds.
 #![tactic(auto)]
 
 ghost use Rattle.std.specs.Prelude.{◌≡◌, ◌-◌, ◌*◌, ◌≤◌, ◌<◌, max, min};

@@ -40,7 +40,7 @@ impl Death {
         (self.high as usize * v + self.low as usize * v / 4294967296) / 4294967296
     }
 
-    // n states: death pays `paid` in the first, and `step` more in each one behind.
+    // n states: death pays `paid` in the first, and `step` more in each one behind. By index: a plain loop is widened.
     fn share_run(self, work: &mut [u64], from: usize, n: usize, paid: usize, step: usize)
         requires { Run work.old from n paid step }
         ensures { work.new

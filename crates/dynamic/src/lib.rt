@@ -10,10 +10,10 @@ ghost use Rattle.worth.specs.Further.{Furthered};
 ghost use Rattle.proportion.specs.Held.{raised_to};
 ghost use Rattle.dynamic.specs.Block.{Offering, Alike, Row};
 
-use keys::{Block, Date};
+use keys::{Best, Block, Date};
 
-// Numbers from `at` on, each with `add` more, for n states from state `low` on. By index: one slice is read, the other written.
-fn offer(best: &mut [u64; 512], low: usize, work: &[u64], at: usize, n: usize, add: u64)
+// Numbers from `at` on, each with `add` more, for n states from state `low` on. By index: a plain loop is widened.
+fn offer(best: &mut Best, low: usize, work: &[u64], at: usize, n: usize, add: u64)
     requires { Offering best.old work.now low at n add }
     ensures { best.new ≡ raised_to best.old low (λ (i : ℕ). get_or work.now (at + i) 0 + add) n }
 {
@@ -36,7 +36,7 @@ impl<'a> States<'a> {
     ghost use Rattle.dynamic.specs.States.{Trying, Holding};
 
     // Amount t, up to the level, for the states whose guarantee it does not pass.
-    fn offer_amount(self, best: &mut [u64; 512], t: usize)
+    fn offer_amount(self, best: &mut Best, t: usize)
         requires { (t ≤ self.d.level) × Trying self best.old t }
         ensures { Trying self.entry best.new (t + 1) }
     {
@@ -49,7 +49,7 @@ impl<'a> States<'a> {
     }
 
     // The amounts 0 to m: whatever the states held, they hold the key of amount 0 first.
-    fn free_block(self, best: &mut [u64; 512])
+    fn free_block(self, best: &mut Best)
         ensures { Holding self.entry best.new 0 }
     {
         let at = self.d.place(self.s.w, self.s.from);
@@ -60,7 +60,7 @@ impl<'a> States<'a> {
     }
 
     // The best of withdrawing further than m, for n states that have the same m: read off the row below.
-    fn further_run(self, best: &mut [u64; 512], low: usize, n: usize, m: usize)
+    fn further_run(self, best: &mut Best, low: usize, n: usize, m: usize)
         requires { Alike self.d self.s low n m × Holding self best.old low }
         ensures { Holding self.entry best.new (low + n) }
     {
@@ -71,7 +71,7 @@ impl<'a> States<'a> {
     }
 
     // Up to the level m is the guarantee itself.
-    fn further_few(self, best: &mut [u64; 512])
+    fn further_few(self, best: &mut Best)
         requires { Holding self best.old 0 }
         ensures { Holding self.entry best.new (min self.entry.s.n (min (self.entry.d.level + 1) self.entry.s.w - self.entry.s.from)) }
     {
@@ -83,7 +83,7 @@ impl<'a> States<'a> {
     }
 
     // The amounts above m where the account is not below the guarantee: account and guarantee fall alike.
-    fn further_block(self, best: &mut [u64; 512])
+    fn further_block(self, best: &mut Best)
         requires { Holding self best.old 0 }
         ensures { Holding self.entry best.new (min self.entry.s.n (self.entry.s.w + 1 - self.entry.s.from)) }
     {
@@ -98,7 +98,7 @@ impl<'a> States<'a> {
 }
 
 // Every amount from 0 to the larger of w and m.
-pub fn decide_block(best: &mut [u64; 512], work: &[u64], d: Date, s: Block, rising: bool)
+pub fn decide_block(best: &mut Best, work: &[u64], d: Date, s: Block, rising: bool)
     requires { Span work.now d s × Row work.now d s.w rising }
     ensures { Keys dynamic (sums work.now d) d s best.new }
 {

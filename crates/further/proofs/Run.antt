@@ -1,9 +1,8 @@
 -- A run of entries that a loop stores, one each turn. Assumes nothing.
 use mathlib.Core.List.{List}
 use mathlib.Core.Logic.{inl, inr}
-use mathlib.Core.Path.{◌≡◌, refl, ap, ◌∙◌, subst}
+use mathlib.Core.Path.{◌≡◌, refl, ap, ◌∙◌}
 use Prim.Native.Nat.{ℕ, ◌+◌, ◌≤◌, ◌<◌}
-use native.Mathlib.Nat.{zero-add}
 use lib.ListN.{length, get_or, set, length-set}
 use Rattle.slices.specs.Stored.{stored, stored_next, stored_out}
 
@@ -30,7 +29,3 @@ module _ {work work' : List ℕ} {to i : ℕ} {f : ℕ → ℕ} (r : Run work wo
   -- .. and so is one before it
   pub run_before : (j : ℕ) → j < to → get_or work' j 0 ≡ get_or work j 0
   run_before j h = ap (λ (xs : List ℕ). get_or xs j 0) r.is ∙ stored_out work to f i j (inl h)
-
--- from the start of a slice
-pub run_push : {work work' : List ℕ} {i : ℕ} {f : ℕ → ℕ} → Run work work' 0 f i → (v : ℕ) → v ≡ f i → Run work (set work' i v) 0 f (i + 1)
-run_push {work} {work'} {i} {f} r v e = subst (λ (j : ℕ). Run work (set work' j v) 0 f (i + 1)) (zero-add i) (run_next r v e)

@@ -9,20 +9,17 @@ ghost use Rattle.worth.specs.Further.{further_key, Furthered};
 
 use keys::Date;
 
-// At balance 0 nothing further can be withdrawn. By index, here and below: one slice is read and written.
+// At balance 0 nothing further can be withdrawn.
 fn first_row(work: &mut [u64], d: Date)
     requires { Sums work.old d 1 }
     ensures { work.new
         ≡ stored work.old 0 (cells work.old d.base d.stride 0) d.stride }
 {
-    let base = d.base;
-    let stride = d.stride;
-    for a in 0..stride {
-        work[a] = work[base + a];
-    }
+    work.copy_within(d.base..d.base + d.stride, 0);
 }
 
-// A run of n entries: the better of what is there, with the rest of the balance, and of the entry below, one step on.
+// A run of n entries: the better of what is there, with the rest of the balance, and of the entry below, one step on. By index: one
+// slice is read and written.
 fn better_run(work: &mut [u64], to: usize, stay: usize, from: usize, n: usize, rest: u64, step: u64)
     requires { (to + n ≤ stay)
         × (stay + n ≤ length work.old)

@@ -1,4 +1,4 @@
-// The calls for a C host: numbers and slices in, numbers out. include/gmwb.h declares them.
+// The calls for a C host: numbers and slices in, numbers out, since C has no Result. include/gmwb.h declares them.
 #![tactic(auto)]
 
 ghost use Rattle.std.specs.Prelude.{◌≡◌};

@@ -6,8 +6,7 @@ ghost use Rattle.std.specs.Prelude.{◌≤◌, length, IfOk};
 use std::fs;
 use std::io::{self, Read, Write};
 
-// The start of a file, longer than any record or list that is accepted. It reads once more behind its last byte, where it is shorter
-// than the buffer.
+// The start of a file, longer than any record or list that is accepted; none of it, where a shorter file can be read on behind its end.
 fn start(rt: &HostRuntime, name: &str, bytes: &mut [u8]) -> io::Result<usize>
     ensures { IfOk result (λ n. n ≤ length bytes.new) }
 {
@@ -19,7 +18,7 @@ fn start(rt: &HostRuntime, name: &str, bytes: &mut [u8]) -> io::Result<usize>
     Ok(n)
 }
 
-// .. A file that is missing, can't be opened or can't be read to its end is empty: what is valued is a whole file.
+// That start; nothing of a file that is missing, can't be opened or can't be read to its end: what is valued is a whole file.
 fn read<'a>(rt: &HostRuntime, name: &str, bytes: &'a mut [u8; 512]) -> &'a [u8]
     ensures { length result.now ≤ 512 }
 {

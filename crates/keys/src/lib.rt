@@ -6,7 +6,8 @@ ghost use Rattle.slices.specs.Stored.{stored};
 ghost use Rattle.keys.specs.Key.{key, amount_most};
 ghost use Rattle.keys.specs.Sums.{Copying};
 
-// A date whose states are decided: its discounted sums stand from `base` on, in rows of `stride`.
+// A date whose states are decided: its discounted sums stand from `base` on, in rows of `stride`. One slice has both layers, as the C
+// interface lends it.
 #[derive(Clone, Copy)]
 pub struct Date {
     pub base: usize,
@@ -57,7 +58,8 @@ pub fn larger(held: u64, other: u64) -> u64
     held.wrapping_sub(back)
 }
 
-// The n numbers from `at` on with `add` more, for the states from `low` on. By index: one slice is read, the other written.
+// The n numbers from `at` on with `add` more, for the states from `low` on. By index: a plain loop is widened. Its parameters stay
+// apart: it is a hot loop, and a struct is no plainer.
 pub fn copy(best: &mut Best, low: usize, work: &[u64], at: usize, n: usize, add: u64)
     requires { Copying work.now low at n add }
     ensures { best.new ≡ stored best.old low (λ (i : ℕ). slice_index work.now (at + i) + add) n }

@@ -10,7 +10,7 @@ ghost use Rattle.proportion.specs.Held.{Held, raised_to, free_of, key_at, tried_
 ghost use Rattle.proportion.specs.Share.{Shared, Stepped, Sharing, Rising, Running, Leading, Bounded, Bounds, Ascending};
 ghost use Rattle.proportion.specs.Share.{left, inverse_of, least_of, bound_of};
 
-use keys::{Block, Date};
+use keys::{Best, Block, Date};
 
 // The least of some keys; where there are none, the largest number there is.
 fn least(keys: &[u64]) -> u64
@@ -70,7 +70,7 @@ impl Way {
     // An amount where the guarantee falls in proportion, for n states from state `low` on, the first with guarantee `first`. The
     // loop looks up single entries, and is not widened: an amount seldom gains, so that a branch costs less than a store. By
     // index: one slice is read, the other written.
-    fn offer(self, best: &mut [u64; 512], low: usize, n: usize, work: &[u64], first: usize)
+    fn offer(self, best: &mut Best, low: usize, n: usize, work: &[u64], first: usize)
         requires { Sharing work.now low n first self }
         ensures { best.new
             ≡ raised_to best.old low (λ (i : ℕ). slice_index work.now (self.at + left self.step (first + i)) + self.add) n }
@@ -122,7 +122,7 @@ impl Run {
 
 // A number that no state from `low` to `end` holds less than, among the first 8 of them; 0, which always is one, where the rows
 // may fall.
-fn bound_from(best: &[u64; 512], low: usize, end: usize, rising: bool) -> u64
+fn bound_from(best: &Best, low: usize, end: usize, rising: bool) -> u64
     requires { (low ≤ 1024) × (end ≤ 512) }
     ensures { result ≡ bound_of rising best.now low end }
 {
@@ -135,7 +135,7 @@ fn bound_from(best: &[u64; 512], low: usize, end: usize, rising: bool) -> u64
 }
 
 // .. one for each 8 of 32.
-fn bounds_from(best: &[u64; 512], low: usize, end: usize, rising: bool) -> [u64; 4]
+fn bounds_from(best: &Best, low: usize, end: usize, rising: bool) -> [u64; 4]
     requires { (low ≤ 512) × (end ≤ 512) }
     ensures { (p : ℕ) → p < 4 → slice_index result p ≡ bound_of rising best.now (low + 8 * p) end }
 {
@@ -158,7 +158,7 @@ impl<'a> States<'a> {
     ghost use Rattle.proportion.specs.States.{raised_by, Holding};
 
     // An amount above m, for the states of a run, if any: passed over where the last of them does not gain.
-    fn share_few(self, best: &mut [u64; 512], r: Run, to: Way)
+    fn share_few(self, best: &mut Best, r: Run, to: Way)
         requires { Running self.d self.s r
             × Bounded self.work.now self.d self.s (λ (j : ℕ). slice_index best.old j) r
             × Leading self.d self.s to }
@@ -173,7 +173,7 @@ impl<'a> States<'a> {
     }
 
     // .. for a run of up to 32 states: passed over for all of them, or 8 at a time.
-    fn share_amount(self, best: &mut [u64; 512], r: Run, bounds: &[u64; 4], to: Way)
+    fn share_amount(self, best: &mut Best, r: Run, bounds: &[u64; 4], to: Way)
         requires { Running self.d self.s r
             × (r.low < r.end)
             × Bounds self.work.now self.d self.s (λ (j : ℕ). slice_index best.old j) r bounds.now
@@ -188,7 +188,7 @@ impl<'a> States<'a> {
     }
 
     // The amounts above m, for 32 states from state `low` on.
-    fn share_run(self, best: &mut [u64; 512], low: usize)
+    fn share_run(self, best: &mut Best, low: usize)
         requires { Holding self best.old low × (self.s.w < self.s.from + low) × (low < self.s.n) }
         ensures { Holding self.entry best.new (min self.entry.s.n (low + 32)) }
     {
@@ -208,7 +208,7 @@ impl<'a> States<'a> {
 }
 
 // The amounts above m where the account is below the guarantee.
-pub fn share_block(best: &mut [u64; 512], work: &[u64], d: Date, s: Block, rising: bool)
+pub fn share_block(best: &mut Best, work: &[u64], d: Date, s: Block, rising: bool)
     requires { Span work.now d s
         × Held (key_at work.now d s) best.old s.n (tried_below d s (min s.n (s.w + 1 - s.from)))
         × (rising ≡ true → Rising (cells work.now d.base d.stride) d.stride (s.w + 1)) }
@@ -246,7 +246,8 @@ fn ascends(work: &[u64], at: usize, n: usize) -> bool
     falls == 0
 }
 
-// Whether each of n rows rises with the guarantee: tested, so that nothing here rests on the rules of a date.
+// Whether each of n rows rises with the guarantee: tested, so that nothing here rests on the rules of a date. No `all`: tried, but its
+// closure has to say again what `ascends` requires, which is no plainer.
 pub fn rises(work: &[u64], d: Date, n: usize) -> bool
     requires { Sums work.now d n }
     ensures { (result ≡ true → Rising (cells work.now d.base d.stride) d.stride n)

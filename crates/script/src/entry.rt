@@ -32,7 +32,7 @@ impl Entry for u8 {
     ghost positive = { lit< tt };
 
     fn of(x: u64) -> u8 {
-        (x % 251) as u8
+        (x % Self::PRIME) as u8
     }
 
     fn wide(self) -> u64 {
@@ -48,7 +48,7 @@ impl Entry for u16 {
     ghost positive = { lit< tt };
 
     fn of(x: u64) -> u16 {
-        (x % 65521) as u16
+        (x % Self::PRIME) as u16
     }
 
     fn wide(self) -> u64 {
@@ -64,7 +64,7 @@ impl Entry for u64 {
     ghost positive = { lit< tt };
 
     fn of(x: u64) -> u64 {
-        x % 18446744073709551557
+        x % Self::PRIME
     }
 
     fn wide(self) -> u64 {

@@ -31,7 +31,7 @@ const NOTHING: Valuation = Valuation {
     margin: 0,
 };
 
-// How many entries of the table count as the last table.
+// How many entries of the table count as the last table. Apart from them: beside a ghost field an array can't be lent in part.
 #[derive(Clone, Copy)]
 pub struct Held {
     pub entries: usize,
@@ -52,7 +52,7 @@ pub struct Desk {
     pub table: Table,
 }
 
-// Number and place, 0 and 0 where nothing is refused.
+// Number and place as answers print them, 0 and 0 where nothing is refused; gmwb tells them likewise, but to C.
 #[derive(Drop)]
 struct Outcome {
     number: u32,
@@ -80,6 +80,7 @@ impl Display for Outcome {
     }
 }
 
+// The line of an answer; nothing if it were longer than a text, which none is.
 fn line(told: impl Display + Drop) -> Option<Text> {
     let mut text = Text::new();
     writeln!(text, "{told}").ok()?;

@@ -1,6 +1,6 @@
 -- The first index that passes a test, if any. Assumes nothing.
 use Rattle.std.specs.Prelude.{Bool, true, false, cond, not, ◌≡◌, refl, ℕ, ◌≤◌, ◌<◌, ltb, T, Option, None, Some}
-use Rattle.std.proofs.Common.{sym, subst, ◌∙◌, le-ltb, lt-ltb, nltb→le, ltb→lt, arith}
+use Rattle.std.proofs.Common.{sym, subst, le-ltb, lt-ltb, nltb→le, ltb→lt, arith}
 use Rattle.decision.specs.Index.{first, Searched, search_hit, search_end}
 
 unfoldable pub found : (ℕ → Bool) → ℕ → Option ℕ

@@ -10,10 +10,9 @@ pub fn first<F: Fn(usize) -> bool>(n: usize, test: F) -> Option<usize>
     requires { (k : ℕ) → k < n → F.pre test k }
     ensures { (p : ℕ → Bool) → ((k : ℕ) (b : Bool) → k < n → F.post test k b → b ≡ p k) → result ≡ found p n }
 {
-    for k in 0..n {
-        if test(k) {
-            return Some(k);
-        }
-    }
-    None
+    (0..n).find(
+        |&k|
+            requires { F.pre test k }
+        { test(k) },
+    )
 }

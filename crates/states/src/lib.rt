@@ -13,12 +13,12 @@ ghost use Rattle.states.specs.Decided.{Ready, Deciding, Prepared, Decided, Turne
 use date::Behaviour;
 use keys::{BLOCK, Best, Block, Date};
 
-// How a date's states are decided: whether the dynamic behaviour may pass amounts over, too.
+// How a date's states are decided. `rising` is of the dynamic behaviour alone: in the enum it would be of the rules' behaviour, too.
 #[derive(Clone, Copy)]
 struct States {
-    pub behaviour: Behaviour,
-    pub d: Date,
-    pub rising: bool,
+    behaviour: Behaviour,
+    d: Date,
+    rising: bool,
 }
 
 // The amounts of n keys, to the entries from `at` on. By index, here and below: plain loops are widened.
@@ -31,7 +31,7 @@ fn take_amounts(best: &Best, table: &mut [u16], at: usize, n: usize)
     }
 }
 
-// .. and their values: of another part of a key, and of another type.
+// .. and their values: of another part of a key and another type, so that one function for both is no plainer.
 fn take_values(best: &Best, work: &mut [u64], at: usize, n: usize)
     requires { (n ≤ 512) × (at + n ≤ length work.old) }
     ensures { work.new ≡ stored work.old at (λ (j : ℕ). get_or best.now j 0 / 8192) n }

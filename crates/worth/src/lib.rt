@@ -1,2 +1,2 @@
-// Facts about slices of any number width, whose contents are lists of numbers: in specs/.
+// What an amount is worth, and the best of them: the definitions and theorems are in specs/.
 #![tactic(auto)]

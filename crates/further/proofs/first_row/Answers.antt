@@ -1,19 +1,25 @@
 -- `further::first_row` meets its contract. Assumes nothing.
-use Prim.Native.Nat.{ℕ, ◌+◌, ◌*◌}
+use Prim.Native.Nat.{ℕ, ◌+◌, ◌≤◌, ◌<◌}
 use lib.ListN.{get_or}
+use mathlib.Core.Logic.{◌⊎◌, inl, inr}
 use mathlib.Core.Path.{◌≡◌, ap, ◌∙◌}
 use native.Mathlib.Omega.{arith}
-use Rattle.further.proofs.Run.{run_none, run_push, run_out}
+use Rattle.slices.specs.Rows.{cells}
+use Rattle.slices.specs.Stored.{is_stored}
 use Rattle.further.proofs.first_row.Goals as goal
 
-pub loop-a-init : goal.loop-a-init
-loop-a-init c = (omega arith, run_none)
-
-pub loop-a-preserved : goal.loop-a-preserved
-loop-a-preserved c =
-    let args = c.args in
-    let loop = c.loop-a in
-    let a = loop.a in
-    let z : args.d.base + a ≡ args.d.base + (0 * args.d.stride + a) = omega arith in
-    let read = run_out loop.invariant.1 (args.d.base + a) (omega arith) ∙ ap (λ (j : ℕ). get_or args.work.now j 0) z in
-    (omega arith, run_push loop.invariant.1 _ read)
+pub returns : goal.returns
+returns c =
+    let work = c.args.work.now in
+    let d = c.args.d in
+    let now = c.copy_within.new.self in
+    let e = c.copy_within.ensures in
+    let inside : (k : ℕ) → k < d.stride → get_or now (0 + k) 0 ≡ cells work d.base d.stride 0 k =
+    λ k h. e.by_index.0 (0 + k) 0 (omega arith) (omega arith) ∙ ap (λ (j : ℕ). get_or work j 0) (omega arith) in
+    let outside : (j : ℕ) → (j < 0) ⊎ (0 + d.stride ≤ j) → get_or now j 0 ≡ get_or work j 0 =
+    λ j o. e.by_index.2 j 0 (let h = above j d.stride o in omega arith) in
+    is_stored work now 0 (cells work d.base d.stride 0) d.stride e.len (let r = c.requires.room in omega arith) inside outside
+  where
+    above : (j n : ℕ) → (j < 0) ⊎ (0 + n ≤ j) → 0 + n ≤ j
+    above j n (inl l) = omega arith
+    above j n (inr l) = l

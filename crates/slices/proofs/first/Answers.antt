@@ -1,19 +1,19 @@
 -- `slices::first` meets its contract. Assumes nothing.
-use Rattle.std.proofs.Common.{sym, ◌∙◌}
-use Rattle.decision.specs.Index.{search_none, search_more}
-use Rattle.slices.specs.Found.{found_hit, found_none}
+use Rattle.std.proofs.Common.{◌≡◌, ℕ, ◌≤◌, ◌<◌, Bool, true, false, Option, None, Some, sym, arith, rules}
+use Rattle.std.specs.Prelude.{MatchOption}
+use Rattle.std.proofs.lemmas.Iterator.{first_from_Range}
+use Rattle.slices.specs.Found.{found, found_hit, found_none}
 use Rattle.slices.proofs.first.Goals as goal
 
-pub loop-k-init : goal.loop-k-init
-loop-k-init over c = λ test same. search_none _ _
-
-pub returns-then-test : goal.returns-then-test
-returns-then-test over c = λ test same.
-    found_hit (c.loop-k.invariant test same) c.loop-k-test.true (sym (same _ _ c.loop-k-test.true c.test.ensures) ∙ c.if-test.true)
-
-pub loop-k-preserved : goal.loop-k-preserved
-loop-k-preserved over c = λ test same.
-    search_more (c.loop-k.invariant test same) c.loop-k-test.true (sym (same _ _ c.loop-k-test.true c.test.ensures) ∙ c.if-test.false)
+-- what `find` finds
+is_found : (p : ℕ → Bool) (n : ℕ) (r : Option ℕ) → MatchOption r ((k : ℕ) → 0 ≤ k → k < n → k < n → p k ≡ false)
+    (λ i. (0 ≤ i) × (i < n) × (i < n → p i ≡ true) × ((k : ℕ) → 0 ≤ k → k < i → k < n → p k ≡ false)) → r ≡ found p n
+is_found p n None h = found_none (record { within = omega arith; passed = λ j l. h j (omega arith) l l }) (omega arith)
+is_found p n (Some i) h =
+    found_hit (record { within = omega (arith, h.1); passed = λ j l. h.3 j (omega arith) l (omega (arith, h.1)) }) h.1 (h.2 h.1)
 
 pub returns : goal.returns
-returns over c = λ test same. found_none (c.loop-k.invariant test same) c.loop-k-test.false
+returns g c = λ p same.
+    let n = c.args.n in
+    is_found p n _ (first_from_Range _ _ _ _ (λ i. i < n → p i ≡ true) (λ i. i < n → p i ≡ false) c.find.ensures.ran
+    (λ x q k h. sym (same x true h (search rules))) (λ x q k. (search rules, λ h. sym (same x false h (search rules)))))
