@@ -46,8 +46,8 @@ fn each(row: &[u16], account: u16) -> u64
     ensures { result ≡ from_bits (draws row.now account) (length row.now) }
 {
     let mut bits: u64 = 0;
-    for k in (0..row.len()).rev() {
-        bits = 2 * bits + u64::from(row[k] == account);
+    for &t in row.iter().rev() {
+        bits = 2 * bits + u64::from(t == account);
     }
     bits
 }
