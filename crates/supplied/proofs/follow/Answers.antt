@@ -28,7 +28,8 @@ settle-requires c =
     let pre = c.requires in
     let given = c.args.policy.given in
     let sorted = part_sorted c.sort-count.ensures in
-    let valued = first_from_lem _ (rw c.stride.ensures at c.fill_maturity.ensures) (of_the_list _ table₀ sorted.same c.follow_dates.ensures) in
+    let mature = rw c.stride.ensures at c.fill_maturity.ensures in
+    let valued = first_from_lem _ mature (of_the_list _ table₀ sorted.same c.follow_dates.ensures) in
     settling given.valid.terms pre.room valued
     (λ w a. table_on_most _ _ table₀ given.valid pre.none_bad 1 w a (omega arith) given.valid.terms.dates_least)
 
@@ -36,5 +37,6 @@ pub returns : goal.returns
 unfolding layer_size
 returns c =
     let sorted = part_sorted c.sort-count.ensures in
-    let valued = first_from_lem _ (rw c.stride.ensures at c.fill_maturity.ensures) (of_the_list _ c.args.table.now sorted.same c.follow_dates.ensures) in
+    let mature = rw c.stride.ensures at c.fill_maturity.ensures in
+    let valued = first_from_lem _ mature (of_the_list _ c.args.table.now sorted.same c.follow_dates.ensures) in
     answered_accepted _ _ c.requires.room (c.args.policy.given.valid.rates.rate 0) valued c.settle.ensures

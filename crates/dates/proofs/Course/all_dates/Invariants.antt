@@ -11,8 +11,7 @@ abbrev pub invariant-loop-i : goal.invariant-loop-i
 invariant-loop-i l =
     (0 < l.i) × (l.i ≤ l.self.contract.dates)
     × Valued (behaviour_in l.behaviour) (terms_in l.self.contract) (in_order l.self.order.now) (rates_of l.self.rates.now)
-    l.initial.work l.initial.table
-    l.work l.table (l.i - 1)
+    l.initial.work l.initial.table l.work l.table (l.i - 1)
 
 abbrev pub decreases-loop-i : goal.decreases-loop-i
 decreases-loop-i l = l.i
