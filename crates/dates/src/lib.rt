@@ -17,7 +17,7 @@ use contract::Contract;
 use date::Behaviour;
 use keys::Date;
 
-// The maturity values of account w. By index: `enumerate` gives a, too, but is no plainer.
+// The maturity values of account w. By index: it is the guarantee, too; `enumerate` would need the row cut out first.
 fn maturity_row(work: &mut [u64], stride: usize, w: usize)
     requires { (w ≤ top_most) × (stride ≤ top_most + 1) × (w * stride + stride ≤ length work.old) }
     ensures { work.new ≡ stored work.old (w * stride) (maturity_value w) stride }
@@ -44,7 +44,8 @@ pub fn clear(work: &mut [u64], from: usize, n: usize)
     work[from..from + n].fill(0);
 }
 
-// Where a part of the table starts and ends. No Range: contracts here, in `supplied` and in `walk` name both ends.
+// Where a part of the table starts and ends. No Range: it is no Copy, and `supplied::first_bad` reads `from` behind
+// the slice, too.
 #[derive(Clone, Copy)]
 pub struct Part {
     pub from: usize,

@@ -13,6 +13,7 @@ ghost use Rattle.dynamic.specs.Block.{Offering, Alike, Row};
 use keys::{Best, Block, Date};
 
 // Numbers from `at` on, each with `add` more, for n states from state `low` on. By index: a plain loop is widened.
+// Beside keys::copy, which compares nothing with what is held.
 fn offer(best: &mut Best, low: usize, work: &[u64], at: usize, n: usize, add: u64)
     requires { Offering best.old work.now low at n add }
     ensures { best.new ≡ raised_to best.old low (λ (i : ℕ). get_or work.now (at + i) 0 + add) n }

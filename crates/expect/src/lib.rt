@@ -39,7 +39,8 @@ impl Average {
     }
 }
 
-// The value that group k reaches with guarantee a. Work and groups stay apart, here and below: a struct of both is no plainer.
+// The value that group k reaches with guarantee a. Work and groups stay apart, here and below: work is written
+// between runs.
 fn reached(work: &[u64], groups: &Groups, k: usize, a: usize) -> u64
     requires { (k < returns_most) × (get_or groups.now.starts k 0 + a < length work.now) }
     ensures { result ≡ get_or work.now (get_or groups.now.starts k 0 + a) 0 }
@@ -81,6 +82,7 @@ fn eight_products(work: &[u64], groups: &Groups, k: usize, a: usize) -> usize
 }
 
 // Eight groups, for n guarantees: one load and one store of a sum for eight products. By index, here and below: plain loops are widened.
+// `sums` is lent whole, with n beside: an array's length is known by its type.
 fn add_eight(
     sums: &mut [usize; 512],
     work: &[u64],
@@ -252,7 +254,7 @@ fn first_reached(work: &[u64], list: &[u8], rate: usize, c: Contract, k: usize) 
     paid + date::death_share(rate, value, payment)
 }
 
-// The discounted sum over the first return, from balance and guarantee U.
+// The discounted sum over the first return, from balance and guarantee U. By index, as input::total_weight.
 pub fn start_value(work: &[u64], list: &[u8], rate: usize, c: Contract) -> u64
     requires { Starting (terms_in c) rate work.now list.now }
     ensures { (result

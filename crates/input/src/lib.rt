@@ -30,7 +30,7 @@ pub struct Agreement<'a> {
     pub ghost returns: { ValidReturns (returns_of list.now) },
 }
 
-// .. and its death rates, which stay in theirs. The fields are told again, since `given` is of all three.
+// .. and its death rates, which stay in theirs. Agreement's fields are told again: one within would make each path longer.
 #[derive(Clone, Copy)]
 pub struct Policy<'a> {
     pub contract: Contract,
@@ -39,7 +39,7 @@ pub struct Policy<'a> {
     pub ghost given: { Given (terms_in contract) list.now rates.now },
 }
 
-// The factor of return k.
+// The factor of return k. Its bounds stay numbers, here and below: a list is read before it is accepted, too.
 pub fn factor_of(list: &[u8], k: usize) -> usize
     requires { (k < returns_most) × (return_bytes * k + 4 ≤ length list.now) }
     ensures { (result ≡ (returns_of list.now).factor k) × (result < 65536) }

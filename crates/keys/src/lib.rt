@@ -39,7 +39,7 @@ pub struct Block {
     pub n: usize,
 }
 
-// The key of amount t, worth `value`.
+// The key of amount t, worth `value`. One number and no struct with an order: the loops that compare keys are widened.
 pub fn key(value: usize, t: usize) -> u64
     requires { (value ≤ 40000000) × (t ≤ amount_most) }
     ensures { (result ≡ key value t) × (result ≤ 327680008191) }
@@ -59,7 +59,7 @@ pub fn larger(held: u64, other: u64) -> u64
 }
 
 // The n numbers from `at` on with `add` more, for the states from `low` on. By index: a plain loop is widened. Its parameters stay
-// apart: it is a hot loop, and a struct is no plainer.
+// apart, as in mixed and dynamic: each call would make a struct of its own.
 pub fn copy(best: &mut Best, low: usize, work: &[u64], at: usize, n: usize, add: u64)
     requires { Copying work.now low at n add }
     ensures { best.new ≡ stored best.old low (λ (i : ℕ). slice_index work.now (at + i) + add) n }

@@ -14,7 +14,7 @@ use date::Behaviour;
 use keys::{Best, Block, Date};
 
 // The n numbers from `at` on with `add` more, but no less than `other`, for the states from `low` on.
-// Beside keys::copy, which compares nothing: one loop for both is no plainer.
+// Beside keys::copy, which compares nothing: one loop for both is no plainer. By index, as there.
 fn copy_larger(best: &mut Best, low: usize, work: &[u64], at: usize, n: usize, add: u64, other: u64)
     requires { Copying work.now low at n add × (other < 2 ^ 63) }
     ensures { best.new ≡ stored best.old low (λ (i : ℕ). max (get_or work.now (at + i) 0 + add) other) n }
@@ -24,7 +24,7 @@ fn copy_larger(best: &mut Best, low: usize, work: &[u64], at: usize, n: usize, a
     }
 }
 
-// The states of a block over the sums of their date.
+// The states of a block over the sums of their date. Beside dynamic's and proportion's, of which other facts are held.
 #[derive(Clone, Copy)]
 struct States<'a> {
     behaviour: Behaviour,

@@ -69,7 +69,7 @@ impl Way {
 
     // An amount where the guarantee falls in proportion, for n states from state `low` on, the first with guarantee `first`. The
     // loop looks up single entries, and is not widened: an amount seldom gains, so that a branch costs less than a store. By
-    // index: one slice is read, the other written.
+    // index, as the contract counts the states: `product` is that of guarantee `first + i`.
     fn offer(self, best: &mut Best, low: usize, n: usize, work: &[u64], first: usize)
         requires { Sharing work.now low n first self }
         ensures { best.new

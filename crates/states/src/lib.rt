@@ -84,7 +84,8 @@ impl States {
         }
     }
 
-    // The states of a block, each key taken apart: the amounts as far as the table goes.
+    // The states of a block, each key taken apart: the amounts as far as the table goes. Keys, slice and table stay apart, here and
+    // below: the contracts speak of each before and after.
     fn decide_block(self, best: &mut Best, work: &mut [u64], table: &mut [u16], s: Block)
         requires { Deciding self work.old s }
         ensures { Turned self work.old table.old work.new table.new

@@ -43,7 +43,7 @@ fn first_in_layer(layer: &[u16], c: Contract) -> Option<usize>
     slices::first(layer.len(), |e| bad_entry(layer, c, e))
 }
 
-// The first bad entry of the table, if any: date by date, each in its own layer. A `find_map` is no plainer.
+// The first bad entry of the table, if any: date by date, each in its own layer. A `find_map` would hold the same in a closure.
 fn first_bad(table: &[u16], c: Contract) -> Option<usize>
     requires { table_size (terms_in c) ≤ length table.now }
     ensures { result ≡ found (bad_in (terms_in c) table.now) (table_size (terms_in c)) }
@@ -125,7 +125,7 @@ fn too_short(c: Contract, work: &[u64], table: &[u16]) -> bool
     work.len() < c.work_size() || table.len() < c.table_size()
 }
 
-// The value of a table whose entries are all admissible.
+// The value of a table whose entries are all admissible. Beside valuing::valued, for the reason at follow_dates.
 fn follow(policy: Policy, work: &mut [u64], table: &[u16]) -> Valuation
     requires { Checked (terms_in policy.contract) work.old table.now }
     ensures { Answered (terms_in policy.entry.contract) (returns_of policy.entry.list.now) (rates_of policy.entry.rates.now)

@@ -128,7 +128,7 @@ pub fn value(
     Ok(valued(policy, behaviour, work, table))
 }
 
-// .. with no table: a call of its own, as the C interface has. An Option of a table would be matched in both checks.
+// .. with no table: a call of its own, as the C interface has, since `value` refuses a table that is too short.
 pub fn value_no_table(
     input: Input,
     behaviour: usize,

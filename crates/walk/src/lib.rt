@@ -23,12 +23,13 @@ use input::Agreement;
 // The account and guarantee that are met, and what is paid on arrival there.
 #[derive(Clone, Copy)]
 struct Place {
-    pub account: usize,
-    pub guarantee: usize,
-    pub paid: usize,
+    account: usize,
+    guarantee: usize,
+    paid: usize,
 }
 
-// A contract, its returns, a table and a path that can be walked: only the amounts are still to be looked at.
+// A contract, its returns, a table and a path that can be walked: only the amounts are still to be looked at. Agreement's fields are
+// told again: one within would make each path longer.
 #[derive(Clone, Copy)]
 struct Walkable<'a> {
     contract: Contract,
@@ -45,7 +46,7 @@ fn too_short(c: Contract, table: &[u16], cash: &[u64]) -> bool
     table.len() < c.table_size() || cash.len() < c.dates
 }
 
-// The first number on the path that no return has, if any.
+// The first number on the path that no return has, if any. By index: `found` is of a test on numbers.
 fn first_missing(path: &[u16], count: usize, n: usize) -> Option<usize>
     requires { n ≤ length path.now }
     ensures { result ≡ found (λ (j : ℕ). leb count (get_or path.now j 0)) n }
