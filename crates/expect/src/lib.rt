@@ -121,11 +121,8 @@ fn add_all(sums: &mut [usize; 512], work: &[u64], groups: &Groups, from: usize, 
     ensures { Summed work.now groups.now sums.new from n groups.now.count }
 {
     set_eight(sums, work, groups, from, n);
-    // No `step_by`, here and below: tried, and it costs some 40 instructions a turn, where a row may have 20 guarantees.
-    let mut k: usize = 8;
-    while k < groups.count {
+    for k in (8..groups.count).step_by(8) {
         add_eight(sums, work, groups, k, from, n);
-        k += 8;
     }
 }
 
@@ -205,11 +202,9 @@ fn expect_row(
         (groups.now.paid + sum (term work.old groups.now a) groups.now.count))
         stride }
 {
-    let mut from: usize = 0;
-    while from < stride {
+    for from in (0..stride).step_by(512) {
         let n = usize::min(512, stride - from);
         expect_run(work, sums, groups, average, Part { to, from, n });
-        from += n;
     }
 }
 

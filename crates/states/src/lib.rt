@@ -120,8 +120,7 @@ impl States {
         }
     }
 
-    // The states of account w, 512 at a time. Inlined, so that each behaviour has a loop of its own: a row may have 20 guarantees.
-    #[inline(always)]
+    // The states of account w, 512 at a time.
     fn decide_row(self, best: &mut Best, work: &mut [u64], table: &mut [u16], w: usize)
         requires { Ready self work.old w }
         ensures { Turned self work.old table.old work.new table.new

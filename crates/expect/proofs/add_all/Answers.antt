@@ -41,3 +41,13 @@ returns c =
     let loop = c.loop-k in
     let e : loop.k ≡ args.groups.now.count = omega arith in
     subst (Summed args.work.now args.groups.now loop.sums args.from args.n) e loop.invariant.2
+
+pub returns-2 : goal.returns-2
+returns-2 c =
+    let args = c.args in
+    let loop = c.loop-k in
+    let run = c.requires.0 in
+    let fits = left _ _ c.loop-k-test.true loop.invariant.1 c.requires.1.whole in
+    let e : loop.k + 8 ≡ args.groups.now.count = omega arith in
+    subst (Summed args.work.now args.groups.now c.add_eight.new.sums args.from args.n) e
+    (summed_more (loop.k + 8) _ loop.invariant.2 c.add_eight.ensures (omega (arith, run.short)) (λ j. sum_append _ loop.k 8))

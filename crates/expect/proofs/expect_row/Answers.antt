@@ -20,9 +20,10 @@ expect_run-requires c =
 pub loop-from-preserved : goal.loop-from-preserved
 loop-from-preserved c =
     let loop = c.loop-from in
-    let e = c.min-n.ensures in (
+    let e : loop.from + c.min-n.result ≡ loop.from + 512 = omega (arith, c.min-n.ensures) in (
       omega arith,
-      row_more c.requires c.args.average.discount loop.from c.min-n.result (omega arith) loop.invariant.1 c.expect_run.ensures,
+      row_more c.requires c.args.average.discount loop.from c.min-n.result (omega arith) loop.invariant.1 c.expect_run.ensures
+          ∙ ap (stored c.args.work.now c.args.to _) e,
     )
 
 pub returns : goal.returns
@@ -30,3 +31,10 @@ returns c =
     let loop = c.loop-from in
     let e : loop.from ≡ c.args.stride = omega arith in
     loop.invariant.1 ∙ ap (stored c.args.work.now c.args.to _) e
+
+pub returns-2 : goal.returns-2
+returns-2 c =
+    let loop = c.loop-from in
+    let e : loop.from + c.min-n.result ≡ c.args.stride = omega (arith, c.min-n.ensures) in
+    row_more c.requires c.args.average.discount loop.from c.min-n.result (omega arith) loop.invariant.1 c.expect_run.ensures
+    ∙ ap (stored c.args.work.now c.args.to _) e
