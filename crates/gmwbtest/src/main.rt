@@ -44,12 +44,19 @@ fn main(rt: HostRuntime) -> io::Result<()> {
         return Ok(());
     };
     let mut text = [0u8; 65536];
+    let mut work: [u64; 65536] = [0; 65536];
+    let mut entries: [u16; 65536] = [0; 65536];
+    let held = Held {
+        entries: 0,
+        room: 65536,
+    };
+    let table = Table {
+        entries: &mut entries[..],
+        held,
+    };
     let mut desk = Desk {
-        work: [0; 65536],
-        table: Table {
-            entries: [0; 65536],
-            held: Held { entries: 0 },
-        },
+        work: &mut work[..],
+        table,
     };
     run(&mut file, &mut rt.stdout(), &mut text, &mut desk)
 }

@@ -3,7 +3,7 @@
 // compared with the second program's answers. Entries one by one are read for 16-bit slices only.
 #![tactic(auto)]
 
-ghost use Rattle.std.specs.Prelude.{◌≤◌};
+ghost use Rattle.std.specs.Prelude.{◌≡◌, ◌≤◌, length};
 
 mod entry;
 mod words;
@@ -23,33 +23,32 @@ use words::{decimal, hex, numbers, parts, slice};
 // A line's answer: at most 160 bytes.
 pub type Text = ArrayString<160>;
 
-// The entries of the longest slices.
-const ENTRIES: usize = 65536;
-
 const NOTHING: Valuation = Valuation {
     value: 0,
     margin: 0,
 };
 
-// How many entries of the table count as the last table. Apart from them: beside a ghost field an array can't be lent in part.
+// How many entries of a table, of those there is room for, count as the last table. Apart from them: beside a ghost field a slice
+// can't be lent in part.
 #[derive(Clone, Copy)]
 pub struct Held {
     pub entries: usize,
-    pub ghost in_table: { entries ≤ 65536 },
+    pub room: usize,
+    pub ghost in_table: { entries ≤ room },
 }
 
 // The last table: the entries held, the first of those there is room for.
 #[derive(Drop)]
-pub struct Table {
-    pub entries: [u16; ENTRIES],
+pub struct Table<'a> {
+    pub entries: &'a mut [u16],
     pub held: Held,
 }
 
 // What a line is answered with: room for a working slice, and the last table.
 #[derive(Drop)]
-pub struct Desk {
-    pub work: [u64; ENTRIES],
-    pub table: Table,
+pub struct Desk<'a> {
+    pub work: &'a mut [u64],
+    pub table: Table<'a>,
 }
 
 // Number and place as answers print them, 0 and 0 where nothing is refused; gmwb tells them likewise, but to C.
@@ -87,10 +86,21 @@ fn line(told: impl Display + Drop) -> Option<Text> {
     Some(text)
 }
 
-impl Table {
-    fn last(&mut self) -> &mut [u16] {
+impl Table<'_> {
+    fn last(&mut self) -> Option<&mut [u16]> {
         let held = self.held.entries;
-        &mut self.entries[..held]
+        self.entries.get_mut(..held)
+    }
+
+    // The first `entries`, as far as there is room.
+    fn hold(&mut self, entries: usize)
+        ensures { self.new.held.room ≡ length self.new.entries.now }
+    {
+        let room = self.entries.len();
+        self.held = Held {
+            entries: usize::min(entries, room),
+            room,
+        };
     }
 
     // I:V, entry I of the last table set to V.
@@ -99,7 +109,7 @@ impl Table {
         let [i, v] = parts.as_slice() else {
             return None;
         };
-        *self.last().get_mut(decimal(i)? as usize)? = u16::try_from(decimal(v)?).ok()?;
+        *self.last()?.get_mut(decimal(i)? as usize)? = u16::try_from(decimal(v)?).ok()?;
         Some(())
     }
 
@@ -109,11 +119,12 @@ impl Table {
             b"=" => (),
             [b'=', damage @ ..] => self.damage(damage)?,
             _ => {
-                let entries = numbers(word, &mut self.entries)?.len();
-                self.held = Held { entries };
+                let room = self.entries.len();
+                let entries = numbers(word, self.entries)?.len();
+                self.held = Held { entries, room };
             }
         }
-        Some(self.last())
+        self.last()
     }
 }
 
@@ -184,14 +195,14 @@ fn book(words: &[&[u8]]) -> Option<Text> {
     line(format_args!("{} {}", Outcome::of(&told), digest(buffer)))
 }
 
-impl Desk {
+impl Desk<'_> {
     fn value(&mut self, words: &[&[u8]]) -> Option<Text> {
         let [record, list, rates, behaviour, work, table] = words else {
             return None;
         };
         let bytes = Bytes::read(record, list, rates)?;
         let behaviour = decimal(behaviour)? as usize;
-        let work = slice(work, &mut self.work)?;
+        let work = slice(work, self.work)?;
         let table = self.table.read(table)?;
         let told = valuing::value(bytes.input(), behaviour, work, table);
         let outcome = Outcome::of(&told);
@@ -209,7 +220,7 @@ impl Desk {
         };
         let bytes = Bytes::read(record, list, rates)?;
         let behaviour = decimal(behaviour)? as usize;
-        let work = slice(work, &mut self.work)?;
+        let work = slice(work, self.work)?;
         let told = valuing::value_no_table(bytes.input(), behaviour, work);
         let outcome = Outcome::of(&told);
         let Valuation { value, margin } = told.unwrap_or(NOTHING);
@@ -222,7 +233,7 @@ impl Desk {
         };
         let bytes = Bytes::read(record, list, rates)?;
         let behaviour = decimal(behaviour)? as usize;
-        let work = slice(work, &mut self.work)?;
+        let work = slice(work, self.work)?;
         let table = self.table.read(table)?;
         let mut room = [0u64; 2048];
         let map = slice(map, &mut room)?;
@@ -248,7 +259,7 @@ impl Desk {
         let bytes = Bytes::read(record, list, rates)?;
         let behaviour = decimal(behaviour)? as usize;
         let wanted = decimal(wanted)?;
-        let work = slice(work, &mut self.work)?;
+        let work = slice(work, self.work)?;
         let told = pricing::find_fee(bytes.input(), behaviour, wanted, work);
         let outcome = Outcome::of(&told);
         let Priced { valuation, fee } = told.unwrap_or(Priced {
@@ -264,7 +275,7 @@ impl Desk {
             return None;
         };
         let bytes = Bytes::read(record, list, rates)?;
-        let work = slice(work, &mut self.work)?;
+        let work = slice(work, self.work)?;
         let table = self.table.read(table)?;
         let told = supplied::value(bytes.input(), work, table);
         let outcome = Outcome::of(&told);
@@ -285,7 +296,7 @@ impl Desk {
         let table = self.table.read(table)?;
         let mut room = [0u16; 64];
         let path = numbers(path, &mut room)?;
-        let cash = slice(cash, &mut self.work)?;
+        let cash = slice(cash, self.work)?;
         let told = walk::walk(record.as_slice(), list.as_slice(), table, path, cash);
         line(format_args!("{} {} {}", Outcome::of(&told), digest(table), digest(cash)))
     }
@@ -308,8 +319,8 @@ impl Desk {
         }
     }
 
-    // Answers a line; a blank line and a comment get no answer, and a line that is not understood leaves no table.
-    pub fn answer(&mut self, line: &[u8]) -> Text {
+    // A blank line and a comment get no answer, and a line that is not understood leaves no table.
+    fn answered(&mut self, line: &[u8]) -> Text {
         let mut text = Text::new();
         if matches!(line, [] | [b'#', ..]) {
             return text;
@@ -317,8 +328,18 @@ impl Desk {
         if let Some(told) = self.told(line) {
             return told;
         }
-        self.table.held = Held { entries: 0 };
+        self.table.hold(0);
         text.push_str("error\n");
+        text
+    }
+
+    // Answers a line. The last table is then no longer than its slice.
+    pub fn answer(&mut self, line: &[u8]) -> Text
+        ensures { self.new.table.held.room ≡ length self.new.table.entries.now }
+    {
+        let text = self.answered(line);
+        let held = self.table.held.entries;
+        self.table.hold(held);
         text
     }
 }
