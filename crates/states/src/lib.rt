@@ -74,6 +74,7 @@ fn static_block(work: &mut [u64], table: &mut [u16], d: Date, s: Block)
 
 impl States {
     // The keys of a block, whatever was there.
+    #[inline(always)]
     fn decide_keys(self, best: &mut Best, work: &[u64], s: Block)
         requires { Deciding self work.now s }
         ensures { Keys (behaviour_in self.behaviour) (sums work.now self.d) self.d s best.new }
@@ -85,7 +86,9 @@ impl States {
     }
 
     // The states of a block, each key taken apart: the amounts as far as the table goes. Keys, slice and table stay apart, here and
-    // below: the contracts speak of each before and after.
+    // below: the contracts speak of each before and after. Inlined, as what follows: each behaviour then has a loop of its own, and
+    // rows may be short.
+    #[inline(always)]
     fn decide_block(self, best: &mut Best, work: &mut [u64], table: &mut [u16], s: Block)
         requires { Deciding self work.old s }
         ensures { Turned self work.old table.old work.new table.new
@@ -109,6 +112,7 @@ impl States {
         }
     }
 
+    #[inline(always)]
     fn decide_next(self, best: &mut Best, work: &mut [u64], table: &mut [u16], s: Block)
         requires { Deciding self work.old s }
         ensures { Turned self work.old table.old work.new table.new
@@ -121,6 +125,7 @@ impl States {
     }
 
     // The states of account w, 512 at a time.
+    #[inline(always)]
     fn decide_row(self, best: &mut Best, work: &mut [u64], table: &mut [u16], w: usize)
         requires { Ready self work.old w }
         ensures { Turned self work.old table.old work.new table.new

@@ -26,14 +26,19 @@ use input::{Input, Policy};
 use keys::Date;
 use valuing::Valuation;
 
-// Refusal 14 of entry e of a date's layer.
+// Refusal 14 of entry e of a date's layer. The account first: few amounts are above it, and m waits for a remainder.
 fn bad_entry(layer: &[u16], c: Contract, e: usize) -> bool
     requires { e < length layer.now }
     ensures { result ≡ bad_at (terms_in c) e (get_or layer.now e 0) }
 {
     let stride = c.stride();
+    let w = e / stride;
+    let t = usize::from(layer[e]);
+    if t <= w {
+        return false;
+    }
     let m = date::free_amount(c.level, e % stride);
-    !date::admits_dynamic(m, e / stride, usize::from(layer[e]))
+    !date::admits_dynamic(m, w, t)
 }
 
 // The first bad entry of a layer, if any.
