@@ -80,7 +80,7 @@ module _ (x : Input) (behaviour : ℕ) (work table map : List ℕ) where
       unfolding count_after map_after filled map_size surrender_map surrender_count surrendered entries fixed_term process_of layout_of
       filled_whole l a e f =
           let yes_to = mapping_same p behaviour work table map (fits l) ∙ passed.accepts in
-          let room = (table_lent x behaviour work table passed.accepts passed.terms).room_table in
+          let room = (table_lent x behaviour work table passed.accepts passed.terms).lent.room_table in
           let w = reported_passed x behaviour (record { accepts = yes_to; terms = passed.terms; same = passed.same }) room a in
           whole w
           (e ∙ ap₂ (λ (z : Terms) (left : List ℕ). surrender_count (frame z) left) passed.terms w.table_is

@@ -11,9 +11,9 @@ ghost use Rattle.laws.specs.Terms.{frame};
 use contract::Contract;
 
 #[derive(Clone, Copy)]
-struct State {
-    account: usize,
-    guarantee: usize,
+pub struct State {
+    pub account: usize,
+    pub guarantee: usize,
 }
 
 const FIRST: State = State {
@@ -23,9 +23,9 @@ const FIRST: State = State {
 
 // The bits of a run of entries, and the state of the entry behind them.
 #[derive(Clone, Copy)]
-struct Run {
-    bits: u64,
-    next: State,
+pub struct Run {
+    pub bits: u64,
+    pub next: State,
 }
 
 // How many of the amounts are the whole account: in u16, so that more of them are added at once than as usize.

@@ -18,7 +18,8 @@ use Rattle.contract.specs.Refusal.{number_in, place_in}
 use Rattle.date.specs.declared.Behaviour as date
 use Rattle.input.specs.declared.Policy as input
 use Rattle.input.specs.Read.{agreed_by}
-use Rattle.input.specs.Accepted.{agreed, disagreed}
+use Rattle.input.specs.Given.{Given}
+use Rattle.input.specs.Accepted.{agreed, disagreed, given}
 use Rattle.expect.specs.Expected.{Values}
 use Rattle.laws.specs.Accepted.{Valid}
 use Rattle.valuing.specs.Answered.{Checked, checked_tells, Passed, WorkLent, TableLent}
@@ -26,7 +27,7 @@ use Rattle.rules.specs.Product.{entries}
 use Rattle.laws.specs.Terms.{table_size}
 use Rattle.rules.specs.Operations.{no_table_checks, valuing_checks}
 use Rattle.rules.specs.Policy.{policy_of}
-use Rattle.laws.specs.Valuing.{valuing_no_table, no_table_room}
+use Rattle.laws.specs.Valuing.{valuing_no_table, no_table_room, no_table_read}
 
 -- the first layer holds f, and what stands behind both layers is kept
 pub record First (f : ℕ → ℕ → ℕ) (c : Terms) (work work' : List ℕ) : Type 0 where
@@ -89,20 +90,38 @@ pub turned_away : {v : Verdict} (x : Input) (r : Refusal) → checked_tells (Err
     → v ≡ refused (number_in r) (place_in r)
 turned_away {v} x r e = disagreed v x.bytes x.list (sym e)
 
--- what a valuation that is accepted was given: with no table ..
+-- what a valuation that is accepted was given: a behaviour that there is, what was read, and with no table ..
+pub record WorkGiven (behaviour : ℕ) (c : Terms) (list rates work : List ℕ) : Type 0 where
+  pub known : behaviour ≤ 2
+  pub given : Given c list rates
+  pub lent : WorkLent c work
+
 pub work_lent : (x : Input) (behaviour : ℕ) (work : List ℕ) {c : Terms}
-    → verdict (no_table_checks (policy_of x) behaviour work) ≡ accepted → c ≡ terms_of x.bytes → WorkLent c work
+    → verdict (no_table_checks (policy_of x) behaviour work) ≡ accepted → c ≡ terms_of x.bytes
+    → WorkGiven behaviour c x.list x.rates work
 unfolding fixed_term layout_of
 work_lent x behaviour work accepts terms =
-    let room = no_table_room (policy_of x) behaviour work accepts in
-    record { room = rw terms (let l = room.layers in omega arith) }
+    let room = no_table_room (policy_of x) behaviour work accepts in record {
+      known = room.known;
+      given = given x (no_table_read (policy_of x) behaviour work accepts) terms;
+      lent = record { room = rw terms (let l = room.layers in omega arith) };
+    }
 
 -- .. and with one
+pub record TableGiven (behaviour : ℕ) (c : Terms) (list rates work table : List ℕ) : Type 0 where
+  pub first : WorkGiven behaviour c list rates work
+  pub lent : TableLent c work table
+
 pub table_lent : (x : Input) (behaviour : ℕ) (work table : List ℕ) {c : Terms}
-    → verdict (valuing_checks (policy_of x) behaviour work table) ≡ accepted → c ≡ terms_of x.bytes → TableLent c work table
+    → verdict (valuing_checks (policy_of x) behaviour work table) ≡ accepted → c ≡ terms_of x.bytes
+    → TableGiven behaviour c x.list x.rates work table
 unfolding entries table_size fixed_term process_of layout_of
 table_lent x behaviour work table accepts terms =
-    let both = valuing_no_table (policy_of x) behaviour work table accepts in record {
-      first = work_lent x behaviour work both.0 terms;
-      room_table = subst (λ (t : Terms). table_size t ≤ length table) (sym terms) both.1;
+    let both = valuing_no_table (policy_of x) behaviour work table accepts in
+    let first = work_lent x behaviour work both.0 terms in record {
+      first = first;
+      lent = record {
+        first = first.lent;
+        room_table = subst (λ (t : Terms). table_size t ≤ length table) (sym terms) both.1;
+      };
     }

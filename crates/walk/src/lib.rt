@@ -22,10 +22,10 @@ use input::Agreement;
 
 // The account and guarantee that are met, and what is paid on arrival there.
 #[derive(Clone, Copy)]
-struct Place {
-    account: usize,
-    guarantee: usize,
-    paid: usize,
+pub struct Place {
+    pub account: usize,
+    pub guarantee: usize,
+    pub paid: usize,
 }
 
 // A contract, its returns, a table and a path that can be walked: only the amounts are still to be looked at. Agreement's fields are

@@ -21,13 +21,13 @@ returns-then-map-map_size c =
 pub valued-valuation-requires : goal.valued-valuation-requires
 valued-valuation-requires c =
     let told = passed _ _ _ c.in_ok-policy.ensures.tells c.in_ok-policy.ensures.checked in
-    (table_lent _ _ _ _ told.accepts told.terms).first
+    (table_lent _ _ _ _ told.accepts told.terms).lent.first
 
 pub fill-count-requires : goal.fill-count-requires
 fill-count-requires c =
     let told = passed _ _ _ c.in_ok-policy.ensures.tells c.in_ok-policy.ensures.checked in
-    let given = table_lent _ _ _ _ told.accepts told.terms in record {
-      entries = omega (arith, given.room_table);
+    let lent = (table_lent _ _ _ _ told.accepts told.terms).lent in record {
+      entries = omega (arith, lent.room_table);
       words = omega (arith, c.map_size.ensures, c.if-map-map_size.false);
     }
 

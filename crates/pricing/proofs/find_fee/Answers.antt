@@ -14,17 +14,17 @@ returns-in_err-policy c =
 pub search-found-requires : goal.search-found-requires
 search-found-requires c =
     let told = passed _ _ _ c.in_ok-policy.ensures.tells c.in_ok-policy.ensures.checked in
-    work_lent _ _ _ told.accepts told.terms
+    (work_lent _ _ _ told.accepts told.terms).lent
 
 pub clear-requires : goal.clear-requires
 clear-requires c =
     let told = passed _ _ _ c.in_ok-policy.ensures.tells c.in_ok-policy.ensures.checked in
-    let room = (work_lent _ _ _ told.accepts told.terms).room in
+    let room = (work_lent _ _ _ told.accepts told.terms).lent.room in
     omega (arith, room, c.work_size.ensures.0, c.search-found.ensures.kept.long)
 
 pub returns : goal.returns
 returns c =
     let told = passed _ _ _ c.in_ok-policy.ensures.tells c.in_ok-policy.ensures.checked in
-    let room = (work_lent _ _ _ told.accepts told.terms).room in
+    let room = (work_lent _ _ _ told.accepts told.terms).lent.room in
     rw c.ok_or.ensures.value
     (told_cleared _ _ _ _ told room c.search-found.ensures c.work_size.ensures.0 c.clear.ensures)

@@ -15,9 +15,9 @@ returns-in_err-policy c =
 pub valued-requires : goal.valued-requires
 valued-requires c =
     let told = passed _ _ _ c.in_ok-policy.ensures.tells c.in_ok-policy.ensures.checked in
-    (table_lent _ _ _ _ told.accepts told.terms).first
+    (table_lent _ _ _ _ told.accepts told.terms).lent.first
 
 pub returns : goal.returns
 returns c =
     let told = passed _ _ _ c.in_ok-policy.ensures.tells c.in_ok-policy.ensures.checked in
-    valuing _ _ _ _ (reported_passed _ _ told (table_lent _ _ _ _ told.accepts told.terms).room_table c.valued.ensures)
+    valuing _ _ _ _ (reported_passed _ _ told (table_lent _ _ _ _ told.accepts told.terms).lent.room_table c.valued.ensures)

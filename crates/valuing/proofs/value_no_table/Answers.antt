@@ -14,7 +14,7 @@ returns-in_err-policy c =
 pub valued_no_table-requires : goal.valued_no_table-requires
 valued_no_table-requires c =
     let told = passed _ _ _ c.in_ok-policy.ensures.tells c.in_ok-policy.ensures.checked in
-    work_lent _ _ _ told.accepts told.terms
+    (work_lent _ _ _ told.accepts told.terms).lent
 
 pub returns : goal.returns
 returns c =
