@@ -92,17 +92,6 @@ impl Table<'_> {
         self.entries.get_mut(..held)
     }
 
-    // The first `entries`, as far as there is room.
-    fn hold(&mut self, entries: usize)
-        ensures { self.new.held.room ≡ length self.new.entries.now }
-    {
-        let room = self.entries.len();
-        self.held = Held {
-            entries: usize::min(entries, room),
-            room,
-        };
-    }
-
     // I:V, entry I of the last table set to V.
     fn damage(&mut self, word: &[u8]) -> Option<()> {
         let parts = parts::<3>(word, b':');
@@ -328,18 +317,22 @@ impl Desk<'_> {
         if let Some(told) = self.told(line) {
             return told;
         }
-        self.table.hold(0);
+        self.table.held = Held {
+            entries: 0,
+            room: 0,
+        };
         text.push_str("error\n");
         text
     }
 
-    // Answers a line. The last table is then no longer than its slice.
+    // Answers a line. The last table lies then within the slice that was lent.
     pub fn answer(&mut self, line: &[u8]) -> Text
-        ensures { self.new.table.held.room ≡ length self.new.table.entries.now }
+        ensures { self.new.table.held.room ≡ length self.old.table.entries.now }
     {
+        let room = self.table.entries.len();
         let text = self.answered(line);
-        let held = self.table.held.entries;
-        self.table.hold(held);
+        let entries = usize::min(self.table.held.entries, room);
+        self.table.held = Held { entries, room };
         text
     }
 }
