@@ -325,12 +325,14 @@ impl Desk<'_> {
         text
     }
 
-    // Answers a line. The last table lies then within the slice that was lent.
+    // Answers a line. The last table lies then within the slice that was lent, and within the one that is there.
     pub fn answer(&mut self, line: &[u8]) -> Text
-        ensures { self.new.table.held.room ≡ length self.old.table.entries.now }
+        ensures { (self.new.table.held.room ≤ length self.old.table.entries.now)
+            × (self.new.table.held.room ≤ length self.new.table.entries.now) }
     {
-        let room = self.table.entries.len();
+        let lent = self.table.entries.len();
         let text = self.answered(line);
+        let room = usize::min(lent, self.table.entries.len());
         let entries = usize::min(self.table.held.entries, room);
         self.table.held = Held { entries, room };
         text
